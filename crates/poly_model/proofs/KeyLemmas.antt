@@ -1,0 +1,164 @@
+-- Parts of ascending lists, and one label more or less.
+use Rattle.std.proofs.Common.{◌≡◌, ◌≢◌, ◌≤◌, ◌<◌, ◌+◌, ◌++◌, ◌∷◌, [], ℕ, zero, suc, Bool, true, false, cond, List, length, take, drop, get_or, arith, refl, sym, ap, subst, ◌∙◌, length-append, append_assoc, add-one, drop-cons, take-append-drop}
+use Rattle.std.proofs.lemmas.List.{take_more}
+use Rattle.std.specs.Prelude.{nat_lt, nat_le, ◌==◌, if◌then◌else◌}
+use Rattle.std.proofs.lemmas.Bool.{ltb-true, ltb-false, leb-true, leb-false, eqb-true, eqb-false}
+use Rattle.std.specs.List.{AllByRecursion}
+use Rattle.std.specs.List.Sorted.{IsStrictlyIncreasing}
+use Rattle.poly_model.specs.Keys.{IsAscending, IsKey, lower_of, with_label}
+
+-- a front of a list, element by element
+all_front : (P : ℕ → Type 0) (xs ys : List ℕ) → AllByRecursion P (xs ++ ys) → AllByRecursion P xs
+all_front P [] ys h = tt
+all_front P (x ∷ xs) ys h = (h.0, all_front P xs ys h.1)
+
+all_back : (P : ℕ → Type 0) (xs ys : List ℕ) → AllByRecursion P (xs ++ ys) → AllByRecursion P ys
+all_back P [] ys h = h
+all_back P (x ∷ xs) ys h = all_back P xs ys h.1
+
+all_joined : (P : ℕ → Type 0) (xs ys : List ℕ) → AllByRecursion P xs → AllByRecursion P ys → AllByRecursion P (xs ++ ys)
+all_joined P [] ys h k = k
+all_joined P (x ∷ xs) ys h k = (h.0, all_joined P xs ys h.1 k)
+
+pub ascending_front : (xs ys : List ℕ) → IsAscending (xs ++ ys) → IsAscending xs
+ascending_front [] ys h = tt
+ascending_front (x ∷ xs) ys h = (all_front (λ y. x < y) xs ys h.0, ascending_front xs ys h.1)
+
+-- a front of a key is a key
+pub key_front : (xs ys : List ℕ) → IsKey (xs ++ ys) → IsKey xs
+key_front xs ys h = record { room = omega (arith, h.room, length-append xs ys); ascending = ascending_front xs ys h.ascending }
+
+-- a key whose labels are taken one after the other is a key on the way
+pub key_on_the_way : (xs ys : List ℕ) (i : ℕ) → i < length ys → IsKey (xs ++ ys) → IsKey (xs ++ take i ys ++ get_or ys i 0 ∷ [])
+key_on_the_way xs ys i l h = key_front _ (drop (i + 1) ys) (subst IsKey split h)
+  where
+    split : xs ++ ys ≡ xs ++ take i ys ++ get_or ys i 0 ∷ [] ++ drop (i + 1) ys
+    split = ap (λ zs. xs ++ zs) (sym (take-append-drop (i + 1) ys) ∙ ap (λ zs. zs ++ drop (i + 1) ys) (take_more ys i 0 l) ∙ append_assoc (take i ys) _ _) ∙ sym (append_assoc xs (take i ys) _) ∙ sym (append_assoc (xs ++ take i ys) _ _)
+
+-- one number less
+all_without : (P : ℕ → Type 0) (i : ℕ) (xs : List ℕ) → AllByRecursion P xs → AllByRecursion P (take i xs ++ drop (suc i) xs)
+all_without P zero [] h = tt
+all_without P (suc i) [] h = tt
+all_without P zero (x ∷ xs) h = h.1
+all_without P (suc i) (x ∷ xs) h = (h.0, all_without P i xs h.1)
+
+ascending_without : (i : ℕ) (xs : List ℕ) → IsAscending xs → IsAscending (take i xs ++ drop (suc i) xs)
+ascending_without zero [] h = tt
+ascending_without (suc i) [] h = tt
+ascending_without zero (x ∷ xs) h = h.1
+ascending_without (suc i) (x ∷ xs) h = (all_without (λ y. x < y) i xs h.0, ascending_without i xs h.1)
+
+length_without : (i : ℕ) (xs : List ℕ) → length (take i xs ++ drop (suc i) xs) ≤ length xs
+length_without zero [] = omega arith
+length_without (suc i) [] = omega arith
+length_without zero (x ∷ xs) = omega arith
+length_without (suc i) (x ∷ xs) = omega (arith, length_without i xs)
+
+pub key_without : (i : ℕ) (xs : List ℕ) → IsKey xs → IsKey (take i xs ++ drop (i + 1) xs)
+key_without i xs h = rw (add-one) (record { room = omega (arith, h.room, length_without i xs); ascending = ascending_without i xs h.ascending })
+
+-- one number more
+above_all : (a b : ℕ) (xs : List ℕ) → a < b → AllByRecursion (λ y. b < y) xs → AllByRecursion (λ y. a < y) xs
+above_all a b [] l h = tt
+above_all a b (x ∷ xs) l h = let f : b < x = h.0 in (omega arith, above_all a b xs l h.1)
+
+all_with : (P : ℕ → Type 0) (label : ℕ) (xs : List ℕ) → P label → AllByRecursion P xs → AllByRecursion P (with_label label xs)
+all_with P label [] p h = (p, tt)
+all_with P label (x ∷ xs) p h = by (all_with P label xs p h.1) (nat_lt label x) (label == x)
+  where
+    by : AllByRecursion P (with_label label xs) → (t e : Bool) → AllByRecursion P (cond t (label ∷ x ∷ xs) (cond e (x ∷ xs) (x ∷ with_label label xs)))
+    by rest true e = (p, h)
+    by rest false true = h
+    by rest false false = (h.0, rest)
+
+length_with : (label : ℕ) (xs : List ℕ) → length (with_label label xs) ≤ length xs + 1
+length_with label [] = omega arith
+length_with label (x ∷ xs) = by (length_with label xs) (nat_lt label x) (label == x)
+  where
+    by : length (with_label label xs) ≤ length xs + 1 → (t e : Bool) → length (cond t (label ∷ x ∷ xs) (cond e (x ∷ xs) (x ∷ with_label label xs))) ≤ length (x ∷ xs) + 1
+    by rest true e = omega arith
+    by rest false true = omega arith
+    by rest false false = omega arith
+
+ascending_with : (label : ℕ) (xs : List ℕ) → IsAscending xs → IsAscending (with_label label xs)
+ascending_with label [] h = (tt, tt)
+ascending_with label (x ∷ xs) h = by (ascending_with label xs h.1) (nat_lt label x) (label == x) refl refl
+  where
+    by : IsAscending (with_label label xs) → (t e : Bool) → nat_lt label x ≡ t → (label == x) ≡ e → IsAscending (cond t (label ∷ x ∷ xs) (cond e (x ∷ xs) (x ∷ with_label label xs)))
+    by rest true e l m = let below : label < x = ltb-true label x l in ((below, above_all label x xs below h.0), h)
+    by rest false true l m = h
+    by rest false false l m =
+        let above : x < label = omega (arith, ltb-false label x l, eqb-false label x m) in
+        (all_with (λ y. x < y) label xs above h.0, rest)
+
+pub key_with : (label : ℕ) (xs : List ℕ) → IsKey xs → length xs < 256 → IsKey (with_label label xs)
+key_with label xs h room = record { room = omega (arith, length_with label xs); ascending = ascending_with label xs h.ascending }
+
+-- the place of a label that is there
+pub with_old : (label : ℕ) (xs : List ℕ) → lower_of label xs < length xs → get_or xs (lower_of label xs) 0 ≡ label → with_label label xs ≡ xs
+with_old label [] l e = absurd (omega arith)
+with_old label (x ∷ xs) l e = by (with_old label xs) (nat_le label x) (nat_lt label x) (label == x) refl refl refl l e
+  where
+    by : (lower_of label xs < length xs → get_or xs (lower_of label xs) 0 ≡ label → with_label label xs ≡ xs) →
+        (s t e : Bool) → nat_le label x ≡ s → nat_lt label x ≡ t → (label == x) ≡ e →
+        cond s zero (suc (lower_of label xs)) < length (x ∷ xs) → get_or (x ∷ xs) (cond s zero (suc (lower_of label xs))) 0 ≡ label →
+        cond t (label ∷ x ∷ xs) (cond e (x ∷ xs) (x ∷ with_label label xs)) ≡ x ∷ xs
+    by same true true e k l m r f = absurd (omega (arith, ltb-true label x l))
+    by same true false true k l m r f = refl
+    by same true false false k l m r f = absurd (eqb-false label x m (sym f))
+    by same false true e k l m r f = absurd (omega (arith, ltb-true label x l, leb-false label x k))
+    by same false false true k l m r f = refl
+    by same false false false k l m r f = ap (λ ys. x ∷ ys) (same (omega arith) f)
+
+-- the place of a label that is new
+pub with_new : (label : ℕ) (xs : List ℕ) → (lower_of label xs < length xs → get_or xs (lower_of label xs) 0 ≢ label) →
+    with_label label xs ≡ take (lower_of label xs) xs ++ label ∷ [] ++ drop (lower_of label xs) xs
+with_new label [] n = refl
+with_new label (x ∷ xs) n = by (with_new label xs) (nat_le label x) (nat_lt label x) (label == x) refl refl refl n
+  where
+    by : ((lower_of label xs < length xs → get_or xs (lower_of label xs) 0 ≢ label) → with_label label xs ≡ take (lower_of label xs) xs ++ label ∷ [] ++ drop (lower_of label xs) xs) →
+        (s t e : Bool) → nat_le label x ≡ s → nat_lt label x ≡ t → (label == x) ≡ e →
+        (cond s zero (suc (lower_of label xs)) < length (x ∷ xs) → get_or (x ∷ xs) (cond s zero (suc (lower_of label xs))) 0 ≢ label) →
+        cond t (label ∷ x ∷ xs) (cond e (x ∷ xs) (x ∷ with_label label xs)) ≡
+        take (cond s zero (suc (lower_of label xs))) (x ∷ xs) ++ label ∷ [] ++ drop (cond s zero (suc (lower_of label xs))) (x ∷ xs)
+    by same true true e k l m n = refl
+    by same true false true k l m n = absurd (n (omega arith) (sym (eqb-true label x m)))
+    by same true false false k l m n = absurd (omega (arith, ltb-false label x l, leb-true label x k, eqb-false label x m))
+    by same false true e k l m n = absurd (omega (arith, ltb-true label x l, leb-false label x k))
+    by same false false true k l m n = absurd (omega (arith, eqb-true label x m, leb-false label x k))
+    by same false false false k l m n = ap (λ ys. x ∷ ys) (same (λ r. n (omega arith)))
+
+-- the parts of a key with a new label
+pub key_with_below : (label : ℕ) (xs : List ℕ) → IsKey xs → length xs < 256 → (lower_of label xs < length xs → get_or xs (lower_of label xs) 0 ≢ label) →
+    IsKey (take (lower_of label xs) xs ++ label ∷ [])
+key_with_below label xs h l n = key_front _ (drop (lower_of label xs) xs) (subst IsKey (with_new label xs n) (key_with label xs h l))
+
+pub key_with_new : (label : ℕ) (xs : List ℕ) → IsKey xs → length xs < 256 → (lower_of label xs < length xs → get_or xs (lower_of label xs) 0 ≢ label) →
+    IsKey (take (lower_of label xs) xs ++ label ∷ [] ++ drop (lower_of label xs) xs)
+key_with_new label xs h l n = subst IsKey (with_new label xs n) (key_with label xs h l)
+
+-- a front of a key, by a number
+pub key_take : (i : ℕ) (xs : List ℕ) → IsKey xs → IsKey (take i xs)
+key_take i xs h = key_front (take i xs) (drop i xs) (subst IsKey (sym (take-append-drop i xs)) h)
+
+-- one number further
+pub lower_at : (label : ℕ) (i : ℕ) (xs : List ℕ) → i < length xs → lower_of label (drop i xs) ≡ (if nat_le label (get_or xs i 0) then zero else suc (lower_of label (drop (i + 1) xs)))
+lower_at label i xs l = rw (add-one, drop-cons xs i 0) refl
+
+-- neighbours that rise
+rises_tail : (x : ℕ) (xs : List ℕ) → IsStrictlyIncreasing (x ∷ xs) → IsStrictlyIncreasing xs
+rises_tail x xs h k l = rw (add-one) (rw (add-one) at (h (suc k) (omega arith)))
+
+above_first : (a : ℕ) (xs : List ℕ) → IsStrictlyIncreasing (a ∷ xs) → AllByRecursion (λ y. a < y) xs
+above_first a [] h = tt
+above_first a (x ∷ xs) h = let l : a < x = h 0 (omega arith) in (l, above_all a x xs l (above_first x xs (rises_tail a (x ∷ xs) h)))
+
+pub ascending_from_neighbours : (xs : List ℕ) → IsStrictlyIncreasing xs → IsAscending xs
+ascending_from_neighbours [] h = tt
+ascending_from_neighbours (x ∷ xs) h = (above_first x xs h, ascending_from_neighbours xs (rises_tail x xs h))
+
+pub neighbours_ascend : (xs : List ℕ) → IsAscending xs → IsStrictlyIncreasing xs
+neighbours_ascend [] h k l = absurd (omega arith)
+neighbours_ascend (x ∷ []) h k l = absurd (omega arith)
+neighbours_ascend (x ∷ y ∷ xs) h zero l = h.0.0
+neighbours_ascend (x ∷ y ∷ xs) h (suc k) l = rw (add-one) (rw (add-one) at (neighbours_ascend (y ∷ xs) h.1 k (omega arith)))

@@ -1,0 +1,8 @@
+use Rattle.poly_model.proofs.KeyLemmas.{key_on_the_way}
+use Rattle.poly_model.proofs.key.Key.followed_by.Goals as goal
+
+pub push-requires : goal.push-requires
+push-requires c =
+    let ls = c.args.labels.now in
+    let i = c.loop-label.label-index in
+    rw c.loop-label.invariant (key_on_the_way c.args.self ls i c.loop-label-test.true c.requires)

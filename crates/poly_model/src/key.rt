@@ -1,0 +1,178 @@
+//! Sets of labels that fit in place.
+ghost use Rattle.std.specs.Prelude.{◌≡◌, ◌≢◌, ◌≤◌, ◌<◌, ◌+◌, ◌++◌, ◌∷◌, [], length, IsTrue, IsFalse, ◌↔◌, remove, slice_index};
+ghost use Rattle.std.specs.Prelude.{take};
+ghost use Rattle.std.specs.Option.{SomeIff};
+ghost use Rattle.std.specs.List.Sorted.{IsStrictlyIncreasing};
+ghost use Rattle.poly_model.specs.Keys.{IsKey, lower_of, with_label};
+
+use std::marker::Model;
+
+const ROOM: usize = 256;
+
+/// At most 256 labels, strictly ascending, kept in place. Contracts see the list of their numbers.
+#[derive(Clone, Copy, PartialEq, Eq, Hash, Debug)]
+pub struct Key {
+    labels: [u16; ROOM],
+    len: u16,
+}
+
+impl Model for Key {
+    ghost use Rattle.std.specs.Prelude.{ℕ, List, take, ◌-◌, ◌++◌, length};
+    ghost use Rattle.std.proofs.Math.ListN.{replicate};
+    ghost use Rattle.std.proofs.Common.{ap₂};
+    ghost use Rattle.poly_model.specs.KeyRoom.{Fills, filled, taken};
+
+    ghost Value = { List ℕ };
+
+    ghost view = { λ k. take k.len k.labels };
+
+    ghost invariant = { λ k. Fills k.labels k.len };
+
+    ghost inverse = { λ ls. record { labels = ls ++ replicate (256 - length ls) 0; len = length ls } };
+
+    ghost inverse_ok = { λ a h. ap₂ (λ ls n. record { labels = ls; len = n }) (filled a.labels a.len h) (taken a.labels a.len h) };
+}
+
+impl Key {
+    /// The key without labels.
+    pub fn empty() -> Key
+        ensures { result ≡ [] }
+    {
+        Key {
+            labels: [0; ROOM],
+            len: 0,
+        }
+    }
+
+    /// The key of these labels: none exactly where they are more than 256 or do not ascend strictly.
+    pub fn from_ascending(labels: &[u16]) -> Option<Key>
+        ensures { SomeIff result (IsKey labels.now) labels.now }
+    {
+        if labels.len() <= ROOM && ascends(labels) {
+            Some(Key::of(labels))
+        } else {
+            None
+        }
+    }
+
+    /// How many labels it has.
+    pub fn len(&self) -> usize
+        ensures value { result ≡ length self.now }
+        ensures room { result ≤ 256 }
+    {
+        self.len as usize
+    }
+
+    /// Whether it has no label.
+    pub fn is_empty(&self) -> bool
+        ensures { IsTrue result ↔ (length self.now ≡ 0) }
+    {
+        self.len == 0
+    }
+
+    /// The numbers of its labels, ascending.
+    pub fn labels(&self) -> &[u16]
+        ensures value { result.now ≡ self.now }
+        ensures key { IsKey result.now }
+    {
+        &self.labels[..self.len as usize]
+    }
+
+    /// The same without the label at this place, counted from 0.
+    pub fn without_at(&self, at: usize) -> Key
+        requires { at < length self.now }
+        ensures value { result ≡ remove self.now at }
+        ensures room { length result + 1 ≡ length self.now }
+    {
+        let labels = self.labels();
+        Key::of(&labels[..at]).followed_by(&labels[at + 1..])
+    }
+
+    /// The same with this label too.
+    pub fn with(&self, label: u16) -> Key
+        requires { length self.now < 256 }
+        ensures value { result ≡ with_label label self.now }
+        ensures room { length result ≤ length self.now + 1 }
+    {
+        let labels = self.labels();
+        let at = lower(labels, label);
+        if stands_at(labels, at, label) {
+            return *self;
+        }
+        let (below, above) = labels.split_at(at);
+        Key::of(below).followed_by(&[label]).followed_by(above)
+    }
+
+    fn of(labels: &[u16]) -> Key
+        requires { IsKey labels.now }
+        ensures { result ≡ labels.now }
+    {
+        Key::empty().followed_by(labels)
+    }
+
+    // The labels of this key and then those.
+    fn followed_by(self, labels: &[u16]) -> Key
+        requires { IsKey (self ++ labels.now) }
+        ensures { result ≡ self ++ labels.now }
+    {
+        let mut longer = self;
+        for label in labels {
+            longer.push(*label);
+        }
+        longer
+    }
+
+    fn push(&mut self, label: u16)
+        requires { IsKey (self.old ++ label ∷ []) }
+        ensures { self.new ≡ self.old ++ label ∷ [] }
+    {
+        self.labels[self.len as usize] = label;
+        self.len += 1;
+    }
+}
+
+// Whether the labels ascend strictly.
+fn ascends(labels: &[u16]) -> bool
+    ensures { IsTrue result ↔ IsStrictlyIncreasing labels.now }
+{
+    labels.windows(2).all(|pair| pair[0] < pair[1])
+}
+
+// How many labels, from the first on, are below this one.
+fn lower(labels: &[u16], label: u16) -> usize
+    ensures value { result ≡ lower_of label labels.now }
+    ensures within { result ≤ length labels.now }
+{
+    for (i, l) in labels.iter().enumerate() {
+        if label <= *l {
+            return i;
+        }
+    }
+    labels.len()
+}
+
+fn stands_at(labels: &[u16], at: usize, label: u16) -> bool
+    ensures yes { IsTrue result → (at < length labels.now) × (slice_index labels.now at ≡ label) }
+    ensures no { IsFalse result → at < length labels.now → slice_index labels.now at ≢ label }
+{
+    at < labels.len() && labels[at] == label
+}
+
+#[cfg(test)]
+mod tests {
+    use super::*;
+    use std::test::Fail;
+
+    #[test]
+    fn keys_gain_and_lose_labels(rt: HostRuntime) -> Result<(), Fail> {
+        let key = Key::from_ascending(&[2, 5, 9]).ok_or("ascending")?;
+        assert_eq!(rt; key.len(), 3);
+        assert_eq!(rt; key.with(7).labels(), [2, 5, 7, 9].as_slice());
+        assert_eq!(rt; key.with(5), key);
+        assert_eq!(rt; key.without_at(1).labels(), [2, 9].as_slice());
+        assert_eq!(rt; key.without_at(0).without_at(0).without_at(0), Key::empty());
+        assert!(rt; Key::empty().is_empty());
+        assert_eq!(rt; Key::from_ascending(&[2, 2]), None);
+        Ok(())
+    }
+}

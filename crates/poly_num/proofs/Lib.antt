@@ -1,0 +1,9 @@
+pub mod Ring
+pub mod Order
+pub mod VectorLemmas
+pub mod DivisorLemmas
+pub mod PrimitiveLemmas
+pub mod FractionLemmas
+pub mod SizeLemmas
+pub mod CompareLemmas
+pub mod KnownValues

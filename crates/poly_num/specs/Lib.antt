@@ -1,0 +1,5 @@
+pub mod Numbers
+pub mod Vectors
+pub mod Divisors
+pub mod Fractions
+pub mod Signs

@@ -1,0 +1,25 @@
+//! Exact whole numbers of 127 bits and a sign, the vectors of them, and fractions in lowest terms.
+//!
+//! A call whose answer could pass 127 bits returns an `Option`, and says exactly when it is `None`.
+//! Nothing here takes memory.
+#![tactic(auto)]
+
+mod compare;
+mod divisors;
+mod frac;
+mod number;
+mod products;
+mod signs;
+mod sums;
+#[cfg(test)]
+mod tests;
+mod vectors;
+
+pub use compare::cmp_cross;
+pub use divisors::{gcd, quotient};
+pub use frac::Frac;
+pub use number::Num;
+pub use products::{cross, mul};
+pub use signs::{dot_sign, lex_sign, sign};
+pub use sums::{add, neg, sub};
+pub use vectors::{negate, primitive};
