@@ -1,1 +1,3 @@
 pub mod KeyLemmas
+mod LabelKnownValues
+mod ListingKnownValues

@@ -1,3 +1,4 @@
 pub mod Keys
 pub mod KeyRoom
 pub mod LabelText
+pub mod ListingText

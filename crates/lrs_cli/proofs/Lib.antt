@@ -1,0 +1,13 @@
+pub mod Answered
+pub mod CappedValues
+pub mod CutRows
+pub mod FirstLine
+pub mod FirstWord
+pub mod KnownValues
+pub mod PlainLemmas
+pub mod PlainRows
+pub mod PlainSizes
+pub mod PlainSteps
+pub mod Positions
+pub mod StatusLemmas
+pub mod UnitRows

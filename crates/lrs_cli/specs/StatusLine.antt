@@ -1,0 +1,32 @@
+-- The line and the number of each answer of the program.
+use Rattle.std.specs.Prelude.{ℕ, List, ◌++◌, codes, decimal}
+use Rattle.poly_model.specs.declared.overflow.Overflow.{Overflow}
+use Rattle.poly_model.specs.LabelText.{key_text, place_text, phase_text}
+use Rattle.lrs_cli.specs.declared.status.Status.{Status}
+use Rattle.lrs_cli.specs.declared.status.Status.TheVariants.{Done, Usage, Overflow as Overflowed, ReadFault, WriteFault, OutOfMemory, Unsupported}
+
+-- the four places
+abbrev pub places_text : Overflow → List ℕ
+places_text o = place_text o.a ++ (codes " " ++ (place_text o.b ++ (codes " " ++ (place_text o.c ++ (codes " " ++ place_text o.d)))))
+
+-- the phase, the key, and the places of the two products
+abbrev pub overflow_text : Overflow → List ℕ
+overflow_text o = phase_text o.phase ++ (codes " " ++ (key_text o.key ++ (codes " " ++ places_text o)))
+
+unfoldable pub line_of : Status → List ℕ
+line_of (Done rows lines) = codes "lrs: done " ++ (decimal rows ++ (codes " rows " ++ (decimal lines ++ codes " lines\n")))
+line_of Usage = codes "lrs: usage: lrs convert / run LEDGER / resume LEDGER / status LEDGER / job / demo KIND N\n"
+line_of (Overflowed o) = codes "lrs: overflow " ++ (overflow_text o ++ codes "\n")
+line_of ReadFault = codes "lrs: read fault\n"
+line_of WriteFault = codes "lrs: write fault\n"
+line_of OutOfMemory = codes "lrs: out of memory\n"
+line_of Unsupported = codes "lrs: unsupported\n"
+
+abbrev pub number_of : Status → ℕ
+number_of (Done rows lines) = 0
+number_of Usage = 2
+number_of (Overflowed o) = 5
+number_of ReadFault = 6
+number_of WriteFault = 7
+number_of OutOfMemory = 15
+number_of Unsupported = 16

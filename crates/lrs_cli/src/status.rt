@@ -1,0 +1,178 @@
+//! How a call of the program ends: its number and its line.
+ghost use Rattle.std.specs.Prelude.{◌≡◌, ◌∷◌, ◌++◌, codes, decimal};
+ghost use Rattle.poly_io.specs.Causes.{HasCause};
+ghost use Rattle.poly_io.specs.Written.{WritesText};
+ghost use Rattle.poly_model.specs.LabelText.{label_text, labels_text, key_text, place_text, phase_text};
+ghost use Rattle.lrs_cli.specs.StatusLine.{line_of, number_of, overflow_text, places_text};
+
+use poly_io::{Sink, WriteFault, write_all, write_count};
+use poly_model::{Key, Overflow, Phase, Place};
+
+/// How a call of the program ended.
+#[derive(Clone, Copy, PartialEq, Eq, Debug)]
+pub enum Status {
+    /// The listing was written whole: so many shown rows, and so many lines or equations before them.
+    Done { rows: u64, lines: u32 },
+    /// The words are no command of this program.
+    Usage,
+    /// A product that the listing needs does not fit 127 bits and a sign.
+    Overflow(Overflow),
+    /// The input could not be read.
+    ReadFault,
+    /// The output could not be written.
+    WriteFault,
+    /// This process has no memory left.
+    OutOfMemory,
+    /// The input is not a file of the form that this program reads so far.
+    Unsupported,
+}
+
+impl Status {
+    /// The exit status of the process.
+    pub fn number(&self) -> u8
+        ensures { result ≡ number_of self.now }
+    {
+        match self {
+            Status::Done { .. } => 0,
+            Status::Usage => 2,
+            Status::Overflow(_) => 5,
+            Status::ReadFault => 6,
+            Status::WriteFault => 7,
+            Status::OutOfMemory => 15,
+            Status::Unsupported => 16,
+        }
+    }
+}
+
+/// Writes the line of a status, with its line feed.
+#[tactic(auto, unfolding(crate::specs::StatusLine::line_of))]
+pub fn status_line<S: Sink>(status: &Status, out: &mut S) -> Result<(), WriteFault>
+    ensures text { WritesText (S.written out.old) (S.written out.new) result (line_of status.now) }
+    ensures cause { HasCause (S.faults out.old) (S.faults out.new) result }
+{
+    match status {
+        Status::Done { rows, lines } => done_line(*rows, *lines, out),
+        Status::Usage => write_all(
+            out,
+            b"lrs: usage: lrs convert / run LEDGER / resume LEDGER / status LEDGER / job / demo KIND N\n",
+        ),
+        Status::Overflow(overflow) => overflow_line(overflow, out),
+        Status::ReadFault => write_all(out, b"lrs: read fault\n"),
+        Status::WriteFault => write_all(out, b"lrs: write fault\n"),
+        Status::OutOfMemory => write_all(out, b"lrs: out of memory\n"),
+        Status::Unsupported => write_all(out, b"lrs: unsupported\n"),
+    }
+}
+
+fn done_line<S: Sink>(rows: u64, lines: u32, out: &mut S) -> Result<(), WriteFault>
+    ensures text { WritesText (S.written out.old) (S.written out.new) result (line_of (Status.Done rows lines)) }
+    ensures cause { HasCause (S.faults out.old) (S.faults out.new) result }
+{
+    write_all(out, b"lrs: done ")?;
+    write_count(rows, out)?;
+    write_all(out, b" rows ")?;
+    write_count(lines as u64, out)?;
+    write_all(out, b" lines\n")
+}
+
+fn overflow_line<S: Sink>(overflow: &Overflow, out: &mut S) -> Result<(), WriteFault>
+    ensures text { WritesText (S.written out.old) (S.written out.new) result (line_of (Status.Overflow overflow.now)) }
+    ensures cause { HasCause (S.faults out.old) (S.faults out.new) result }
+{
+    write_all(out, b"lrs: overflow ")?;
+    write_overflow(overflow, out)?;
+    write_all(out, b"\n")
+}
+
+fn write_overflow<S: Sink>(overflow: &Overflow, out: &mut S) -> Result<(), WriteFault>
+    ensures text { WritesText (S.written out.old) (S.written out.new) result (overflow_text overflow.now) }
+    ensures cause { HasCause (S.faults out.old) (S.faults out.new) result }
+{
+    write_phase(overflow.phase, out)?;
+    write_all(out, b" ")?;
+    write_key(&overflow.key, out)?;
+    write_all(out, b" ")?;
+    write_places(overflow, out)
+}
+
+fn write_phase<S: Sink>(phase: Phase, out: &mut S) -> Result<(), WriteFault>
+    ensures text { WritesText (S.written out.old) (S.written out.new) result (phase_text phase) }
+    ensures cause { HasCause (S.faults out.old) (S.faults out.new) result }
+{
+    match phase {
+        Phase::Cone => write_all(out, b"cone"),
+        Phase::Prepare => write_all(out, b"prepare"),
+        Phase::Main => write_all(out, b"main"),
+        Phase::First => write_all(out, b"first"),
+    }
+}
+
+fn write_key<S: Sink>(key: &Key, out: &mut S) -> Result<(), WriteFault>
+    ensures text { WritesText (S.written out.old) (S.written out.new) result (key_text key.now) }
+    ensures cause { HasCause (S.faults out.old) (S.faults out.new) result }
+{
+    let labels = key.labels();
+    write_count(labels.len() as u64, out)?;
+    write_labels(labels, out)
+}
+
+// The labels, each after a blank.
+fn write_labels<S: Sink>(labels: &[u16], out: &mut S) -> Result<(), WriteFault>
+    ensures text { WritesText (S.written out.old) (S.written out.new) result (labels_text labels.now) }
+    ensures cause { HasCause (S.faults out.old) (S.faults out.new) result }
+{
+    for label in labels {
+        write_next_label(*label, out)?;
+    }
+    Ok(())
+}
+
+fn write_next_label<S: Sink>(label: u16, out: &mut S) -> Result<(), WriteFault>
+    ensures text { WritesText (S.written out.old) (S.written out.new) result (codes " " ++ label_text label) }
+    ensures cause { HasCause (S.faults out.old) (S.faults out.new) result }
+{
+    write_all(out, b" ")?;
+    write_label(label, out)
+}
+
+fn write_places<S: Sink>(overflow: &Overflow, out: &mut S) -> Result<(), WriteFault>
+    ensures text { WritesText (S.written out.old) (S.written out.new) result (places_text overflow.now) }
+    ensures cause { HasCause (S.faults out.old) (S.faults out.new) result }
+{
+    write_place(overflow.a, out)?;
+    write_all(out, b" ")?;
+    write_place(overflow.b, out)?;
+    write_all(out, b" ")?;
+    write_place(overflow.c, out)?;
+    write_all(out, b" ")?;
+    write_place(overflow.d, out)
+}
+
+fn write_place<S: Sink>(place: Place, out: &mut S) -> Result<(), WriteFault>
+    ensures text { WritesText (S.written out.old) (S.written out.new) result (place_text place) }
+    ensures cause { HasCause (S.faults out.old) (S.faults out.new) result }
+{
+    write_label(place.row.0, out)?;
+    write_all(out, b",")?;
+    write_label(place.col.0, out)
+}
+
+fn write_label<S: Sink>(label: u16, out: &mut S) -> Result<(), WriteFault>
+    ensures text { WritesText (S.written out.old) (S.written out.new) result (label_text label) }
+    ensures cause { HasCause (S.faults out.old) (S.faults out.new) result }
+{
+    match label {
+        0 => write_all(out, b"t"),
+        1..8192 => write_count(u64::from(label), out),
+        65535 => write_all(out, b"c"),
+        _ => write_coordinate(label - 8192, out),
+    }
+}
+
+fn write_coordinate<S: Sink>(j: u16, out: &mut S) -> Result<(), WriteFault>
+    ensures text { WritesText (S.written out.old) (S.written out.new) result (codes "x" ++ decimal j) }
+    ensures cause { HasCause (S.faults out.old) (S.faults out.new) result }
+{
+    write_all(out, b"x")?;
+    write_count(u64::from(j), out)
+}

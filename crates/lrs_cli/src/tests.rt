@@ -1,0 +1,172 @@
+//! The program on worked files, whose listings were computed elsewhere.
+use crate::status::{Status, status_line};
+use crate::top::lrs;
+use poly_io::{Call, MemSink, MemSource};
+use poly_model::{Key, Label, Overflow, Phase, Place};
+use std::alloc::{AllocError, Global};
+use std::test::Fail;
+
+const SQUARE: &str = "H-representation\nbegin\n4 3 integer\n0 1 0\n0 0 1\n1 -1 0\n1 0 -1\nend\n";
+
+const SQUARE_LISTING: &str =
+    "V-representation\nbegin\n***** 3 rational\n 1 0 0\n 1 1 0\n 1 0 1\n 1 1 1\nend\n";
+
+/// The lines of a text in a fixed order, since the rows of a listing stand in any.
+fn sorted_lines<'a>(alloc: Global, text: &'a [u8]) -> Result<Vec<&'a [u8]>, AllocError> {
+    let mut lines = text.split(|b| *b == b'\n').collect::<Vec<&[u8]>>(alloc)?;
+    lines.sort()?;
+    Ok(lines)
+}
+
+#[test]
+fn converts_plain_files(rt: HostRuntime) -> Result<(), Fail> {
+    let alloc = rt.alloc();
+    let rows = [
+        (SQUARE, SQUARE_LISTING, 4),
+        // A row twice, and a row of zeros.
+        (
+            "H-representation\nbegin\n6 3 integer\n0 1 0\n0 1 0\n0 0 1\n1 -1 0\n1 0 -1\n0 0 0\nend\n",
+            SQUARE_LISTING,
+            4,
+        ),
+        // A vertex and two rays.
+        (
+            "H-representation\nbegin\n2 3 integer\n0 1 0\n0 0 1\nend\n",
+            "V-representation\nbegin\n***** 3 rational\n 1 0 0\n 0 1 0\n 0 0 1\nend\n",
+            3,
+        ),
+        // The point of the space without coordinates.
+        (
+            "H-representation\nbegin\n1 1 integer\n5\nend\n",
+            "V-representation\nbegin\n***** 1 rational\n 1\nend\n",
+            1,
+        ),
+        (
+            "H-representation\nbegin\n3 3 integer\n0 1 0\n0 0 1\n4 -2 -6\nend\n",
+            "V-representation\nbegin\n***** 3 rational\n 1 0 0\n 1 2 0\n 1 0 2/3\nend\n",
+            3,
+        ),
+    ];
+    for (file, listing, count) in rows {
+        let mut input = MemSource::new(file.as_bytes(), &[]);
+        let mut out = MemSink::new(alloc, &[]);
+        let status = lrs(alloc, ["convert"].as_slice(), &mut input, &mut out);
+        assert_eq!(rt;
+            status,
+            Status::Done {
+                rows: count,
+                lines: 0
+            },
+            "{file}"
+        );
+        let got = sorted_lines(alloc, out.written())?;
+        let want = sorted_lines(alloc, listing.as_bytes())?;
+        assert_eq!(rt; got, want, "{file}");
+    }
+    Ok(())
+}
+
+#[test]
+fn refuses_what_it_cannot_list(rt: HostRuntime) {
+    let alloc = rt.alloc();
+    for file in [
+        // The half plane.
+        "H-representation\nbegin\n1 3 integer\n0 1 0\nend\n",
+        // No point.
+        "H-representation\nbegin\n2 2 integer\n-1 1\n0 -1\nend\n",
+        // A pyramid over a square.
+        "H-representation\nbegin\n5 4 integer\n0 0 0 1\n1 -1 0 -1\n1 1 0 -1\n1 0 -1 -1\n1 0 1 -1\nend\n",
+        "",
+    ] {
+        let mut input = MemSource::new(file.as_bytes(), &[]);
+        let mut out = MemSink::new(alloc, &[]);
+        let status = lrs(alloc, ["convert"].as_slice(), &mut input, &mut out);
+        assert_eq!(rt; status, Status::Unsupported, "{file}");
+        assert_eq!(rt; out.written(), b"".as_slice());
+    }
+    // One extreme point has the denominator 3 * 2^199 - 1.
+    let file = "H-representation\nbegin\n4 3 integer\n\
+                1 -1267650600228229401496703205376 -1\n\
+                1 -1 -1901475900342344102245054808064\n0 1 0\n0 0 1\nend\n";
+    let mut input = MemSource::new(file.as_bytes(), &[]);
+    let mut out = MemSink::new(alloc, &[]);
+    let status = lrs(alloc, ["convert"].as_slice(), &mut input, &mut out);
+    assert!(rt;
+        matches!(
+            status,
+            Status::Overflow(Overflow {
+                phase: Phase::Cone,
+                ..
+            })
+        )
+    );
+}
+
+#[test]
+fn answers_faults_and_other_words(rt: HostRuntime) {
+    let alloc = rt.alloc();
+    // A sink that takes 20 bytes, one at a time, and then fails.
+    let mut calls = [Call::AtMost(1); 21];
+    calls[20] = Call::Fail;
+    let mut input = MemSource::new(SQUARE.as_bytes(), &[]);
+    let mut out = MemSink::new(alloc, calls.as_slice());
+    let status = lrs(alloc, ["convert"].as_slice(), &mut input, &mut out);
+    assert_eq!(rt; status, Status::WriteFault);
+    assert_eq!(rt; out.written(), b"V-representation\nbeg".as_slice());
+
+    let reads = [Call::AtMost(40), Call::Fail];
+    let mut input = MemSource::new(SQUARE.as_bytes(), reads.as_slice());
+    let mut out = MemSink::new(alloc, &[]);
+    let status = lrs(alloc, ["convert"].as_slice(), &mut input, &mut out);
+    assert_eq!(rt; status, Status::ReadFault);
+    assert_eq!(rt; out.written(), b"".as_slice());
+
+    for words in [
+        ["fly"].as_slice(),
+        &[],
+        &["convert", "convert"],
+        &["--help"],
+        &["run"],
+    ] {
+        let mut input = MemSource::new(SQUARE.as_bytes(), &[]);
+        let mut out = MemSink::new(alloc, &[]);
+        assert_eq!(rt; lrs(alloc, words, &mut input, &mut out), Status::Usage);
+    }
+}
+
+#[test]
+fn prints_status_lines(rt: HostRuntime) -> Result<(), Fail> {
+    let place = |row, col| Place {
+        row: Label(row),
+        col: Label(col),
+    };
+    let overflow = Overflow {
+        phase: Phase::Cone,
+        key: Key::from_ascending(&[3, 8193, 8195]).ok_or("ascending")?,
+        a: place(2, 8193),
+        b: place(0, 65535),
+        c: place(8194, 8193),
+        d: place(2, 3),
+    };
+    let rows = [
+        (
+            Status::Done { rows: 4, lines: 0 },
+            "lrs: done 4 rows 0 lines\n",
+        ),
+        (
+            Status::Usage,
+            "lrs: usage: lrs convert / run LEDGER / resume LEDGER / status LEDGER / job / demo KIND N\n",
+        ),
+        (
+            Status::Overflow(overflow),
+            "lrs: overflow cone 3 3 x1 x3 2,x1 t,c x2,x1 2,3\n",
+        ),
+        (Status::Unsupported, "lrs: unsupported\n"),
+    ];
+    for (status, line) in rows {
+        let mut out = MemSink::new(rt.alloc(), &[]);
+        assert_eq!(rt; status_line(&status, &mut out), Ok(()));
+        assert_eq!(rt; out.written(), line.as_bytes());
+    }
+    Ok(())
+}

@@ -1,0 +1,31 @@
+//! All that the program does, over any source and sink.
+ghost use Rattle.std.specs.Prelude.{◌≡◌, ℕ, map};
+ghost use Rattle.std.specs.Io.KnownBytes.{IsAtEnd};
+ghost use Rattle.poly_io.specs.Causes.{Rose};
+ghost use Rattle.poly_io.specs.Taken.{TakesAtMost};
+ghost use Rattle.lrs_cli.specs.Answers.{IsLine, Told, IsPlain, IsNotPlain, Lists, WritesNothing};
+
+use crate::convert::convert;
+use crate::status::Status;
+use poly_io::{Sink, Source};
+use std::alloc::Global;
+
+/// Does what the words ask; they are those after the program's name.
+pub fn lrs<I: Source, O: Sink>(alloc: Global, words: &[&str], input: &mut I, out: &mut O) -> Status
+    ensures usage { result ≡ Status.Usage → ¬ (IsLine (map (λ w. w.now) words.now)) }
+    ensures line { ¬ (result ≡ Status.Usage) → IsLine (map (λ w. w.now) words.now) }
+    ensures unread { result ≡ Status.Usage → input.new ≡ input.old }
+    ensures unwritten { WritesNothing result → out.new ≡ out.old }
+    ensures done { (rows lines : ℕ) → result ≡ Status.Done rows lines → IsAtEnd (I.left input.new) }
+    ensures plain { Lists result → Told (I.left input.old) IsPlain }
+    ensures unsupported { result ≡ Status.Unsupported → Told (I.left input.old) IsNotPlain }
+    ensures read { result ≡ Status.ReadFault → Rose (I.faults input.old) (I.faults input.new) }
+    ensures write { result ≡ Status.WriteFault → Rose (O.faults out.old) (O.faults out.new) }
+    // Whatever the answer is, at most one byte more than a file may have was taken.
+    ensures taken { TakesAtMost (I.left input.old) (I.left input.new) 67108865 }
+{
+    match words {
+        ["convert"] => convert(alloc, input, out),
+        _ => Status::Usage,
+    }
+}

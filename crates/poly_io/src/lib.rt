@@ -1,0 +1,25 @@
+//! Bytes in and out, over sources and sinks that count their faults.
+#![tactic(auto)]
+
+mod bytes;
+mod calls;
+mod fault;
+mod memory;
+mod number;
+mod sink;
+mod source;
+mod standard;
+mod whole;
+
+pub use bytes::Bytes;
+pub use calls::Call;
+pub use fault::{Failed, WriteFault};
+pub use memory::{MemSink, MemSource};
+pub use number::{write_count, write_num};
+pub use sink::{Sink, write_all};
+pub use source::Source;
+pub use standard::{StdinSource, StdoutSink};
+pub use whole::{WholeStop, read_whole};
+
+#[cfg(test)]
+mod tests;

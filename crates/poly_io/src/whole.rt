@@ -1,0 +1,57 @@
+//! A source read to its end, under a limit.
+ghost use Rattle.std.specs.Prelude.{◌≤◌, ◌+◌, length, IfOk, OnOk, IsErrOf};
+ghost use Rattle.std.specs.Io.KnownBytes.{Consumes, IsAtEnd};
+ghost use Rattle.poly_io.specs.Causes.{Rose};
+ghost use Rattle.poly_io.specs.Taken.{Takes, TakesAtMost};
+
+use crate::{Bytes, Source};
+use std::alloc::Global;
+
+/// Why a source was not read as a whole.
+#[derive(Clone, Copy, Debug, PartialEq, Eq)]
+pub enum WholeStop {
+    /// The source failed.
+    Fault,
+    /// The source has more bytes than the limit.
+    TooLong,
+    /// The memory was refused.
+    Memory,
+}
+
+/// Reads a source to its end, or to one byte past the limit. The memory grows with what is read:
+/// none is taken for a byte past the limit. After an error the bytes that were read are lost.
+pub fn read_whole<S: Source>(
+    alloc: Global,
+    source: &mut S,
+    limit: usize,
+) -> Result<Bytes, WholeStop>
+    ensures bytes { IfOk result (λ b. Consumes (S.left source.old) (S.left source.new) b) }
+    ensures end { OnOk result (IsAtEnd (S.left source.new)) }
+    ensures within { IfOk result (λ b. length b ≤ limit) }
+    ensures long { IsErrOf result WholeStop.TooLong
+        → Takes (S.left source.old) (S.left source.new) (limit + 1) }
+    ensures fault { IsErrOf result WholeStop.Fault
+        → Rose (S.faults source.old) (S.faults source.new) }
+    // Whatever the answer is.
+    ensures taken { TakesAtMost (S.left source.old) (S.left source.new) (limit + 1) }
+    ensures later { S.faults source.old ≤ S.faults source.new }
+{
+    let mut all = Vec::new(alloc);
+    let mut buf = [0u8; 16384];
+    loop {
+        let room = limit - all.len();
+        let ask = room.saturating_add(1).min(buf.len());
+        let Ok(count) = source.read(&mut buf[..ask]) else {
+            return Err(WholeStop::Fault);
+        };
+        if count == 0 {
+            return Ok(Bytes::from_vec(all));
+        }
+        if count > room {
+            return Err(WholeStop::TooLong);
+        }
+        if all.extend_from_slice(&buf[..count]).is_err() {
+            return Err(WholeStop::Memory);
+        }
+    }
+}

@@ -1,0 +1,34 @@
+//! A row of whole entries.
+ghost use Rattle.poly_io.specs.Causes.{HasCause};
+ghost use Rattle.poly_io.specs.Written.{WritesText};
+ghost use Rattle.poly_model.specs.ListingText.{entry_text, entries_text, vector_text};
+
+use poly_io::{Sink, WriteFault, write_all, write_num};
+use poly_num::Num;
+
+pub(crate) fn write_vector<S: Sink>(v: &[Num], out: &mut S) -> Result<(), WriteFault>
+    ensures text { WritesText (S.written out.old) (S.written out.new) result (vector_text v.now) }
+    ensures cause { HasCause (S.faults out.old) (S.faults out.new) result }
+{
+    write_entries(v, out)?;
+    write_all(out, b"\n")
+}
+
+fn write_entries<S: Sink>(v: &[Num], out: &mut S) -> Result<(), WriteFault>
+    ensures text { WritesText (S.written out.old) (S.written out.new) result (entries_text v.now) }
+    ensures cause { HasCause (S.faults out.old) (S.faults out.new) result }
+{
+    for y in v {
+        write_entry(*y, out)?;
+    }
+    Ok(())
+}
+
+/// A number after one blank.
+pub(crate) fn write_entry<S: Sink>(y: Num, out: &mut S) -> Result<(), WriteFault>
+    ensures text { WritesText (S.written out.old) (S.written out.new) result (entry_text y) }
+    ensures cause { HasCause (S.faults out.old) (S.faults out.new) result }
+{
+    write_all(out, b" ")?;
+    write_num(y, out)
+}
