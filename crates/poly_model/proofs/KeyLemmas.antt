@@ -1,7 +1,13 @@
 -- Parts of ascending lists, and one label more or less.
-use Rattle.std.proofs.Common.{◌≡◌, ◌≢◌, ◌≤◌, ◌<◌, ◌+◌, ◌++◌, ◌∷◌, [], ℕ, zero, suc, Bool, true, false, cond, List, length, take, drop, get_or, arith, refl, sym, ap, subst, ◌∙◌, length-append, append_assoc, add-one, drop-cons, take-append-drop}
+use Rattle.std.proofs.Common.{◌≡◌, ◌≢◌, ◌≤◌, ◌<◌, ◌+◌, ◌++◌, ◌-◌, ◌∷◌, [], ℕ, zero, suc, Bool, true, false, cond, List, length, take, drop, get_or, arith, refl, sym, ap, subst, ◌∙◌, length-append, append_assoc, add-one, drop-cons, take-append-drop}
 use Rattle.std.proofs.lemmas.List.{take_more}
-use Rattle.std.specs.Prelude.{nat_lt, nat_le, ◌==◌, if◌then◌else◌}
+use Rattle.std.proofs.Math.ListN.{replicate}
+use Rattle.std.proofs.Math.Seq.{take-append_seam}
+use Rattle.std.proofs.Math.Dec.{eqb}
+use lib.Pointwise.{pointwise}
+use Rattle.std.proofs.lemmas.Slice.Eq.{slice_eq-Decides}
+use Rattle.std.proofs.lemmas.Bool.Decides.{Decides-eqb, Decides-and}
+use Rattle.std.specs.Prelude.{nat_lt, nat_le, ◌==◌, ◌&&◌, if◌then◌else◌}
 use Rattle.std.proofs.lemmas.Bool.{ltb-true, ltb-false, leb-true, leb-false, eqb-true, eqb-false}
 use Rattle.std.specs.List.{AllByRecursion}
 use Rattle.std.specs.List.Sorted.{IsStrictlyIncreasing}
@@ -162,3 +168,22 @@ neighbours_ascend [] h k l = absurd (omega arith)
 neighbours_ascend (x ∷ []) h k l = absurd (omega arith)
 neighbours_ascend (x ∷ y ∷ xs) h zero l = h.0.0
 neighbours_ascend (x ∷ y ∷ xs) h (suc k) l = rw (add-one) (rw (add-one) at (neighbours_ascend (y ∷ xs) h.1 k (omega arith)))
+
+-- ---- equality
+
+-- a key with the rest of its room
+abbrev pub padded : List ℕ → List ℕ
+padded ls = ls ++ replicate (256 - length ls) 0
+
+unpadded : (a b : List ℕ) → length a ≡ length b → padded a ≡ padded b → a ≡ b
+unpadded a b l e =
+    sym (take-append_seam a (replicate (256 - length a) 0)) ∙ ap (take (length a)) e ∙ ap (λ n. take n (padded b)) l ∙ take-append_seam b (replicate (256 - length b) 0)
+
+-- keys whose rooms and lengths are equal are equal
+pub same_labels : (a b : List ℕ) (r : Bool) → r ≡ (pointwise eqb (padded a) (padded b) && eqb (length a) (length b)) → (r ≡ true → a ≡ b) × (a ≡ b → r ≡ true)
+same_labels a b r e =
+    let rooms = slice_eq-Decides Decides-eqb (padded a) (padded b) (pointwise eqb (padded a) (padded b)) refl in
+    let both = Decides-and (pointwise eqb (padded a) (padded b)) (eqb (length a) (length b)) rooms (Decides-eqb (length a) (length b)) in (
+      (λ t. let parts = both.0 (sym e ∙ t) in unpadded a b parts.1 parts.0),
+      (λ s. e ∙ both.1 (ap padded s, ap length s)),
+    )

@@ -1,3 +1,4 @@
 pub mod KeyLemmas
+pub mod TableLemmas
 mod LabelKnownValues
 mod ListingKnownValues

@@ -2,3 +2,13 @@ pub mod Keys
 pub mod KeyRoom
 pub mod LabelText
 pub mod ListingText
+pub mod Independence
+pub mod Systems
+pub mod Cones
+pub mod FreeColumns
+pub mod Extreme
+pub mod Listing
+pub mod Spaces
+pub mod Dictionaries
+pub mod Overflows
+pub mod Tables

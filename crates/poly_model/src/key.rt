@@ -78,6 +78,13 @@ impl Key {
         &self.labels[..self.len as usize]
     }
 
+    /// Whether both have the same labels: `==` as a call that says so.
+    pub fn is_same(&self, other: &Key) -> bool
+        ensures { IsTrue result ↔ (self.now ≡ other.now) }
+    {
+        self == other
+    }
+
     /// The same without the label at this place, counted from 0.
     pub fn without_at(&self, at: usize) -> Key
         requires { at < length self.now }
@@ -156,23 +163,4 @@ fn stands_at(labels: &[u16], at: usize, label: u16) -> bool
     ensures no { IsFalse result → at < length labels.now → slice_index labels.now at ≢ label }
 {
     at < labels.len() && labels[at] == label
-}
-
-#[cfg(test)]
-mod tests {
-    use super::*;
-    use std::test::Fail;
-
-    #[test]
-    fn keys_gain_and_lose_labels(rt: HostRuntime) -> Result<(), Fail> {
-        let key = Key::from_ascending(&[2, 5, 9]).ok_or("ascending")?;
-        assert_eq!(rt; key.len(), 3);
-        assert_eq!(rt; key.with(7).labels(), [2, 5, 7, 9].as_slice());
-        assert_eq!(rt; key.with(5), key);
-        assert_eq!(rt; key.without_at(1).labels(), [2, 9].as_slice());
-        assert_eq!(rt; key.without_at(0).without_at(0).without_at(0), Key::empty());
-        assert!(rt; Key::empty().is_empty());
-        assert_eq!(rt; Key::from_ascending(&[2, 2]), None);
-        Ok(())
-    }
 }

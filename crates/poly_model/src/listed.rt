@@ -1,4 +1,4 @@
-//! The size of a listing.
+//! The sizes of listings and of jobs.
 
 /// What a listing was made of.
 #[derive(Clone, Copy, PartialEq, Eq, Debug)]
@@ -7,4 +7,15 @@ pub struct Listed {
     pub rows: u64,
     /// The lines or equations before them.
     pub lines: u32,
+}
+
+/// What a job did.
+#[derive(Clone, Copy, PartialEq, Eq, Debug)]
+pub struct Count {
+    /// The rows that it shows.
+    pub rows: u64,
+    /// The jobs that it gives back.
+    pub jobs: u64,
+    /// The bases that it visited.
+    pub bases: u64,
 }

@@ -1,0 +1,13 @@
+pub mod KnownValues
+pub mod KnownColumns
+pub mod KnownExtremes
+pub mod KnownFacets
+pub mod KnownFaces
+pub mod LineLists
+pub mod RowLemmas
+pub mod FaceLemmas
+pub mod ColumnLemmas
+pub mod OppositeLemmas
+pub mod ClearLemmas
+pub mod PointedLemmas
+pub mod FeasibleLemmas

@@ -1,0 +1,20 @@
+-- Keys as sets of labels, and one label put in the place of another.
+use Rattle.std.specs.Prelude.{◌≡◌, ◌≢◌, ◌⊎◌, ℕ, List, [], ◌∷◌}
+use Rattle.std.specs.List.{Contains}
+
+-- each label stands once
+abbrev pub AreDistinct : List ℕ → Type 0
+AreDistinct [] = Unit {0}
+AreDistinct (k ∷ ks) = (Contains ks k → ⊥) × AreDistinct ks
+
+-- the two lists have the same labels
+pub record HaveSameLabels (key other : List ℕ) : Type 0 where
+  pub there : (k : ℕ) → Contains key k → Contains other k
+  pub back : (k : ℕ) → Contains other k → Contains key k
+
+-- the labels of `new`, each once, are r and the labels of `old` other than s
+pub record Exchanges (old new : List ℕ) (r s : ℕ) : Type 0 where
+  pub distinct : AreDistinct new
+  pub entering : Contains new r
+  pub kept : (k : ℕ) → Contains old k → k ≢ s → Contains new k
+  pub only : (k : ℕ) → Contains new k → (k ≡ r) ⊎ (Contains old k × (k ≢ s))

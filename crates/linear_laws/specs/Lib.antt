@@ -1,0 +1,10 @@
+pub mod Frames
+pub mod NewRows
+pub mod Slots
+pub mod FreeColumns
+pub mod LocalTest
+pub mod Corners
+pub mod BasisLaws
+pub mod FrameLaws
+pub mod ColumnLaws
+pub mod TightLaws

@@ -1,0 +1,55 @@
+-- Products that a pivot needs and that do not fit.
+use Rattle.std.specs.Prelude.{◌≡◌, ◌≢◌, ◌⊎◌, ℕ, ◌==◌, ℤ, pos, if◌then◌else◌, List}
+use Rattle.std.specs.List.{Contains}
+use Rattle.poly_num.specs.Numbers.{Crosses}
+use Rattle.poly_model.specs.declared.overflow.Overflow.{Overflow}
+use Rattle.poly_model.specs.declared.overflow.Place.{Place}
+use Rattle.poly_model.specs.Systems.{Polyhedron}
+use Rattle.poly_model.specs.Spaces.{Space, IsSpaceOf}
+use Rattle.poly_model.specs.Dictionaries.{Table, IsDictionary}
+
+-- row i and column j
+abbrev pub IsPlace : Place → ℕ → ℕ → Type 0
+IsPlace place i j = (place.row.0 ≡ i) × (place.col.0 ≡ j)
+
+-- the number at a place; 65535 is the column of constants
+abbrev pub number_at : Table → Place → ℤ
+number_at t place =
+    if place.col.0 == 65535 then t.constant place.row.0 else t.entry place.row.0 place.col.0
+
+-- the exchange of row r for column s multiplies the entries at (r, s) and (i, j), and those at (i, s) and (r, j)
+pub record IsInner (space : Space) (key : List ℕ) (r s : ℕ) (o : Overflow) : Type 0 where
+  pub i : ℕ
+  pub j : ℕ
+  pub row : Contains space.labels i
+  pub other_row : i ≢ r
+  pub column : Contains key j ⊎ (j ≡ 65535)
+  pub other_column : j ≢ s
+  pub a : IsPlace o.a r s
+  pub b : IsPlace o.b i j
+  pub c : IsPlace o.c i s
+  pub d : IsPlace o.d r j
+
+-- it multiplies the entry at (i, s) and the denominator, which stands at (s, s)
+pub record IsOuter (space : Space) (s : ℕ) (o : Overflow) : Type 0 where
+  pub i : ℕ
+  pub row : Contains space.labels i
+  pub a : IsPlace o.a i s
+  pub b : IsPlace o.b s s
+  pub c : IsPlace o.c i s
+  pub d : IsPlace o.d s s
+
+-- a pivot at the dictionary of the overflow's key in its phase needs the products of the entries at a
+-- and b and at c and d, and one of them or their difference is no number of 127 bits and a sign
+pub record Passes (p : Polyhedron) (o : Overflow) : Type 0 where
+  pub space : Space
+  pub phase : IsSpaceOf p o.phase space
+  pub table : Table
+  pub dictionary : IsDictionary space o.key table
+  pub r : ℕ
+  pub s : ℕ
+  pub outside : Contains space.labels r × (Contains o.key r → ⊥)
+  pub inside : Contains o.key s
+  pub nonzero : table.entry r s ≢ pos 0
+  pub places : IsInner space o.key r s o ⊎ IsOuter space s o
+  pub passes : ¬ (Crosses (number_at table o.a) (number_at table o.b) (number_at table o.c) (number_at table o.d))
