@@ -9,7 +9,7 @@ use Rattle.poly_model.specs.Cones.{IsInCone}
 use Rattle.poly_model.specs.FreeColumns.{IsZeroAtFree, AreFreeColumns}
 use Rattle.poly_model.specs.Extreme.{IsOnFace, IsExtreme}
 use Rattle.linear_laws.proofs.AllLemmas.{all_left, all_right, all_both}
-use Rattle.linear_laws.proofs.FirstBases.{first_basis_over}
+use Rattle.linear_laws.proofs.FirstBases.{first_basis_is_one}
 use Rattle.linear_laws.proofs.Alone.{alone_by_first_basis}
 use Rattle.cone_laws.specs.Faces.{fixed_rows, tight_rows, face_rows, HasRank}
 use Rattle.cone_laws.specs.ExtremeLaws.{IsExtremeByRank}
@@ -61,7 +61,7 @@ module _ (sys : System) (columns : List ℕ) (f : AreFreeColumns sys columns) (y
     rank_from_alone : ((z : Vector) → IsOnFace sys y z → IsMultipleOf y z) →
         HasRank sys.n (face_rows columns sys y) (sys.n - 1)
     rank_from_alone h =
-        let b = first_basis_over sys.n [] (face_rows columns sys y) tt in
+        let b = first_basis_is_one sys.n [] (face_rows columns sys y) in
         let k = (counted b.0 b.1).0 (λ z l v. h z (on_face z l v)) in
         record { marks = b.0; first = b.1; count = omega arith }
 

@@ -14,12 +14,13 @@ use Rattle.poly_model.specs.Cones.{at, Meets, IsInCone, IsTight, coordinate}
 use Rattle.poly_model.specs.FreeColumns.{AreFreeColumns}
 use Rattle.poly_model.specs.Extreme.{IsShown, HasPoint, IsFeasibleAs, IsFeasible}
 use Rattle.linear_laws.specs.Corners.{IsCorner}
+use Rattle.linear_laws.proofs.Entries.{coordinate_reads}
 use Rattle.linear_laws.proofs.Members.{Contains-first}
 use Rattle.linear_laws.proofs.CornerLemmas.{positive_corner}
 use Rattle.cone_laws.specs.Faces.{fixed_rows, other_rows}
 use Rattle.cone_laws.specs.Unique.{ExactlyOne}
 use Rattle.cone_laws.specs.FeasibilityLaws.{HasVertex, IsFlatAtInfinity}
-use Rattle.cone_laws.proofs.RowLemmas.{forms_of, rows_from_forms, coordinate_reads}
+use Rattle.cone_laws.proofs.RowLemmas.{forms_of, rows_from_forms}
 use Rattle.cone_laws.proofs.ColumnLemmas.{one_list_of_columns, free_in_rows}
 use Rattle.cone_laws.proofs.ClearLemmas.{Cleared, cleared}
 use Rattle.cone_laws.proofs.PointedLemmas.{holds_no_line, in_pointed_cone, extreme_of_corner}

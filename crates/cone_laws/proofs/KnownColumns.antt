@@ -11,7 +11,7 @@ use Rattle.poly_num.proofs.PrimitiveLemmas.{primitive_from_gcd, gcd_from_primiti
 use Rattle.poly_model.specs.Systems.{System}
 use Rattle.poly_model.specs.Cones.{at, IsTight}
 use Rattle.poly_model.specs.FreeColumns.{IsFree, IsZeroAtFree, IsLine, AreFreeColumns, AreLinesOf, AreLines}
-use Rattle.cone_laws.proofs.KnownValues.{row_of, row_at, square, quadrant, half_plane, strip, diagonal, upward}
+use Rattle.cone_laws.proofs.KnownValues.{row_of, row_at, square, quadrant, half_plane, strip, plane, diagonal, upward}
 
 -- a vector of j entries, and one whose first j entries are 0
 front_zero : (j : ℕ) (w g : Vector) → length w ≡ j → IsZero (take j g) → w · g ≡ pos 0
@@ -165,3 +165,46 @@ square_has_no_line = record {
   where
     none : (k : ℕ) → k < 0 → ⊥
     none k l = omega arith
+
+-- ---- the plane, which has two lines
+first_of_plane_is_free : IsFree plane 1
+first_of_plane_is_free = record {
+  within = omega arith;
+  factor = pos 1;
+  weights = pos 0 ∷ [];
+  nonzero = one_is_not_zero;
+  earlier = refl;
+  combines = All-from_recursion (λ row. pos 1 *ℤ at 1 row.entries ≡ (pos 0 ∷ []) · row.entries) plane.rows (refl, tt);
+}
+
+second_of_plane_is_free : IsFree plane 2
+second_of_plane_is_free = record {
+  within = omega arith;
+  factor = pos 1;
+  weights = pos 0 ∷ pos 0 ∷ [];
+  nonzero = one_is_not_zero;
+  earlier = refl;
+  combines =
+      All-from_recursion (λ row. pos 1 *ℤ at 2 row.entries ≡ (pos 0 ∷ pos 0 ∷ []) · row.entries) plane.rows (refl, tt);
+}
+
+upward_is_the_second_line : IsLine plane 2 upward
+unfolding gcd_in gcd_of
+upward_is_the_second_line = record {
+  free = second_of_plane_is_free;
+  width = refl;
+  primitive = primitive_from_gcd upward refl;
+  vanishing = All-from_recursion (IsTight upward) plane.rows (refl, tt);
+  here = omega (arith, ints);
+  elsewhere = λ k f n. elsewhere k n;
+}
+  where
+    elsewhere : (k : ℕ) → k ≢ 2 → at k upward ≡ pos 0
+    elsewhere zero n = refl
+    elsewhere (suc zero) n = refl
+    elsewhere (suc (suc zero)) n = absurd (n refl)
+    elsewhere (suc (suc (suc k))) n = refl
+
+-- the diagonal is not 0 at the other free column
+diagonal_is_no_line : IsLine plane 2 diagonal → ⊥
+diagonal_is_no_line l = let e = l.elsewhere 1 first_of_plane_is_free (λ q. omega arith) in cc

@@ -63,6 +63,10 @@ abbrev pub strip : System
 strip =
     cone_of (h_file 3 (inequality (pos 0 ∷ pos 1 ∷ pos 0 ∷ []) ∷ inequality (pos 1 ∷ negsuc 0 ∷ pos 0 ∷ []) ∷ []))
 
+-- every x and y
+abbrev pub plane : System
+plane = cone_of (h_file 3 [])
+
 -- 1 <= x, x <= 0
 abbrev pub contradiction : System
 contradiction =

@@ -1,16 +1,15 @@
 -- The rows of a system as lists of vectors: all of them, those that pass a test, and the fixed rows,
 -- which are the coordinates of columns and the linear rows.
-use Rattle.std.proofs.Common.{◌≡◌, Bool, true, false, cond, ℕ, zero, suc, ℤ, pos, negsuc, List, [], ◌∷◌, map, refl, sym, ap, subst, ◌∙◌, arith}
-use Rattle.std.proofs.lemmas.Int.{ints}
+use Rattle.std.proofs.Common.{◌≡◌, Bool, true, false, cond, ℕ, zero, suc, ℤ, pos, negsuc, List, [], ◌∷◌, map, refl, sym, ap, subst, ◌∙◌}
 use Rattle.std.specs.List.{AllByRecursion, All, Contains}
 use Rattle.std.proofs.lemmas.List.Elements.{All-from_recursion, recursion_from_All}
 use Rattle.poly_num.specs.Vectors.{Vector, ◌·◌}
-use Rattle.poly_num.proofs.Ring.{lin, zero_mul}
 use Rattle.poly_model.specs.Independence.{Vanish}
 use Rattle.poly_model.specs.Systems.{Row, System}
 use Rattle.poly_model.specs.Cones.{at, IsTight, coordinate}
 use Rattle.poly_model.specs.Spaces.{linear_rows}
 use Rattle.linear_laws.proofs.AllLemmas.{all_left, all_right, all_both, all_weaker, all_from_map, all_to_map}
+use Rattle.linear_laws.proofs.Entries.{coordinate_reads}
 use Rattle.linear_laws.proofs.Members.{Contains-first, Contains-later, all_at}
 use Rattle.cone_laws.specs.Faces.{is_zero, entries_where, tight_rows, fixed_rows}
 
@@ -97,12 +96,6 @@ linear_vanish z rows v =
     (subst (λ gs. Vanish gs z) (linear_rows-where rows) v)
 
 -- ---- the coordinates of columns
-pub coordinate_reads : (j : ℕ) (y : Vector) → coordinate j · y ≡ at j y
-coordinate_reads zero [] = refl
-coordinate_reads zero (x ∷ y) = omega (arith, ints)
-coordinate_reads (suc j) [] = refl
-coordinate_reads (suc j) (x ∷ y) = omega (arith, lin, zero_mul x, coordinate_reads j y)
-
 -- z is 0 at the columns
 abbrev pub IsZeroAt : List ℕ → Vector → Type 0
 IsZeroAt columns z = (j : ℕ) → Contains columns j → at j z ≡ pos 0

@@ -11,10 +11,10 @@ use Rattle.poly_num.proofs.Order.{positive_product}
 use Rattle.poly_num.proofs.VectorLemmas.{dot-scale}
 use Rattle.poly_model.specs.Spaces.{Space, IsInside, IsDirection}
 use Rattle.poly_model.specs.Dictionaries.{IsCobasis, sum_over}
-use Rattle.dictionary_laws.proofs.Members.{contains_head, contains_tail, contains_none, contains_cases, sum_zero, sum_single}
-use Rattle.dictionary_laws.proofs.Directions.{zero_at_scale, direction_scale, spread, inside_spread}
+use Rattle.linear_laws.proofs.Members.{Contains-first, Contains-later, Contains-nil}
+use Rattle.dictionary_laws.proofs.Members.{contains_cases, sum_zero, sum_single}
+use Rattle.dictionary_laws.proofs.Directions.{times_zero, zero_at_scale, direction_scale, spread, inside_spread}
 use Rattle.dictionary_laws.proofs.Duals.{Dual, dual_of, distinct}
-use Rattle.dictionary_laws.proofs.Values.{times_zero}
 
 pub square_positive : (x : ℤ) → x ≢ pos 0 → pos 0 <ℤ (x *ℤ x)
 square_positive (pos zero) n = absurd (n refl)
@@ -86,13 +86,13 @@ module _ (space : Space) where
     value = pos 1;
     positive = omega (arith, ints);
     dual = λ k. [];
-    direction = λ k c. absurd (contains_none k c);
-    here = λ k c. absurd (contains_none k c);
-    elsewhere = λ k c. absurd (contains_none k c);
+    direction = λ k c. absurd (Contains-nil k c);
+    here = λ k c. absurd (Contains-nil k c);
+    elsewhere = λ k c. absurd (Contains-nil k c);
   }
   all_columns key (x ∷ labels) duals =
-      one_column key labels x (duals x (contains_head x labels))
-      (all_columns key labels (λ k c. duals k (contains_tail x labels k c)))
+      one_column key labels x (duals x (Contains-first x labels))
+      (all_columns key labels (λ k c. duals k (Contains-later k x labels c)))
 
   pub columns : (key : List ℕ) → IsCobasis space key → Columns key key
   columns key cobasis = all_columns key key (dual_of space key cobasis)

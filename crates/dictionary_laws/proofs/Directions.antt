@@ -1,51 +1,39 @@
 -- Combinations of vectors and of directions of a space, and the value of a form at them.
-use Rattle.std.proofs.Common.{◌≡◌, ℕ, List, [], ◌∷◌, ℤ, pos, ◌+ℤ◌, ◌*ℤ◌, length, sym, ap, ◌∙◌, arith}
+use Rattle.std.proofs.Common.{◌≡◌, ℕ, List, [], ◌∷◌, ℤ, pos, ◌+ℤ◌, ◌*ℤ◌, neg_ℤ, ap, ◌∙◌, arith}
 use Rattle.std.specs.List.{Contains}
-use Rattle.poly_num.specs.Vectors.{Vector, ◌·◌, scale, sum_of}
-use Rattle.poly_num.proofs.Ring.{lin, mul_zero}
-use Rattle.poly_num.proofs.VectorLemmas.{dot-sum, dot-scale, length-scale, length-sum}
+use Rattle.poly_num.specs.Vectors.{Vector, ◌·◌, scale, IsZero}
+use Rattle.poly_num.proofs.Ring.{expand, lin, mul_zero, zero_mul}
+use Rattle.poly_num.proofs.VectorLemmas.{dot-zero, dot-scale, length-scale}
 use Rattle.poly_model.specs.Independence.{Vanish}
 use Rattle.poly_model.specs.Spaces.{Space, IsInside, IsDirection}
 use Rattle.poly_model.specs.Dictionaries.{sum_over}
-use Rattle.dictionary_laws.proofs.Members.{contains_head, contains_tail}
+use Rattle.linear_laws.proofs.Combinations.{combination, dot-combination, length-combination, zero_combination, vanish_combination, vanish_scale}
+use Rattle.linear_laws.proofs.Members.{Contains-first, Contains-later}
 
--- p u + q v
-abbrev pub combined : ℤ → Vector → ℤ → Vector → Vector
-combined p u q v = sum_of (scale p u) (scale q v)
+pub times_zero : (a x : ℤ) → x ≡ pos 0 → a *ℤ x ≡ pos 0
+times_zero a x e = ap (λ (t : ℤ). a *ℤ t) e ∙ mul_zero a
 
-pub dot-combined : (g : Vector) (p : ℤ) (u : Vector) (q : ℤ) (v : Vector) →
-    g · combined p u q v ≡ p *ℤ (g · u) +ℤ q *ℤ (g · v)
-dot-combined g p u q v =
-    omega (arith, lin, dot-sum g (scale p u) (scale q v), dot-scale g p u, dot-scale g q v)
+pub zero_times : (a x : ℤ) → a ≡ pos 0 → a *ℤ x ≡ pos 0
+zero_times a x e = ap (λ (t : ℤ). t *ℤ x) e ∙ zero_mul x
 
-pub length-combined : (n : ℕ) (p : ℤ) (u : Vector) (q : ℤ) (v : Vector) → length u ≡ n → length v ≡ n →
-    length (combined p u q v) ≡ n
-length-combined n p u q v h k =
-    length-sum (scale p u) (scale q v) (length-scale p u ∙ h ∙ sym (length-scale q v ∙ k))
-    ∙ length-scale p u ∙ h
+-- u cleared by v: the multiples of the two whose values at one form cancel
+pub cancels : (v x : ℤ) → v *ℤ x +ℤ neg_ℤ x *ℤ v ≡ pos 0
+cancels v x = simp expand (omega (arith, lin))
 
--- a combination of zeros
-pub zeros : (p x q y : ℤ) → x ≡ pos 0 → y ≡ pos 0 → p *ℤ x +ℤ q *ℤ y ≡ pos 0
-zeros p x q y e f =
-    let a = ap (λ (t : ℤ). p *ℤ t) e ∙ mul_zero p in
-    let b = ap (λ (t : ℤ). q *ℤ t) f ∙ mul_zero q in
-    omega (arith, lin)
+-- a form that is 0 at v does not see it
+pub cleared_value : (v x a b : ℤ) → b ≡ pos 0 → v *ℤ a +ℤ neg_ℤ x *ℤ b ≡ v *ℤ a
+cleared_value v x a b e = let f = times_zero (neg_ℤ x) b e in omega (arith, lin)
 
 pub zero_at : (g : Vector) (p : ℤ) (u : Vector) (q : ℤ) (v : Vector) → g · u ≡ pos 0 → g · v ≡ pos 0 →
-    g · combined p u q v ≡ pos 0
-zero_at g p u q v e f = dot-combined g p u q v ∙ zeros p (g · u) q (g · v) e f
+    g · combination p u q v ≡ pos 0
+zero_at g p u q v e f = dot-combination g p u q v ∙ zero_combination p (g · u) q (g · v) e f
 
 pub zero_at_scale : (g : Vector) (p : ℤ) (v : Vector) → g · v ≡ pos 0 → g · scale p v ≡ pos 0
 zero_at_scale g p v e = dot-scale g p v ∙ ap (λ (t : ℤ). p *ℤ t) e ∙ mul_zero p
 
-pub vanish_combined : (gs : List Vector) (p : ℤ) (u : Vector) (q : ℤ) (v : Vector) →
-    Vanish gs u → Vanish gs v → Vanish gs (combined p u q v)
-vanish_combined [] p u q v h k = tt
-vanish_combined (g ∷ gs) p u q v h k = (zero_at g p u q v h.0 k.0, vanish_combined gs p u q v h.1 k.1)
-
-pub vanish_scale : (gs : List Vector) (p : ℤ) (v : Vector) → Vanish gs v → Vanish gs (scale p v)
-vanish_scale [] p v h = tt
-vanish_scale (g ∷ gs) p v h = (zero_at_scale g p v h.0, vanish_scale gs p v h.1)
+pub vanish_zero : (gs : List Vector) (v : Vector) → IsZero v → Vanish gs v
+vanish_zero [] v z = tt
+vanish_zero (g ∷ gs) v z = (dot-zero g v z, vanish_zero gs v z)
 
 module _ (space : Space) where
   pub inside_scale : (p : ℤ) (v : Vector) → IsInside space v → IsInside space (scale p v)
@@ -60,33 +48,33 @@ module _ (space : Space) where
     level = zero_at_scale space.infinity p v h.level;
   }
 
-  pub inside_combined : (p : ℤ) (u : Vector) (q : ℤ) (v : Vector) → IsInside space u →
+  pub inside_combination : (p : ℤ) (u : Vector) (q : ℤ) (v : Vector) → IsInside space u →
       IsInside space v →
-      IsInside space (combined p u q v)
-  inside_combined p u q v h k = record {
-    width = length-combined space.n p u q v h.width k.width;
-    fixed = vanish_combined space.fixed p u q v h.fixed k.fixed;
+      IsInside space (combination p u q v)
+  inside_combination p u q v h k = record {
+    width = length-combination space.n p u q v h.width k.width;
+    fixed = vanish_combination space.fixed p u q v h.fixed k.fixed;
   }
 
-  pub direction_combined : (p : ℤ) (u : Vector) (q : ℤ) (v : Vector) → IsDirection space u →
+  pub direction_combination : (p : ℤ) (u : Vector) (q : ℤ) (v : Vector) → IsDirection space u →
       IsDirection space v →
-      IsDirection space (combined p u q v)
-  direction_combined p u q v h k = record {
-    inside = inside_combined p u q v h.inside k.inside;
+      IsDirection space (combination p u q v)
+  direction_combination p u q v h k = record {
+    inside = inside_combination p u q v h.inside k.inside;
     level = zero_at space.infinity p u q v h.level k.level;
   }
 
   -- base and the sum over these labels of c k times d k
   abbrev pub spread : List ℕ → (ℕ → ℤ) → (ℕ → Vector) → Vector → Vector
   spread [] c d base = base
-  spread (k ∷ ks) c d base = combined (c k) (d k) (pos 1) (spread ks c d base)
+  spread (k ∷ ks) c d base = combination (c k) (d k) (pos 1) (spread ks c d base)
 
   pub dot-spread : (g : Vector) (ks : List ℕ) (c : ℕ → ℤ) (d : ℕ → Vector) (base : Vector) →
       g · spread ks c d base ≡ sum_over ks (λ k. c k *ℤ (g · d k)) +ℤ g · base
   dot-spread g [] c d base = omega (arith, lin)
   dot-spread g (k ∷ ks) c d base =
       let h = dot-spread g ks c d base in
-      let e = dot-combined g (c k) (d k) (pos 1) (spread ks c d base) in
+      let e = dot-combination g (c k) (d k) (pos 1) (spread ks c d base) in
       let f = one_times (g · spread ks c d base) in
       omega (arith, lin)
     where
@@ -98,5 +86,5 @@ module _ (space : Space) where
       IsInside space (spread ks c d base)
   inside_spread [] c d base h b = b
   inside_spread (k ∷ ks) c d base h b =
-      inside_combined (c k) (d k) (pos 1) (spread ks c d base) (h k (contains_head k ks))
-      (inside_spread ks c d base (λ j i. h j (contains_tail k ks j i)) b)
+      inside_combination (c k) (d k) (pos 1) (spread ks c d base) (h k (Contains-first k ks))
+      (inside_spread ks c d base (λ j i. h j (Contains-later j k ks i)) b)

@@ -1,24 +1,17 @@
--- Independent labels have dual directions: at each one direction it alone of them is not 0.
--- Distinct labels that have them are
--- independent.
-use Rattle.std.proofs.Common.{◌≡◌, ◌≢◌, ℕ, List, [], ◌∷◌, ℤ, pos, ◌+ℤ◌, ◌*ℤ◌, neg_ℤ, refl, sym, subst, ◌∙◌, ⊎_elim, arith}
+-- Independent labels have dual directions: at each one direction it alone of them is not 0. Distinct
+-- labels that have them are independent.
+use Rattle.std.proofs.Common.{◌≡◌, ◌≢◌, ℕ, List, [], ◌∷◌, ℤ, pos, ◌*ℤ◌, neg_ℤ, refl, sym, subst, ◌∙◌, ⊎_elim}
 use Rattle.std.specs.List.{Contains}
 use Rattle.std.proofs.lemmas.Bool.{cases_eq}
 use Rattle.poly_num.specs.Vectors.{Vector, ◌·◌}
-use Rattle.poly_num.proofs.Ring.{expand, lin, mul_zero}
 use Rattle.poly_num.proofs.Order.{mul_nonzero}
 use Rattle.poly_model.specs.Spaces.{Space, IsDirection}
 use Rattle.poly_model.specs.Dictionaries.{AreIndependent, IsCobasis}
 use Rattle.dictionary_laws.specs.Keys.{AreDistinct}
-use Rattle.dictionary_laws.proofs.Members.{contains_head, contains_tail, contains_none, by_cases, all_at, all_from}
-use Rattle.dictionary_laws.proofs.Directions.{combined, dot-combined, zero_at, direction_combined}
-
--- w cleared of x by v: the multiples of v and w whose values at one form cancel
-cleared_value : (v w x y : ℤ) → y ≡ pos 0 → v *ℤ x +ℤ neg_ℤ w *ℤ y ≡ v *ℤ x
-cleared_value v w x y e = rw e (omega (arith, lin, mul_zero (neg_ℤ w)))
-
-cancels : (v w : ℤ) → v *ℤ w +ℤ neg_ℤ w *ℤ v ≡ pos 0
-cancels v w = simp expand (omega (arith, lin))
+use Rattle.linear_laws.proofs.Members.{Contains-first, Contains-later, Contains-nil, all_at}
+use Rattle.dictionary_laws.proofs.Members.{by_cases, all_from}
+use Rattle.linear_laws.proofs.Combinations.{combination, dot-combination}
+use Rattle.dictionary_laws.proofs.Directions.{cancels, cleared_value, zero_at, direction_combination}
 
 module _ (space : Space) where
   -- a direction at which k is not 0, and the labels before and all others of the key are
@@ -41,15 +34,15 @@ module _ (space : Space) where
       Dual (k ∷ earlier) key j → Cleared earlier labels k → Cleared earlier (j ∷ labels) k
   clear_one earlier labels key k j within d c = record {
     vector = w;
-    direction = direction_combined space v c.vector (neg_ℤ x) d.vector c.direction d.direction;
+    direction = direction_combination space v c.vector (neg_ℤ x) d.vector c.direction d.direction;
     before = λ i h. zero_at (space.form i) v c.vector (neg_ℤ x) d.vector (c.before i h)
-        (d.before i (contains_tail k earlier i h));
+        (d.before i (Contains-later i k earlier h));
     here = λ e. mul_nonzero v (space.form k · c.vector) d.here c.here (sym k_is ∙ e);
     zero = by_cases (λ i. space.form i · w ≡ pos 0) j labels
-        (dot-combined (space.form j) v c.vector (neg_ℤ x) d.vector ∙ cancels v x)
+        (dot-combination (space.form j) v c.vector (neg_ℤ x) d.vector ∙ cancels v x)
         (λ i h. ⊎_elim
         (λ (e : i ≡ j). subst (λ (n : ℕ). space.form n · w ≡ pos 0) (sym e)
-        (dot-combined (space.form j) v c.vector (neg_ℤ x) d.vector ∙ cancels v x))
+        (dot-combination (space.form j) v c.vector (neg_ℤ x) d.vector ∙ cancels v x))
         (λ (n : i ≡ j → ⊥). zero_at (space.form i) v c.vector (neg_ℤ x) d.vector (c.zero i h)
         (d.elsewhere i (within i h) n))
         (cases_eq i j));
@@ -62,12 +55,12 @@ module _ (space : Space) where
       x = space.form j · c.vector
 
       w : Vector
-      w = combined v c.vector (neg_ℤ x) d.vector
+      w = combination v c.vector (neg_ℤ x) d.vector
 
       k_is : space.form k · w ≡ v *ℤ (space.form k · c.vector)
-      k_is = dot-combined (space.form k) v c.vector (neg_ℤ x) d.vector
+      k_is = dot-combination (space.form k) v c.vector (neg_ℤ x) d.vector
           ∙ cleared_value v x (space.form k · c.vector) (space.form k · d.vector)
-          (d.before k (contains_head k earlier))
+          (d.before k (Contains-first k earlier))
 
   -- cleared of all labels of the key
   clear_all : (earlier labels key : List ℕ) (k : ℕ) → ((i : ℕ) → Contains labels i → Contains key i) →
@@ -75,8 +68,8 @@ module _ (space : Space) where
       Cleared earlier labels k
   clear_all earlier [] key k within duals c = c
   clear_all earlier (j ∷ labels) key k within duals c =
-      let rest = λ (i : ℕ) (h : Contains labels i). within i (contains_tail j labels i h) in
-      clear_one earlier labels key k j rest (duals j (within j (contains_head j labels)))
+      let rest = λ (i : ℕ) (h : Contains labels i). within i (Contains-later i j labels h) in
+      clear_one earlier labels key k j rest (duals j (within j (Contains-first j labels)))
       (clear_all earlier labels key k rest duals c)
 
   -- a dual direction, once the label in front is one of the key too
@@ -84,15 +77,15 @@ module _ (space : Space) where
   in_front earlier key k j d = record {
     vector = d.vector;
     direction = d.direction;
-    before = λ i h. d.before i (contains_tail k earlier i h);
+    before = λ i h. d.before i (Contains-later i k earlier h);
     here = d.here;
     elsewhere = by_cases (λ i. i ≢ j → space.form i · d.vector ≡ pos 0) k key
-        (λ _. d.before k (contains_head k earlier)) d.elsewhere;
+        (λ _. d.before k (Contains-first k earlier)) d.elsewhere;
   }
 
   duals_over : (earlier key : List ℕ) → AreIndependent space earlier key →
       (k : ℕ) → Contains key k → Dual earlier key k
-  duals_over earlier [] h k c = absurd (contains_none k c)
+  duals_over earlier [] h k c = absurd (Contains-nil k c)
   duals_over earlier (x ∷ key) h k c =
       by_cases (Dual earlier (x ∷ key)) x key
       (front (clear_all earlier key key x (λ i c. c) (duals_over (x ∷ earlier) key h.1) (record {
@@ -100,7 +93,7 @@ module _ (space : Space) where
         direction = h.0.1;
         before = all_at (λ i. space.form i · h.0.0 ≡ pos 0) earlier h.0.2;
         here = h.0.3;
-        zero = λ j c. absurd (contains_none j c);
+        zero = λ j c. absurd (Contains-nil j c);
       })))
       (λ j i. in_front earlier key x j (duals_over (x ∷ earlier) key h.1 j i))
       k c
@@ -121,7 +114,7 @@ module _ (space : Space) where
   distinct_over : (earlier key : List ℕ) → AreIndependent space earlier key → AreDistinct key
   distinct_over earlier [] h = tt
   distinct_over earlier (x ∷ key) h = (
-    λ c. let d = duals_over (x ∷ earlier) key h.1 x c in d.here (d.before x (contains_head x earlier)),
+    λ c. let d = duals_over (x ∷ earlier) key h.1 x c in d.here (d.before x (Contains-first x earlier)),
     distinct_over (x ∷ earlier) key h.1,
   )
 
@@ -134,21 +127,21 @@ module _ (space : Space) where
   independent_over earlier [] h duals = tt
   independent_over earlier (x ∷ key) h duals = (
     (d.vector, d.direction, all_from (λ i. space.form i · d.vector ≡ pos 0) earlier d.before, d.here),
-    independent_over (x ∷ earlier) key h.1 (λ k c. behind k c (duals k (contains_tail x key k c))),
+    independent_over (x ∷ earlier) key h.1 (λ k c. behind k c (duals k (Contains-later k x key c))),
   )
     where
       d : Dual earlier (x ∷ key) x
-      d = duals x (contains_head x key)
+      d = duals x (Contains-first x key)
 
       behind : (k : ℕ) → Contains key k → Dual earlier (x ∷ key) k → Dual (x ∷ earlier) key k
       behind k c e = record {
         vector = e.vector;
         direction = e.direction;
         before = by_cases (λ i. space.form i · e.vector ≡ pos 0) x earlier
-            (e.elsewhere x (contains_head x key)
+            (e.elsewhere x (Contains-first x key)
             (λ f. h.0 (subst (λ (j : ℕ). Contains key j) (sym f) c))) e.before;
         here = e.here;
-        elsewhere = λ j i n. e.elsewhere j (contains_tail x key j i) n;
+        elsewhere = λ j i n. e.elsewhere j (Contains-later j x key i) n;
       }
 
   -- distinct labels that have dual directions are independent

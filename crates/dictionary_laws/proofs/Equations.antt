@@ -1,19 +1,17 @@
 -- Whether equations have a common point, read off settled rows.
-use Rattle.std.proofs.Common.{◌≡◌, ◌≢◌, ℕ, List, ℤ, pos, ◌+ℤ◌, ◌*ℤ◌, sym, ap, ◌∙◌, ⊎_elim, arith}
+use Rattle.std.proofs.Common.{◌≡◌, ◌≢◌, ℕ, List, ℤ, pos, ◌+ℤ◌, ◌*ℤ◌, sym, ◌∙◌, ⊎_elim, arith}
 use Rattle.std.specs.Prelude.{◌<ℤ◌}
 use Rattle.std.specs.List.{Contains}
 use Rattle.poly_num.specs.Vectors.{◌·◌}
-use Rattle.poly_num.proofs.Ring.{lin, mul_comm, zero_mul}
+use Rattle.poly_num.proofs.Ring.{lin, mul_comm}
 use Rattle.poly_num.proofs.Order.{zero_factor, positive_nonzero}
 use Rattle.poly_model.specs.Spaces.{Space}
 use Rattle.poly_model.specs.Dictionaries.{Table, Writes, sum_over}
 use Rattle.dictionary_laws.specs.Points.{HasPointOn, AreSettled}
 use Rattle.dictionary_laws.proofs.Members.{contains_or, sum_zero}
-use Rattle.dictionary_laws.proofs.Values.{terms, times_zero}
+use Rattle.dictionary_laws.proofs.Values.{terms}
+use Rattle.dictionary_laws.proofs.Directions.{times_zero, zero_times}
 use Rattle.dictionary_laws.proofs.Origins.{Origin}
-
-zero_times : (a x : ℤ) → a ≡ pos 0 → a *ℤ x ≡ pos 0
-zero_times a x e = ap (λ (z : ℤ). z *ℤ x) e ∙ zero_mul x
 
 constant_zero : (d v c y s : ℤ) → y ≢ pos 0 → d *ℤ v ≡ c *ℤ y +ℤ s → v ≡ pos 0 → s ≡ pos 0 → c ≡ pos 0
 constant_zero d v c y s n h e f =

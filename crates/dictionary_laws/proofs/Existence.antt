@@ -1,7 +1,6 @@
 -- A cobasis has a dictionary. Its columns are dual directions with one value, and its constants are
--- read off a
--- vector at which the labels of the key are 0: a point, or 0 where the space has no point.
-use Rattle.std.proofs.Common.{◌≡◌, ℕ, List, [], ◌∷◌, ℤ, pos, ◌+ℤ◌, ◌*ℤ◌, neg_ℤ, sym, ap, ◌∙◌, inl, inr, ⊎_elim, arith}
+-- read off a vector at which the labels of the key are 0: a point, or 0 where the space has no point.
+use Rattle.std.proofs.Common.{◌≡◌, ℕ, List, ℤ, pos, ◌+ℤ◌, ◌*ℤ◌, neg_ℤ, sym, ap, ◌∙◌, inl, inr, ⊎_elim, arith}
 use Rattle.std.specs.Prelude.{◌<ℤ◌}
 use Rattle.std.specs.List.{Contains}
 use Rattle.std.proofs.lemmas.Int.{ints}
@@ -9,17 +8,17 @@ use Rattle.poly_num.specs.Vectors.{Vector, ◌·◌, IsZero}
 use Rattle.poly_num.proofs.Ring.{expand, lin, zero_mul}
 use Rattle.poly_num.proofs.Order.{positive_product}
 use Rattle.poly_num.proofs.VectorLemmas.{dot-zero}
-use Rattle.poly_model.specs.Independence.{Vanish, IsNew, Follows}
-use Rattle.poly_model.specs.Spaces.{Space, IsInside, IsDirection}
+use Rattle.poly_model.specs.Independence.{IsNew, Follows}
+use Rattle.poly_model.specs.Spaces.{Space, IsInside, IsDirection, HasPoints}
 use Rattle.poly_model.specs.Dictionaries.{Table, IsCobasis, Writes, IsDictionary, sum_over}
-use Rattle.dictionary_laws.specs.Points.{HasPoints}
 use Rattle.dictionary_laws.specs.Numbers.{divided}
 use Rattle.dictionary_laws.proofs.Members.{all_from, sum_zero, sum-add}
-use Rattle.dictionary_laws.proofs.Directions.{combined, dot-combined, inside_combined, spread, dot-spread}
-use Rattle.dictionary_laws.proofs.Values.{times_zero}
+use Rattle.linear_laws.proofs.Combinations.{combination, dot-combination}
+use Rattle.dictionary_laws.proofs.Directions.{times_zero, vanish_zero, inside_combination, spread, dot-spread}
 use Rattle.dictionary_laws.proofs.Columns.{Columns, columns, shares, level_sum, own_sum, inside_columns}
 use Rattle.dictionary_laws.proofs.Origins.{Origin, some_origin}
-use Rattle.dictionary_laws.proofs.NullVectors.{zero_of, length-zero_of, IsZero-zero_of, new_or_follows}
+use Rattle.linear_laws.proofs.Entries.{zeros, length-zeros, IsZero-zeros}
+use Rattle.linear_laws.proofs.FirstBases.{new_or_follows}
 use Rattle.dictionary_laws.proofs.Gcds.{gcd_of_numbers, gcd_of_numbers_is}
 use Rattle.dictionary_laws.proofs.Least.{GivesConstants, divided_is_dictionary}
 
@@ -45,10 +44,6 @@ read_off l e v y x s t h k = let f = simp expand at h in simp expand (omega (ari
 opposite : (l v x : ℤ) → neg_ℤ (l *ℤ v) *ℤ x +ℤ (l *ℤ x) *ℤ v ≡ pos 0
 opposite l v x = simp expand (omega (arith, lin))
 
-vanish_zero : (gs : List Vector) (v : Vector) → IsZero v → Vanish gs v
-vanish_zero [] v z = tt
-vanish_zero (g ∷ gs) v z = (dot-zero g v z, vanish_zero gs v z)
-
 module _ (space : Space) where
   -- a vector for the constants: what it is at infinity counts only where the space has a point
   record Base (key : List ℕ) : Type 0 where
@@ -72,15 +67,15 @@ module _ (space : Space) where
 
   zero_base : (key : List ℕ) → ((y : Vector) → IsInside space y → space.infinity · y ≡ pos 0) → Base key
   zero_base key flat = record {
-    vector = zero_of space.n;
+    vector = zeros space.n;
     inside = record {
-      width = length-zero_of space.n;
-      fixed = vanish_zero space.fixed (zero_of space.n) (IsZero-zero_of space.n);
+      width = length-zeros space.n;
+      fixed = vanish_zero space.fixed (zeros space.n) (IsZero-zeros space.n);
     };
     level = pos 1;
     positive = omega (arith, ints);
-    is_level = λ y h. both_zero (space.infinity · y) (space.infinity · zero_of space.n) (flat y h);
-    zero = λ j c. dot-zero (space.form j) (zero_of space.n) (IsZero-zero_of space.n);
+    is_level = λ y h. both_zero (space.infinity · y) (space.infinity · zeros space.n) (flat y h);
+    zero = λ j c. dot-zero (space.form j) (zeros space.n) (IsZero-zeros space.n);
   }
     where
       both_zero : (y x : ℤ) → y ≡ pos 0 → y *ℤ x ≡ y *ℤ pos 1
@@ -106,7 +101,7 @@ module _ (space : Space) where
       weight k = neg_ℤ (o.level *ℤ (space.form k · y))
 
       base : Vector
-      base = combined (c.value *ℤ o.level) y (neg_ℤ (c.value *ℤ (space.infinity · y))) o.vector
+      base = combination (c.value *ℤ o.level) y (neg_ℤ (c.value *ℤ (space.infinity · y))) o.vector
 
       rest : Vector
       rest = spread space key weight c.dual base
@@ -118,13 +113,13 @@ module _ (space : Space) where
       rest_at g =
           dot-spread space g key weight c.dual base
           ∙ ap (λ (z : ℤ). sum_over key (shares space key c weight g) +ℤ z)
-          (dot-combined g (c.value *ℤ o.level) y (neg_ℤ (c.value *ℤ (space.infinity · y))) o.vector)
+          (dot-combination g (c.value *ℤ o.level) y (neg_ℤ (c.value *ℤ (space.infinity · y))) o.vector)
 
       rest_direction : IsDirection space rest
       unfolding rest base
       rest_direction = record {
         inside = inside_columns space key cobasis c weight base
-            (inside_combined space (c.value *ℤ o.level) y
+            (inside_combination space (c.value *ℤ o.level) y
             (neg_ℤ (c.value *ℤ (space.infinity · y))) o.vector inside o.inside);
         level = rest_at space.infinity
             ∙ rest_level o.level c.value (space.infinity · y)
@@ -180,8 +175,8 @@ module _ (space : Space) where
       GivesConstants space (table key cobasis c (zero_base key flat))
   unfolding table zero_base
   zero_constants key cobasis c flat =
-      inr (λ i l. times_zero c.value (space.form i · zero_of space.n)
-      (dot-zero (space.form i) (zero_of space.n) (IsZero-zero_of space.n)))
+      inr (λ i l. times_zero c.value (space.form i · zeros space.n)
+      (dot-zero (space.form i) (zeros space.n) (IsZero-zeros space.n)))
 
   pub some_dictionary : (key : List ℕ) → IsCobasis space key → (t : Table) × IsDictionary space key t
   some_dictionary key cobasis =

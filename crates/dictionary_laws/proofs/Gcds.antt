@@ -9,7 +9,8 @@ use Rattle.poly_num.proofs.DivisorLemmas.{gcd_of_is}
 use Rattle.poly_model.specs.Spaces.{Space}
 use Rattle.poly_model.specs.Dictionaries.{Table}
 use Rattle.dictionary_laws.specs.Numbers.{IsGcdOfNumbers}
-use Rattle.dictionary_laws.proofs.Members.{contains_head, contains_tail, contains_none, by_cases}
+use Rattle.linear_laws.proofs.Members.{Contains-first, Contains-later, Contains-nil}
+use Rattle.dictionary_laws.proofs.Members.{by_cases}
 
 -- the greatest common divisor of the sizes f k
 abbrev pub gcd_over : List ℕ → (ℕ → ℕ) → ℕ
@@ -17,7 +18,7 @@ gcd_over [] f = 0
 gcd_over (k ∷ ks) f = gcd_of (f k) (gcd_over ks f)
 
 pub gcd_over_divides : (ks : List ℕ) (f : ℕ → ℕ) (k : ℕ) → Contains ks k → gcd_over ks f ∣ f k
-gcd_over_divides [] f k c = absurd (contains_none k c)
+gcd_over_divides [] f k c = absurd (Contains-nil k c)
 gcd_over_divides (x ∷ ks) f k c =
     let h = gcd_of_is (f x) (gcd_over ks f) in
     by_cases (λ j. gcd_over (x ∷ ks) f ∣ f j) x ks h.0
@@ -27,8 +28,8 @@ pub dvd-gcd_over : (d : ℕ) (ks : List ℕ) (f : ℕ → ℕ) → ((k : ℕ) �
     d ∣ gcd_over ks f
 dvd-gcd_over d [] f h = dvd-zero d
 dvd-gcd_over d (x ∷ ks) f h =
-    (gcd_of_is (f x) (gcd_over ks f)).2 d (h x (contains_head x ks))
-    (dvd-gcd_over d ks f (λ k c. h k (contains_tail x ks k c)))
+    (gcd_of_is (f x) (gcd_over ks f)).2 d (h x (Contains-first x ks))
+    (dvd-gcd_over d ks f (λ k c. h k (Contains-later k x ks c)))
 
 module _ (space : Space) (key : List ℕ) (t : Table) where
   gcd_of_row : ℕ → ℕ

@@ -10,7 +10,8 @@ use Rattle.poly_model.specs.Keys.{IsAscending, IsKey, with_label}
 use Rattle.poly_model.proofs.KeyLemmas.{key_with, key_without}
 use Rattle.dictionary_laws.specs.Laws.{IsExchangedKey}
 use Rattle.dictionary_laws.specs.Keys.{AreDistinct, Exchanges}
-use Rattle.dictionary_laws.proofs.Members.{contains_head, contains_tail, contains_cases, contains_none, by_cases, all_at, without, without_only, without_kept, without_step, without_none, distinct_without}
+use Rattle.linear_laws.proofs.Members.{Contains-first, Contains-later, Contains-nil, all_at}
+use Rattle.dictionary_laws.proofs.Members.{contains_cases, by_cases, without, without_only, without_kept, without_step, without_none, distinct_without}
 
 pub ascending_distinct : (ks : List ℕ) → IsAscending ks → AreDistinct ks
 ascending_distinct [] h = tt
@@ -30,21 +31,21 @@ with_step P label x xs before same behind = by (nat_lt label x) (label == x) ref
     by false false m = behind (eqb-false label x m)
 
 with_there : (label : ℕ) (ks : List ℕ) → Contains (with_label label ks) label
-with_there label [] = contains_head label []
+with_there label [] = Contains-first label []
 with_there label (x ∷ ks) =
     with_step (λ (l : List ℕ). Contains l label) label x ks
-    (contains_head label (x ∷ ks))
-    (λ e. subst (λ (j : ℕ). Contains (j ∷ ks) label) e (contains_head label ks))
-    (λ n. contains_tail x (with_label label ks) label (with_there label ks))
+    (Contains-first label (x ∷ ks))
+    (λ e. subst (λ (j : ℕ). Contains (j ∷ ks) label) e (Contains-first label ks))
+    (λ n. Contains-later label x (with_label label ks) (with_there label ks))
 
 with_kept : (label : ℕ) (ks : List ℕ) (k : ℕ) → Contains ks k → Contains (with_label label ks) k
-with_kept label [] k c = absurd (contains_none k c)
+with_kept label [] k c = absurd (Contains-nil k c)
 with_kept label (x ∷ ks) k c =
     with_step (λ (l : List ℕ). Contains l k) label x ks
-    (contains_tail label (x ∷ ks) k c)
+    (Contains-later k label (x ∷ ks) c)
     (λ e. c)
-    (λ n. by_cases (Contains (x ∷ with_label label ks)) x ks (contains_head x (with_label label ks))
-    (λ j i. contains_tail x (with_label label ks) j (with_kept label ks j i)) k c)
+    (λ n. by_cases (Contains (x ∷ with_label label ks)) x ks (Contains-first x (with_label label ks))
+    (λ j i. Contains-later j x (with_label label ks) (with_kept label ks j i)) k c)
 
 with_only : (label : ℕ) (ks : List ℕ) (k : ℕ) → Contains (with_label label ks) k →
     (k ≡ label) ⊎ Contains ks k
@@ -54,21 +55,21 @@ with_only label (x ∷ ks) k c =
     (λ d. contains_cases label (x ∷ ks) k d)
     (λ e d. inr d)
     (λ n d. by_cases (λ j. (j ≡ label) ⊎ Contains (x ∷ ks) j) x (with_label label ks)
-    (inr (contains_head x ks))
-    (λ j i. ⊎_elim (λ (e : j ≡ label). inl e) (λ (h : Contains ks j). inr (contains_tail x ks j h))
+    (inr (Contains-first x ks))
+    (λ j i. ⊎_elim (λ (e : j ≡ label). inl e) (λ (h : Contains ks j). inr (Contains-later j x ks h))
     (with_only label ks j i)) k d)
     c
 
 with_distinct : (label : ℕ) (ks : List ℕ) → AreDistinct ks → (Contains ks label → ⊥) →
     AreDistinct (with_label label ks)
-with_distinct label [] h n = (contains_none label, tt)
+with_distinct label [] h n = (Contains-nil label, tt)
 with_distinct label (x ∷ ks) h n =
     with_step AreDistinct label x ks
     (n, h)
     (λ e. h)
     (λ m. (
       λ c. ⊎_elim (λ (e : x ≡ label). m (sym e)) h.0 (with_only label ks x c),
-      with_distinct label ks h.1 (λ c. n (contains_tail x ks label c)),
+      with_distinct label ks h.1 (λ c. n (Contains-later label x ks c)),
     ))
 
 pub with_exchanges : (key : List ℕ) (r s : ℕ) → AreDistinct key → (Contains key r → ⊥) →

@@ -1,6 +1,7 @@
--- A product that fits and one that passes by one: H files with the rows p x1 >= 0 and q x2 >= 0.
--- The exchange of row 1 for x1
--- multiplies p, at (row 1, x1), and q, at (row 2, x2). 2^127 - 1 and 1 fit; 2^64 and 2^63 do not.
+-- A product that fits and one that passes by one: H files with the rows p x1 >= 0 and q x2 >= 0. The
+-- exchange of row 1 for x1 multiplies p, at (row 1, x1), and q, at (row 2, x2). 2^127 - 1 and 1 fit;
+-- 2^64 and 2^63 do not.
+use Rattle.dictionary_laws.proofs.PhasePoints.{phase_points}
 use Rattle.std.proofs.Common.{◌≡◌, ℕ, ◌<◌, ◌^◌, ◌-◌, List, [], ◌∷◌, ℤ, pos, ◌+ℤ◌, ◌*ℤ◌, refl, ap, subst, inl, arith}
 use Rattle.std.proofs.Common.{lit<}
 use Rattle.std.specs.Prelude.{◌≤ℤ◌, ◌<ℤ◌, ◌==◌, if◌then◌else◌, unsigned_abs}
@@ -14,12 +15,12 @@ use Rattle.poly_model.specs.declared.overflow.Phase.TheVariants.{Prepare}
 use Rattle.poly_model.specs.declared.overflow.Overflow.{Overflow}
 use Rattle.poly_model.specs.declared.overflow.Place.{Place}
 use Rattle.poly_model.specs.Systems.{Polyhedron}
-use Rattle.poly_model.specs.Spaces.{Space, IsInside, prepare_space}
+use Rattle.poly_model.specs.Spaces.{Space, IsInside, prepare_space, HasPoints}
 use Rattle.poly_model.specs.Dictionaries.{Table, IsCobasis, AreIndependent, Writes, IsDictionary, sum_over}
 use Rattle.poly_model.specs.Overflows.{Passes}
-use Rattle.dictionary_laws.specs.Points.{HasPoints}
 use Rattle.dictionary_laws.specs.Numbers.{Agree}
-use Rattle.dictionary_laws.proofs.Members.{contains_head, contains_tail, contains_none, by_cases}
+use Rattle.linear_laws.proofs.Members.{Contains-first, Contains-later, Contains-nil}
+use Rattle.dictionary_laws.proofs.Members.{by_cases}
 use Rattle.dictionary_laws.proofs.KnownValues.{row, three}
 use Rattle.dictionary_laws.proofs.SameLabels.{one_dictionary}
 
@@ -71,7 +72,7 @@ module _ (p q : ℕ) where
       by_cases P 1 (2 ∷ 8193 ∷ 8194 ∷ []) a
       (by_cases P 2 (8193 ∷ 8194 ∷ []) b
       (by_cases P 8193 (8194 ∷ []) c
-      (by_cases P 8194 [] d (λ i h. absurd (contains_none i h)))))
+      (by_cases P 8194 [] d (λ i h. absurd (Contains-nil i h)))))
 
   abbrev IsWritten : ℕ → Vector → Type 0
   IsWritten i y =
@@ -119,19 +120,19 @@ module _ (p q : ℕ) where
   only_zero a b c h k l = (omega (arith, ints), (omega (arith, ints), (omega (arith, ints), tt)))
 
   has_x1 : Contains ((space p q).labels) 8193
-  has_x1 = contains_tail 1 (2 ∷ 8193 ∷ 8194 ∷ []) 8193
-      (contains_tail 2 (8193 ∷ 8194 ∷ []) 8193 (contains_head 8193 (8194 ∷ [])))
+  has_x1 = Contains-later 8193 1 (2 ∷ 8193 ∷ 8194 ∷ [])
+      (Contains-later 8193 2 (8193 ∷ 8194 ∷ []) (Contains-first 8193 (8194 ∷ [])))
 
   has_x2 : Contains ((space p q).labels) 8194
-  has_x2 = contains_tail 1 (2 ∷ 8193 ∷ 8194 ∷ []) 8194
-      (contains_tail 2 (8193 ∷ 8194 ∷ []) 8194
-      (contains_tail 8193 (8194 ∷ []) 8194 (contains_head 8194 [])))
+  has_x2 = Contains-later 8194 1 (2 ∷ 8193 ∷ 8194 ∷ [])
+      (Contains-later 8194 2 (8193 ∷ 8194 ∷ [])
+      (Contains-later 8194 8193 (8194 ∷ []) (Contains-first 8194 [])))
 
   has_row_1 : Contains ((space p q).labels) 1
-  has_row_1 = contains_head 1 (2 ∷ 8193 ∷ 8194 ∷ [])
+  has_row_1 = Contains-first 1 (2 ∷ 8193 ∷ 8194 ∷ [])
 
   has_row_2 : Contains ((space p q).labels) 2
-  has_row_2 = contains_tail 1 (2 ∷ 8193 ∷ 8194 ∷ []) 2 (contains_head 2 (8193 ∷ 8194 ∷ []))
+  has_row_2 = Contains-later 2 1 (2 ∷ 8193 ∷ 8194 ∷ []) (Contains-first 2 (8193 ∷ 8194 ∷ []))
 
   cobasis : IsCobasis (space p q) key
   cobasis = record {
@@ -176,26 +177,27 @@ overflow = record {
 row_1_outside : Contains key 1 → ⊥
 row_1_outside c =
     by_cases (λ k. k ≡ 1 → ⊥) 8193 (8194 ∷ []) (λ e. omega arith)
-    (by_cases (λ k. k ≡ 1 → ⊥) 8194 [] (λ e. omega arith) (λ k d. absurd (contains_none k d))) 1 c refl
+    (by_cases (λ k. k ≡ 1 → ⊥) 8194 [] (λ e. omega arith) (λ k d. absurd (Contains-nil k d))) 1 c refl
 
 -- 2^64 and 2^63: their product is 2^127
 passes : Passes (file (2 ^ 64) (2 ^ 63)) overflow
 passes = record {
   space = space (2 ^ 64) (2 ^ 63);
   phase = refl;
+  point = (phase_points (file (2 ^ 64) (2 ^ 63))).prepare (omega arith);
   table = table (2 ^ 64) (2 ^ 63);
   dictionary = dictionary (2 ^ 64) (2 ^ 63);
   r = 1;
   s = 8193;
   outside = (has_row_1 (2 ^ 64) (2 ^ 63), row_1_outside);
-  inside = contains_head 8193 (8194 ∷ []);
+  inside = Contains-first 8193 (8194 ∷ []);
   nonzero = λ e. omega (arith, ap unsigned_abs e);
   places = inl (record {
     i = 2;
     j = 8194;
     row = has_row_2 (2 ^ 64) (2 ^ 63);
     other_row = λ e. omega arith;
-    column = inl (contains_tail 8193 (8194 ∷ []) 8194 (contains_head 8194 []));
+    column = inl (Contains-later 8194 8193 (8194 ∷ []) (Contains-first 8194 []));
     other_column = λ e. omega arith;
     a = (refl, refl);
     b = (refl, refl);
@@ -225,10 +227,10 @@ passes_not h =
     subst (λ (s : Space). IsDictionary s key h.table) h.phase h.dictionary in
     h.passes (crosses_along (pos (2 ^ 127 - 1)) (pos 1) (pos 0) (pos 0)
     (h.table.entry 1 8193) (h.table.entry 2 8194) (h.table.entry 2 8193) (h.table.entry 1 8194)
-    (entry_is h.table d 1 8193 (has_row_1 (2 ^ 127 - 1) 1) (contains_head 8193 (8194 ∷ [])))
+    (entry_is h.table d 1 8193 (has_row_1 (2 ^ 127 - 1) 1) (Contains-first 8193 (8194 ∷ [])))
     (entry_is h.table d 2 8194 (has_row_2 (2 ^ 127 - 1) 1)
-    (contains_tail 8193 (8194 ∷ []) 8194 (contains_head 8194 [])))
-    (entry_is h.table d 2 8193 (has_row_2 (2 ^ 127 - 1) 1) (contains_head 8193 (8194 ∷ [])))
+    (Contains-later 8194 8193 (8194 ∷ []) (Contains-first 8194 [])))
+    (entry_is h.table d 2 8193 (has_row_2 (2 ^ 127 - 1) 1) (Contains-first 8193 (8194 ∷ [])))
     (entry_is h.table d 1 8194 (has_row_1 (2 ^ 127 - 1) 1)
-    (contains_tail 8193 (8194 ∷ []) 8194 (contains_head 8194 [])))
+    (Contains-later 8194 8193 (8194 ∷ []) (Contains-first 8194 [])))
     fits)

@@ -1,6 +1,5 @@
 -- A dictionary known by hand: of the H file with the rows 1 + 2 x1 - 3 x2 >= 0 and x2 >= 0, after
--- row 1 has taken
--- the place of x1:
+-- row 1 has taken the place of x1:
 --
 --     2 x1 = -1 + 1 row1 + 3 x2        2 row2 = 2 x2
 --
@@ -15,7 +14,8 @@ use Rattle.poly_model.specs.declared.kind.Kind.TheVariants.{H}
 use Rattle.poly_model.specs.Systems.{Polyhedron, FileRow}
 use Rattle.poly_model.specs.Spaces.{Space, IsInside, IsDirection, prepare_space}
 use Rattle.poly_model.specs.Dictionaries.{Table, IsCobasis, AreIndependent, Writes, IsDictionary, sum_over}
-use Rattle.dictionary_laws.proofs.Members.{contains_head, contains_tail, contains_none, by_cases}
+use Rattle.linear_laws.proofs.Members.{Contains-first, Contains-later, Contains-nil}
+use Rattle.dictionary_laws.proofs.Members.{by_cases}
 
 abbrev pub row : Vector → FileRow
 row entries = record { entries = entries; linear = false }
@@ -63,7 +63,7 @@ each_label P p q r s =
     by_cases P 1 (2 ∷ 8193 ∷ 8194 ∷ []) p
     (by_cases P 2 (8193 ∷ 8194 ∷ []) q
     (by_cases P 8193 (8194 ∷ []) r
-    (by_cases P 8194 [] s (λ i c. absurd (contains_none i c)))))
+    (by_cases P 8194 [] s (λ i c. absurd (Contains-nil i c)))))
 
 abbrev IsWritten : Table → ℕ → Vector → Type 0
 IsWritten t i y =
@@ -109,11 +109,11 @@ only_zero a b c h k l = (omega (arith, ints), (omega (arith, ints), (omega (arit
 cobasis : IsCobasis space key
 cobasis = record {
   labels = All-from_recursion (Contains space.labels) key (
-    contains_head 1 (2 ∷ 8193 ∷ 8194 ∷ []),
+    Contains-first 1 (2 ∷ 8193 ∷ 8194 ∷ []),
     (
-      contains_tail 1 (2 ∷ 8193 ∷ 8194 ∷ []) 8194
-          (contains_tail 2 (8193 ∷ 8194 ∷ []) 8194
-          (contains_tail 8193 (8194 ∷ []) 8194 (contains_head 8194 []))),
+      Contains-later 8194 1 (2 ∷ 8193 ∷ 8194 ∷ [])
+          (Contains-later 8194 2 (8193 ∷ 8194 ∷ [])
+          (Contains-later 8194 8193 (8194 ∷ []) (Contains-first 8194 []))),
       tt,
     ),
   );
@@ -137,8 +137,8 @@ dictionary = record {
   least = λ u w.
       even_positive u.denominator (u.constant 8193) (u.entry 8193 1) (u.entry 8193 8194) w.positive
       (w.values 8193
-      (contains_tail 1 (2 ∷ 8193 ∷ 8194 ∷ []) 8193
-      (contains_tail 2 (8193 ∷ 8194 ∷ []) 8193 (contains_head 8193 (8194 ∷ []))))
+      (Contains-later 8193 1 (2 ∷ 8193 ∷ 8194 ∷ [])
+      (Contains-later 8193 2 (8193 ∷ 8194 ∷ []) (Contains-first 8193 (8194 ∷ []))))
       (pos 0 ∷ pos 1 ∷ pos 0 ∷ []) (record { width = refl; fixed = tt }));
 }
 

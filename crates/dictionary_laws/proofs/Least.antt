@@ -12,9 +12,8 @@ use Rattle.poly_num.specs.Divisors.{gcd_of}
 use Rattle.poly_num.proofs.Ring.{lin, mul_comm, mul_one}
 use Rattle.poly_num.proofs.Order.{zero_factor, keeps_order}
 use Rattle.poly_num.proofs.DivisorLemmas.{gcd_of_is, gcd_same, gcd_of-times, gcd_positive, coprime_left, quotient_times}
-use Rattle.poly_model.specs.Spaces.{Space}
+use Rattle.poly_model.specs.Spaces.{Space, HasPoints}
 use Rattle.poly_model.specs.Dictionaries.{Table, IsCobasis, Writes, IsDictionary}
-use Rattle.dictionary_laws.specs.Points.{HasPoints}
 use Rattle.dictionary_laws.specs.Numbers.{IsOwnRow, DividesNumbers, DividesOutside, ArePrimitive, IsGcdOfNumbers, divided}
 use Rattle.dictionary_laws.proofs.Members.{contains_or}
 use Rattle.dictionary_laws.proofs.Values.{own_row, entries_proportional, constants_proportional}

@@ -11,7 +11,6 @@ pub mod Origins
 pub mod Existence
 pub mod NewCobasis
 pub mod NewNumbers
-pub mod NullVectors
 pub mod Starts
 pub mod KeyExchange
 pub mod PhasePoints

@@ -1,24 +1,15 @@
 -- Members of a list of labels, lists whose labels stand once, and sums over them.
-use Rattle.std.proofs.Common.{◌≡◌, ◌≢◌, ℕ, zero, suc, ◌⊎◌, Bool, true, false, cond, List, [], ◌∷◌, ℤ, pos, ◌+ℤ◌, ◌*ℤ◌, refl, sym, ap, subst, ◌∙◌, inl, inr, ⊎_elim, arith}
+use Rattle.std.proofs.Common.{◌≡◌, ◌≢◌, ℕ, ◌⊎◌, Bool, true, false, cond, List, [], ◌∷◌, ℤ, pos, ◌+ℤ◌, ◌*ℤ◌, refl, sym, ap, subst, ◌∙◌, inl, inr, ⊎_elim, arith}
 use Rattle.std.specs.Prelude.{◌==◌, if◌then◌else◌}
 use Rattle.std.specs.List.{AllByRecursion, Contains}
 use Rattle.std.proofs.lemmas.Bool.{eqb-true, eqb-false, cases_eq}
 use Rattle.poly_num.proofs.Ring.{expand, lin, mul_zero}
 use Rattle.poly_model.specs.Dictionaries.{sum_over}
+use Rattle.linear_laws.proofs.Members.{Contains-nil, Contains-first, Contains-later, Contains-cons_cases}
 use Rattle.dictionary_laws.specs.Keys.{AreDistinct, HaveSameLabels}
 
-pub contains_head : (k : ℕ) (ks : List ℕ) → Contains (k ∷ ks) k
-contains_head k ks = (zero, omega arith, refl)
-
-pub contains_tail : (x : ℕ) (ks : List ℕ) (k : ℕ) → Contains ks k → Contains (x ∷ ks) k
-contains_tail x ks k (n, l, e) = (suc n, omega arith, e)
-
 pub contains_cases : (x : ℕ) (ks : List ℕ) (k : ℕ) → Contains (x ∷ ks) k → (k ≡ x) ⊎ Contains ks k
-contains_cases x ks k (zero, l, e) = inl (sym e)
-contains_cases x ks k (suc n, l, e) = inr (n, omega arith, e)
-
-pub contains_none : (k : ℕ) → Contains [] k → ⊥
-contains_none k (n, l, e) = omega arith
+contains_cases x ks k c = ⊎_elim (λ (e : x ≡ k). inl (sym e)) (λ (d : Contains ks k). inr d) (Contains-cons_cases k x ks c)
 
 -- a fact of each label of a list, where it holds at the first and at all others
 pub by_cases : (P : ℕ → Type 0) (x : ℕ) (ks : List ℕ) → P x → ((k : ℕ) → Contains ks k → P k) →
@@ -27,22 +18,18 @@ by_cases P x ks p rest k h =
     ⊎_elim (λ (e : k ≡ x). subst P (sym e) p) (λ (c : Contains ks k). rest k c)
     (contains_cases x ks k h)
 
-pub all_at : (P : ℕ → Type 0) (ks : List ℕ) → AllByRecursion P ks → (k : ℕ) → Contains ks k → P k
-all_at P [] h k c = absurd (contains_none k c)
-all_at P (x ∷ ks) h k c = by_cases P x ks h.0 (all_at P ks h.1) k c
-
 pub all_from : (P : ℕ → Type 0) (ks : List ℕ) → ((k : ℕ) → Contains ks k → P k) → AllByRecursion P ks
 all_from P [] f = tt
-all_from P (x ∷ ks) f = (f x (contains_head x ks), all_from P ks (λ k c. f k (contains_tail x ks k c)))
+all_from P (x ∷ ks) f = (f x (Contains-first x ks), all_from P ks (λ k c. f k (Contains-later k x ks c)))
 
 pub contains_or : (ks : List ℕ) (k : ℕ) → Contains ks k ⊎ (Contains ks k → ⊥)
-contains_or [] k = inr (contains_none k)
+contains_or [] k = inr (Contains-nil k)
 contains_or (x ∷ ks) k =
     ⊎_elim
-    (λ (e : k ≡ x). inl (subst (λ (j : ℕ). Contains (j ∷ ks) k) e (contains_head k ks)))
+    (λ (e : k ≡ x). inl (subst (λ (j : ℕ). Contains (j ∷ ks) k) e (Contains-first k ks)))
     (λ (n : k ≡ x → ⊥).
     ⊎_elim
-    (λ (c : Contains ks k). inl (contains_tail x ks k c))
+    (λ (c : Contains ks k). inl (Contains-later k x ks c))
     (λ (m : Contains ks k → ⊥). inr (λ c. ⊎_elim n m (contains_cases x ks k c)))
     (contains_or ks k))
     (cases_eq k x)
@@ -61,24 +48,24 @@ without_step P s x ks f g = by (x == s) refl
     by false e = g (eqb-false x s e)
 
 pub without_only : (s : ℕ) (ks : List ℕ) (k : ℕ) → Contains (without s ks) k → Contains ks k × (k ≢ s)
-without_only s [] k c = absurd (contains_none k c)
+without_only s [] k c = absurd (Contains-nil k c)
 without_only s (x ∷ ks) k c =
     without_step (λ (l : List ℕ). Contains l k → Contains (x ∷ ks) k × (k ≢ s)) s x ks
-    (λ e d. let h = without_only s ks k d in (contains_tail x ks k h.0, h.1))
+    (λ e d. let h = without_only s ks k d in (Contains-later k x ks h.0, h.1))
     (λ n d. by_cases (λ (j : ℕ). Contains (x ∷ ks) j × (j ≢ s)) x (without s ks)
-    (contains_head x ks, n)
-    (λ j i. let h = without_only s ks j i in (contains_tail x ks j h.0, h.1)) k d)
+    (Contains-first x ks, n)
+    (λ j i. let h = without_only s ks j i in (Contains-later j x ks h.0, h.1)) k d)
     c
 
 pub without_kept : (s : ℕ) (ks : List ℕ) (k : ℕ) → Contains ks k → k ≢ s → Contains (without s ks) k
-without_kept s [] k c n = absurd (contains_none k c)
+without_kept s [] k c n = absurd (Contains-nil k c)
 without_kept s (x ∷ ks) k c n =
     without_step (λ (l : List ℕ). Contains l k) s x ks
     (λ e. ⊎_elim (λ (f : k ≡ x). absurd (n (f ∙ e))) (λ (d : Contains ks k). without_kept s ks k d n)
     (contains_cases x ks k c))
     (λ m. ⊎_elim
-    (λ (f : k ≡ x). subst (λ (j : ℕ). Contains (j ∷ without s ks) k) f (contains_head k (without s ks)))
-    (λ (d : Contains ks k). contains_tail x (without s ks) k (without_kept s ks k d n))
+    (λ (f : k ≡ x). subst (λ (j : ℕ). Contains (j ∷ without s ks) k) f (Contains-first k (without s ks)))
+    (λ (d : Contains ks k). Contains-later k x (without s ks) (without_kept s ks k d n))
     (contains_cases x ks k c))
 
 pub distinct_without : (s : ℕ) (ks : List ℕ) → AreDistinct ks → AreDistinct (without s ks)
@@ -93,24 +80,24 @@ pub without_none : (s : ℕ) (ks : List ℕ) → (Contains ks s → ⊥) → wit
 without_none s [] n = refl
 without_none s (x ∷ ks) n =
     without_step (λ (l : List ℕ). l ≡ x ∷ ks) s x ks
-    (λ e. absurd (n (subst (λ (j : ℕ). Contains (x ∷ ks) j) e (contains_head x ks))))
-    (λ m. ap (λ l. x ∷ l) (without_none s ks (λ c. n (contains_tail x ks s c))))
+    (λ e. absurd (n (subst (λ (j : ℕ). Contains (x ∷ ks) j) e (Contains-first x ks))))
+    (λ m. ap (λ l. x ∷ l) (without_none s ks (λ c. n (Contains-later s x ks c))))
 
 -- sums
 pub sum_same : (ks : List ℕ) (f g : ℕ → ℤ) → ((k : ℕ) → Contains ks k → f k ≡ g k) →
     sum_over ks f ≡ sum_over ks g
 sum_same [] f g h = refl
 sum_same (x ∷ ks) f g h =
-    let a = h x (contains_head x ks) in
-    let b = sum_same ks f g (λ k c. h k (contains_tail x ks k c)) in
+    let a = h x (Contains-first x ks) in
+    let b = sum_same ks f g (λ k c. h k (Contains-later k x ks c)) in
     cc
 
 pub sum_zero : (ks : List ℕ) (f : ℕ → ℤ) → ((k : ℕ) → Contains ks k → f k ≡ pos 0) →
     sum_over ks f ≡ pos 0
 sum_zero [] f h = refl
 sum_zero (x ∷ ks) f h =
-    let a = h x (contains_head x ks) in
-    let b = sum_zero ks f (λ k c. h k (contains_tail x ks k c)) in
+    let a = h x (Contains-first x ks) in
+    let b = sum_zero ks f (λ k c. h k (Contains-later k x ks c)) in
     omega (arith, lin)
 
 pub sum-scale : (p : ℤ) (ks : List ℕ) (f : ℕ → ℤ) → sum_over ks (λ k. p *ℤ f k) ≡ p *ℤ sum_over ks f
@@ -125,7 +112,7 @@ sum-add (x ∷ ks) f g = let h = sum-add ks f g in omega (arith, lin)
 -- one label's term, and those of the others
 pub sum_without : (s : ℕ) (ks : List ℕ) (f : ℕ → ℤ) → AreDistinct ks → Contains ks s →
     sum_over ks f ≡ f s +ℤ sum_over (without s ks) f
-sum_without s [] f h c = absurd (contains_none s c)
+sum_without s [] f h c = absurd (Contains-nil s c)
 sum_without s (x ∷ ks) f h c =
     without_step (λ (l : List ℕ). sum_over (x ∷ ks) f ≡ f s +ℤ sum_over l f) s x ks
     (λ e. let n = subst (λ (j : ℕ). Contains ks j → ⊥) e h.0 in
@@ -147,11 +134,11 @@ pub sum_members : (ks ls : List ℕ) (f : ℕ → ℤ) → AreDistinct ks → Ar
     HaveSameLabels ks ls →
     sum_over ks f ≡ sum_over ls f
 sum_members [] [] f h g m = refl
-sum_members [] (y ∷ ls) f h g m = absurd (contains_none y (m.back y (contains_head y ls)))
+sum_members [] (y ∷ ls) f h g m = absurd (Contains-nil y (m.back y (Contains-first y ls)))
 sum_members (x ∷ ks) ls f h g m =
-    let a = sum_without x ls f g (m.there x (contains_head x ks)) in
+    let a = sum_without x ls f g (m.there x (Contains-first x ks)) in
     let b = sum_members ks (without x ls) f h.1 (distinct_without x ls g) (record {
-      there = λ k c. without_kept x ls k (m.there k (contains_tail x ks k c))
+      there = λ k c. without_kept x ls k (m.there k (Contains-later k x ks c))
           (λ e. h.0 (subst (λ (j : ℕ). Contains ks j) e c));
       back = λ k c. let d = without_only x ls k c in
           ⊎_elim (λ (e : k ≡ x). absurd (d.1 e)) (λ (i : Contains ks k). i)

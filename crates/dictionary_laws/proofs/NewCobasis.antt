@@ -1,27 +1,23 @@
 -- Where one label of a cobasis can be exchanged for another, the new labels are a cobasis; and only
 -- there.
-use Rattle.std.proofs.Common.{◌≡◌, ◌≢◌, ℕ, List, [], ℤ, pos, ◌+ℤ◌, ◌*ℤ◌, neg_ℤ, sym, ap, subst, ◌∙◌, ⊎_elim, arith}
+use Rattle.std.proofs.Common.{◌≡◌, ◌≢◌, ℕ, List, [], ℤ, pos, ◌*ℤ◌, neg_ℤ, sym, ap, subst, ◌∙◌, ⊎_elim}
 use Rattle.std.specs.Prelude.{◌<ℤ◌}
 use Rattle.std.specs.List.{Contains}
 use Rattle.std.proofs.lemmas.Bool.{cases_eq}
 use Rattle.std.proofs.lemmas.List.Elements.{All-from_recursion}
 use Rattle.poly_num.specs.Vectors.{Vector, ◌·◌}
-use Rattle.poly_num.proofs.Ring.{expand, lin, zero_mul}
+use Rattle.poly_num.proofs.Ring.{zero_mul}
 use Rattle.poly_num.proofs.Order.{zero_factor, mul_nonzero, positive_nonzero}
 use Rattle.poly_model.specs.Spaces.{Space, IsDirection}
 use Rattle.poly_model.specs.Dictionaries.{Table, IsCobasis, Writes}
 use Rattle.dictionary_laws.specs.Keys.{Exchanges}
 use Rattle.dictionary_laws.specs.Exchange.{CanExchange}
-use Rattle.dictionary_laws.proofs.Members.{contains_none, all_at, all_from}
-use Rattle.dictionary_laws.proofs.Directions.{combined, dot-combined, zero_at, direction_combined}
+use Rattle.linear_laws.proofs.Members.{Contains-nil, all_at}
+use Rattle.dictionary_laws.proofs.Members.{all_from}
+use Rattle.linear_laws.proofs.Combinations.{combination, dot-combination}
+use Rattle.dictionary_laws.proofs.Directions.{times_zero, cancels, cleared_value, zero_at, direction_combination}
 use Rattle.dictionary_laws.proofs.Duals.{Dual, dual_of, independent}
-use Rattle.dictionary_laws.proofs.Values.{is_label, value_along, times_zero}
-
-cancels : (v x : ℤ) → v *ℤ x +ℤ neg_ℤ x *ℤ v ≡ pos 0
-cancels v x = simp expand (omega (arith, lin))
-
-cleared_value : (v x a b : ℤ) → b ≡ pos 0 → v *ℤ a +ℤ neg_ℤ x *ℤ b ≡ v *ℤ a
-cleared_value v x a b e = let f = times_zero (neg_ℤ x) b e in omega (arith, lin)
+use Rattle.dictionary_laws.proofs.Values.{is_label, value_along}
 
 moved_nonzero : (d x e v : ℤ) → d *ℤ x ≡ e *ℤ v → e ≢ pos 0 → v ≢ pos 0 → x ≢ pos 0
 moved_nonzero d x e v h m n z = mul_nonzero e v m n (sym h ∙ times_zero d x z)
@@ -54,22 +50,22 @@ module _ (space : Space) (key new : List ℕ) (t : Table) (r s : ℕ) (cobasis :
   entering_dual = record {
     vector = leaving.vector;
     direction = leaving.direction;
-    before = λ i c. absurd (contains_none i c);
+    before = λ i c. absurd (Contains-nil i c);
     here = entering_nonzero;
     elsewhere = λ j c n. let h = stays j c n in leaving.elsewhere j h.0 h.1;
   }
 
   staying_dual : (k : ℕ) → Contains new k → k ≢ r → Dual space [] key k → Dual space [] new k
   staying_dual k c n d = record {
-    vector = combined v d.vector (neg_ℤ a) leaving.vector;
-    direction = direction_combined space v d.vector
+    vector = combination v d.vector (neg_ℤ a) leaving.vector;
+    direction = direction_combination space v d.vector
         (neg_ℤ a) leaving.vector d.direction leaving.direction;
-    before = λ i h. absurd (contains_none i h);
+    before = λ i h. absurd (Contains-nil i h);
     here = λ e. mul_nonzero v (space.form k · d.vector) entering_nonzero d.here (sym own ∙ e);
     elsewhere = λ j i m. ⊎_elim
         (λ (e : j ≡ r). subst
-        (λ (l : ℕ). space.form l · combined v d.vector (neg_ℤ a) leaving.vector ≡ pos 0) (sym e)
-        (dot-combined (space.form r) v d.vector (neg_ℤ a) leaving.vector ∙ cancels v a))
+        (λ (l : ℕ). space.form l · combination v d.vector (neg_ℤ a) leaving.vector ≡ pos 0) (sym e)
+        (dot-combination (space.form r) v d.vector (neg_ℤ a) leaving.vector ∙ cancels v a))
         (λ (o : j ≡ r → ⊥). let g = stays j i o in
         zero_at (space.form j) v d.vector (neg_ℤ a) leaving.vector (d.elsewhere j g.0 m)
         (leaving.elsewhere j g.0 g.1))
@@ -82,8 +78,8 @@ module _ (space : Space) (key new : List ℕ) (t : Table) (r s : ℕ) (cobasis :
       a : ℤ
       a = space.form r · d.vector
 
-      own : space.form k · combined v d.vector (neg_ℤ a) leaving.vector ≡ v *ℤ (space.form k · d.vector)
-      own = dot-combined (space.form k) v d.vector (neg_ℤ a) leaving.vector
+      own : space.form k · combination v d.vector (neg_ℤ a) leaving.vector ≡ v *ℤ (space.form k · d.vector)
+      own = dot-combination (space.form k) v d.vector (neg_ℤ a) leaving.vector
           ∙ cleared_value v a (space.form k · d.vector) (space.form k · leaving.vector)
           (let h = stays k c n in leaving.elsewhere k h.0 h.1)
 

@@ -28,7 +28,8 @@ turn (negsuc n) = record { factor = negsuc 0; is = λ x. omega (arith, ints) }
 turned_positive : (d e : ℤ) → pos 0 <ℤ d → e ≢ pos 0 → pos 0 <ℤ turned_by e (d *ℤ e)
 turned_positive d (pos zero) h n = absurd (n refl)
 turned_positive d (pos (suc m)) h n = positive_product d (pos (suc m)) h (omega (arith, ints))
-turned_positive d (negsuc m) h n = let k = positive_product d (pos (suc m)) h (omega (arith, ints)) in
+turned_positive d (negsuc m) h n =
+    let k = positive_product d (pos (suc m)) h (omega (arith, ints)) in
     omega (arith, ints)
 
 -- row i with row r solved for s put into it; o is the sign

@@ -7,9 +7,8 @@ use Rattle.poly_num.specs.Vectors.{Vector, ◌·◌, scale}
 use Rattle.poly_num.proofs.Ring.{expand, lin}
 use Rattle.poly_num.proofs.Order.{positive_product}
 use Rattle.poly_num.proofs.VectorLemmas.{dot-scale}
-use Rattle.poly_model.specs.Spaces.{Space, IsInside}
+use Rattle.poly_model.specs.Spaces.{Space, IsInside, HasPoints}
 use Rattle.poly_model.specs.Dictionaries.{IsCobasis, sum_over}
-use Rattle.dictionary_laws.specs.Points.{HasPoints}
 use Rattle.dictionary_laws.proofs.Directions.{inside_scale, spread, dot-spread}
 use Rattle.dictionary_laws.proofs.Columns.{Columns, columns, shares, square_positive, level_sum, own_sum, inside_columns}
 

@@ -2,14 +2,14 @@
 use Rattle.std.proofs.Common.{◌≡◌, ℕ, zero, suc, ◌<◌, List, [], ◌∷◌, ℤ, pos, ◌+ℤ◌, ◌*ℤ◌, map, sym, ap, ◌∙◌, arith}
 use Rattle.std.proofs.lemmas.Int.{ints}
 use Rattle.poly_num.specs.Vectors.{Vector, ◌·◌}
-use Rattle.poly_num.proofs.VectorLemmas.{dot-zero}
 use Rattle.poly_model.specs.declared.kind.Kind.{Kind}
 use Rattle.poly_model.specs.declared.kind.Kind.TheVariants.{H, V}
 use Rattle.poly_model.specs.Independence.{Vanish}
 use Rattle.poly_model.specs.Systems.{Row, Polyhedron}
-use Rattle.poly_model.specs.Spaces.{Space, IsInside, in_front, with_constants, without_constants, cut_space, lifted}
-use Rattle.dictionary_laws.specs.Points.{HasPoints, ArePhasePoints}
-use Rattle.dictionary_laws.proofs.NullVectors.{zero_of, length-zero_of, IsZero-zero_of}
+use Rattle.poly_model.specs.Spaces.{Space, IsInside, in_front, with_constants, without_constants, cut_space, lifted, HasPoints}
+use Rattle.dictionary_laws.specs.Points.{ArePhasePoints}
+use Rattle.dictionary_laws.proofs.Directions.{vanish_zero}
+use Rattle.linear_laws.proofs.Entries.{zeros, length-zeros, IsZero-zeros}
 
 front_zero : (a x : ℤ) → x ≡ pos 0 → pos 0 *ℤ a +ℤ x ≡ pos 0
 front_zero a x e = omega (arith, ints)
@@ -20,25 +20,21 @@ vanish_in_front : (gs : List Vector) (a : ℤ) (v : Vector) → Vanish gs v →
 vanish_in_front [] a v h = tt
 vanish_in_front (g ∷ gs) a v h = (front_zero a (g · v) h.0, vanish_in_front gs a v h.1)
 
-vanish_zeros : (gs : List Vector) (n : ℕ) → Vanish gs (zero_of n)
-vanish_zeros [] n = tt
-vanish_zeros (g ∷ gs) n = (dot-zero g (zero_of n) (IsZero-zero_of n), vanish_zeros gs n)
-
 point_with_constants : (n : ℕ) (rows : List Row) → 0 < n → HasPoints (with_constants n [] rows)
 point_with_constants zero rows l = absurd (omega arith)
 point_with_constants (suc n) rows l = record {
-  vector = pos 1 ∷ zero_of n;
-  inside = record { width = ap suc (length-zero_of n); fixed = tt };
+  vector = pos 1 ∷ zeros n;
+  inside = record { width = ap suc (length-zeros n); fixed = tt };
   finite = λ e. omega (arith, ints, e);
 }
 
 point_without_constants : (n : ℕ) (fixed : List Vector) (rows : List Row) →
     HasPoints (without_constants n fixed rows)
 point_without_constants n fixed rows = record {
-  vector = pos 1 ∷ zero_of n;
+  vector = pos 1 ∷ zeros n;
   inside = record {
-    width = ap suc (length-zero_of n);
-    fixed = vanish_in_front fixed (pos 1) (zero_of n) (vanish_zeros fixed n);
+    width = ap suc (length-zeros n);
+    fixed = vanish_in_front fixed (pos 1) (zeros n) (vanish_zero fixed (zeros n) (IsZero-zeros n));
   };
   finite = λ e. omega (arith, ints, e);
 }

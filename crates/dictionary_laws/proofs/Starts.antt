@@ -1,41 +1,15 @@
 -- The start cobasis is there, is one, and is a cobasis where no direction but 0 is 0 on all rows.
-use Rattle.std.proofs.Common.{◌≡◌, ℕ, Bool, true, false, cond, List, [], ◌∷◌, pos, map, length, refl, sym, ap, subst, ◌∙◌, ⊎_elim}
+use Rattle.std.proofs.Common.{◌≡◌, ℕ, Bool, true, false, cond, List, [], ◌∷◌, pos, map, length, refl, sym, ap, subst, ◌∙◌}
 use Rattle.std.specs.List.{AllByRecursion, Contains, filter}
 use Rattle.std.proofs.lemmas.List.Elements.{All-from_recursion}
 use Rattle.poly_num.specs.Vectors.{Vector, ◌·◌}
-use Rattle.poly_model.specs.Independence.{Vanish, Follows, IsNew, IsFirstBasis}
+use Rattle.poly_model.specs.Independence.{Vanish, IsFirstBasis}
 use Rattle.poly_model.specs.Spaces.{Space, IsInside, IsDirection, is_row, marked, IsStartCobasis}
 use Rattle.poly_model.specs.Dictionaries.{AreIndependent, IsCobasis}
 use Rattle.dictionary_laws.specs.Points.{RowsDetermine}
-use Rattle.dictionary_laws.proofs.Members.{contains_head, contains_tail, contains_none, by_cases, all_from}
-use Rattle.dictionary_laws.proofs.NullVectors.{new_or_follows}
-
-first_basis : (n : ℕ) (before rows : List Vector) →
-    (marks : List Bool) × IsFirstBasis n before rows marks
-first_basis n before [] = ([], tt)
-first_basis n before (g ∷ rows) =
-    ⊎_elim
-    (λ (w : IsNew n before g). let h = first_basis n (g ∷ before) rows in (true ∷ h.0, (w, h.1)))
-    (λ (f : Follows n before g). let h = first_basis n before rows in (false ∷ h.0, (f, h.1)))
-    (new_or_follows n before g)
-
-not_both : (n : ℕ) (before : List Vector) (g : Vector) → IsNew n before g → Follows n before g → ⊥
-not_both n before g w f = w.3 (f w.0 w.1 w.2)
-
-one_first_basis : (n : ℕ) (before rows : List Vector) (ms ns : List Bool) →
-    IsFirstBasis n before rows ms → IsFirstBasis n before rows ns → ms ≡ ns
-one_first_basis n before [] [] [] h k = refl
-one_first_basis n before [] (m ∷ ms) ns h k = absurd h
-one_first_basis n before [] [] (m ∷ ns) h k = absurd k
-one_first_basis n before (g ∷ rows) [] ns h k = absurd h
-one_first_basis n before (g ∷ rows) (true ∷ ms) [] h k = absurd k
-one_first_basis n before (g ∷ rows) (false ∷ ms) [] h k = absurd k
-one_first_basis n before (g ∷ rows) (true ∷ ms) (true ∷ ns) h k =
-    ap (λ l. true ∷ l) (one_first_basis n (g ∷ before) rows ms ns h.1 k.1)
-one_first_basis n before (g ∷ rows) (false ∷ ms) (false ∷ ns) h k =
-    ap (λ l. false ∷ l) (one_first_basis n before rows ms ns h.1 k.1)
-one_first_basis n before (g ∷ rows) (true ∷ ms) (false ∷ ns) h k = absurd (not_both n before g h.0 k.0)
-one_first_basis n before (g ∷ rows) (false ∷ ms) (true ∷ ns) h k = absurd (not_both n before g k.0 h.0)
+use Rattle.linear_laws.proofs.Members.{Contains-first, Contains-later, Contains-nil}
+use Rattle.dictionary_laws.proofs.Members.{by_cases, all_from}
+use Rattle.linear_laws.proofs.FirstBases.{first_basis, first_unique}
 
 filter_within : (test : ℕ → Bool) (ks : List ℕ) (k : ℕ) → Contains (filter test ks) k → Contains ks k
 filter_within test [] k c = c
@@ -44,17 +18,17 @@ filter_within test (x ∷ ks) k c = by (filter_within test ks) (test x) c
     by : ((j : ℕ) → Contains (filter test ks) j → Contains ks j) →
         (b : Bool) → Contains (cond b (x ∷ filter test ks) (filter test ks)) k → Contains (x ∷ ks) k
     by within true d =
-        by_cases (Contains (x ∷ ks)) x (filter test ks) (contains_head x ks)
-        (λ j i. contains_tail x ks j (within j i)) k d
-    by within false d = contains_tail x ks k (within k d)
+        by_cases (Contains (x ∷ ks)) x (filter test ks) (Contains-first x ks)
+        (λ j i. Contains-later j x ks (within j i)) k d
+    by within false d = Contains-later k x ks (within k d)
 
 marked_within : (ks : List ℕ) (ms : List Bool) (k : ℕ) → Contains (marked ks ms) k → Contains ks k
 marked_within [] ms k c = c
-marked_within (x ∷ ks) [] k c = absurd (contains_none k c)
+marked_within (x ∷ ks) [] k c = absurd (Contains-nil k c)
 marked_within (x ∷ ks) (true ∷ ms) k c =
-    by_cases (Contains (x ∷ ks)) x (marked ks ms) (contains_head x ks)
-    (λ j i. contains_tail x ks j (marked_within ks ms j i)) k c
-marked_within (x ∷ ks) (false ∷ ms) k c = contains_tail x ks k (marked_within ks ms k c)
+    by_cases (Contains (x ∷ ks)) x (marked ks ms) (Contains-first x ks)
+    (λ j i. Contains-later j x ks (marked_within ks ms j i)) k c
+marked_within (x ∷ ks) (false ∷ ms) k c = Contains-later k x ks (marked_within ks ms k c)
 
 module _ (space : Space) where
   -- vectors at which the rows are 0 are directions at which the labels are
@@ -109,7 +83,7 @@ module _ (space : Space) where
   one_start start other h k =
       h.taken
       ∙ ap (λ ms. marked (filter is_row space.labels) ms)
-      (one_first_basis space.n (space.infinity ∷ space.fixed)
+      (first_unique space.n (space.infinity ∷ space.fixed)
       (map space.form (filter is_row space.labels)) h.marks k.marks h.first k.first)
       ∙ sym k.taken
 

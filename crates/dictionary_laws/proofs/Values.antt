@@ -6,11 +6,11 @@ use Rattle.std.proofs.lemmas.List.Elements.{All-contains}
 use Rattle.poly_num.specs.Vectors.{Vector, ◌·◌}
 use Rattle.poly_num.proofs.Ring.{expand, lin, mul_zero, mul_comm}
 use Rattle.poly_num.proofs.Order.{zero_factor, cancel}
-use Rattle.poly_model.specs.Spaces.{Space, IsDirection}
+use Rattle.poly_model.specs.Spaces.{Space, IsDirection, HasPoints}
 use Rattle.poly_model.specs.Dictionaries.{Table, IsCobasis, Writes, sum_over}
-use Rattle.dictionary_laws.specs.Points.{HasPoints}
 use Rattle.dictionary_laws.specs.Numbers.{IsOwnRow}
 use Rattle.dictionary_laws.proofs.Members.{sum_same, sum-scale, sum_single}
+use Rattle.dictionary_laws.proofs.Directions.{times_zero, zero_times}
 use Rattle.dictionary_laws.proofs.Duals.{Dual, dual_of, distinct}
 
 -- the terms of row i at y, by the label of their column
@@ -20,9 +20,6 @@ terms space t i y k = t.entry i k *ℤ (space.form k · y)
 -- a value at infinity of 0 leaves the sum
 level_value : (c x s v : ℤ) → x ≡ pos 0 → v ≡ c *ℤ x +ℤ s → v ≡ s
 level_value c x s v e f = let a = ap (λ (t : ℤ). c *ℤ t) e ∙ mul_zero c in omega (arith, lin)
-
-pub times_zero : (a x : ℤ) → x ≡ pos 0 → a *ℤ x ≡ pos 0
-times_zero a x e = ap (λ (t : ℤ). a *ℤ t) e ∙ mul_zero a
 
 same_factor : (d e v : ℤ) → v ≢ pos 0 → d *ℤ v ≡ e *ℤ v → e ≡ d
 same_factor d e v n h = cancel v e d n (mul_comm v e ∙ sym h ∙ mul_comm d v)
@@ -75,12 +72,14 @@ module _ (space : Space) (key : List ℕ) (cobasis : IsCobasis space key) where
   own_row t w k c = record { here = here k c; elsewhere = apart; constant = constant }
     where
       here : (j : ℕ) → Contains key j → t.entry j j ≡ t.denominator
-      here j i = let d = dual_of space key cobasis j i in
+      here j i =
+          let d = dual_of space key cobasis j i in
           same_factor t.denominator (t.entry j j) (space.form j · d.vector) d.here
           (value_at t w j (is_label j i) j i d)
 
       apart : (j : ℕ) → Contains key j → j ≢ k → t.entry k j ≡ pos 0
-      apart j i n = let d = dual_of space key cobasis j i in
+      apart j i n =
+          let d = dual_of space key cobasis j i in
           no_factor t.denominator (t.entry k j) (space.form j · d.vector)
           (space.form k · d.vector) d.here
           (d.elsewhere k c (λ e. n (sym e))) (value_at t w k (is_label k c) j i d)
@@ -92,8 +91,7 @@ module _ (space : Space) (key : List ℕ) (cobasis : IsCobasis space key) where
           (sum_over key (terms space t k p.vector)) p.finite
           (w.values k (is_label k c) p.vector p.inside)
           (sum_single k key (terms space t k p.vector) (distinct space key cobasis) c
-          (λ j i n. sym (ap (λ (z : ℤ). z *ℤ (space.form j · p.vector)) (sym (apart j i n)))
-          ∙ mul_comm (pos 0) (space.form j · p.vector) ∙ mul_zero (space.form j · p.vector))
+          (λ j i n. zero_times (t.entry k j) (space.form j · p.vector) (apart j i n))
           ∙ ap (λ (z : ℤ). z *ℤ (space.form k · p.vector)) (here k c))
 
   module _ (t u : Table) (w : Writes space key t) (x : Writes space key u) where

@@ -3,10 +3,10 @@ use Rattle.std.specs.Prelude.{◌≡◌, ◌≢◌, ◌↔◌, ℕ, ◌<◌, pos
 use Rattle.std.specs.List.{Contains}
 use Rattle.poly_model.specs.Keys.{IsKey, with_label}
 use Rattle.poly_model.specs.Systems.{Polyhedron}
-use Rattle.poly_model.specs.Spaces.{Space, IsStartCobasis}
+use Rattle.poly_model.specs.Spaces.{Space, IsStartCobasis, HasPoints}
 use Rattle.poly_model.specs.Dictionaries.{Table, IsCobasis, Writes, IsDictionary}
 use Rattle.dictionary_laws.specs.Keys.{AreDistinct, HaveSameLabels, Exchanges}
-use Rattle.dictionary_laws.specs.Points.{HasPoints, HasPointOn, AreSettled, RowsDetermine, ArePhasePoints}
+use Rattle.dictionary_laws.specs.Points.{HasPointOn, AreSettled, RowsDetermine, ArePhasePoints}
 use Rattle.dictionary_laws.specs.Numbers.{IsOwnRow, Agree, DividesNumbers, DividesOutside, ArePrimitive, IsGcdOfNumbers, divided}
 use Rattle.dictionary_laws.specs.Exchange.{CanExchange, exchanged}
 

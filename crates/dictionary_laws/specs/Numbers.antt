@@ -2,9 +2,8 @@
 use Rattle.std.specs.Prelude.{◌≡◌, ◌≢◌, ℕ, pos, List, unsigned_abs, int_div}
 use Rattle.std.specs.List.{Contains}
 use Prim.Native.Nat.{◌∣◌}
-use Rattle.poly_model.specs.Spaces.{Space}
+use Rattle.poly_model.specs.Spaces.{Space, HasPoints}
 use Rattle.poly_model.specs.Dictionaries.{Table}
-use Rattle.dictionary_laws.specs.Points.{HasPoints}
 
 -- the row of a label of the key: the denominator in its own column, 0 in the others, the constant 0.
 -- Where the space has no point, constants are taken times 0 only, and can be any numbers

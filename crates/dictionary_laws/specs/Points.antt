@@ -4,14 +4,8 @@ use Rattle.std.specs.List.{AllByRecursion, Contains, filter}
 use Rattle.poly_num.specs.Vectors.{Vector, ◌·◌, IsZero}
 use Rattle.poly_model.specs.declared.kind.Kind.TheVariants.{V}
 use Rattle.poly_model.specs.Systems.{Polyhedron}
-use Rattle.poly_model.specs.Spaces.{Space, IsInside, IsDirection, is_row, cone_space, prepare_space, main_space, lifted}
+use Rattle.poly_model.specs.Spaces.{Space, IsInside, IsDirection, is_row, cone_space, prepare_space, main_space, lifted, HasPoints}
 use Rattle.poly_model.specs.Dictionaries.{Table}
-
--- some vector of the space is not 0 at infinity
-pub record HasPoints (space : Space) : Type 0 where
-  pub vector : Vector
-  pub inside : IsInside space vector
-  pub finite : space.infinity · vector ≢ pos 0
 
 -- some vector of the space is not 0 at infinity, and these labels are 0 there
 pub record HasPointOn (space : Space) (equations : List ℕ) : Type 0 where

@@ -25,6 +25,10 @@ pub length-zeros : (n : ℕ) → length (zeros n) ≡ n
 length-zeros zero = refl
 length-zeros (suc n) = ap suc (length-zeros n)
 
+pub IsZero-zeros : (n : ℕ) → IsZero (zeros n)
+IsZero-zeros zero = tt
+IsZero-zeros (suc n) = (refl, IsZero-zeros n)
+
 pub zeros-dot : (n : ℕ) (g : Vector) → zeros n · g ≡ pos 0
 zeros-dot zero g = refl
 zeros-dot (suc n) [] = refl

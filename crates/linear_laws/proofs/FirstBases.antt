@@ -3,7 +3,7 @@ use Rattle.std.proofs.Common.{◌≡◌, ◌⊎◌, inl, inr, ⊎_elim, Bool, tr
 use Rattle.poly_num.specs.Vectors.{Vector}
 use Rattle.poly_model.specs.Independence.{Vanish, Follows, IsNew, IsFirstBasis, taken}
 use Rattle.linear_laws.specs.NewRows.{AreNew}
-use Rattle.linear_laws.proofs.Elimination.{Reached, start, scan, take_row, new_row, follows_row, Eliminated, eliminate}
+use Rattle.linear_laws.proofs.Elimination.{Reached, start, scan, take_row, new_row, follows_row, Eliminated, eliminate, eliminate_all}
 
 pub not_both : (n : ℕ) (before : List Vector) (g : Vector) → IsNew n before g → Follows n before g → ⊥
 not_both n before g w f = w.3 (f w.0 w.1 w.2)
@@ -42,6 +42,32 @@ taken_of before (g ∷ gs) [] y b v = b
 taken_of before (g ∷ gs) (true ∷ ms) y b v = taken_of (g ∷ before) gs ms y (v.0, b) v.1
 taken_of before (g ∷ gs) (false ∷ ms) y b v = taken_of before gs ms y b v.1
 
+-- ---- over any rows
+-- a further row is new over them or follows from them
+pub new_or_follows : (n : ℕ) (rows : List Vector) (g : Vector) → IsNew n rows g ⊎ Follows n rows g
+new_or_follows n rows g = by (eliminate_all n rows)
+  where
+    by : Eliminated n [] rows → IsNew n rows g ⊎ Follows n rows g
+    by e =
+        ⊎_elim
+        (λ z. inr (λ y l v. follows_row g e.reached z y l (taken_of [] rows e.marks y tt v)))
+        (λ f. let w = new_row g e.reached f in
+        inl (w.0, w.1, (taken_enough n [] rows e.marks e.first w.0 w.1 w.2).1, w.3))
+        (scan g e.reached.slots)
+
+pub first_basis : (n : ℕ) (before rows : List Vector) → (ms : List Bool) × IsFirstBasis n before rows ms
+first_basis n before [] = ([], tt)
+first_basis n before (g ∷ rows) =
+    ⊎_elim
+    (λ (w : IsNew n before g). let h = first_basis n (g ∷ before) rows in (true ∷ h.0, (w, h.1)))
+    (λ (f : Follows n before g). let h = first_basis n before rows in (false ∷ h.0, (f, h.1)))
+    (new_or_follows n before g)
+
+pub first_basis_is_one : (n : ℕ) (before rows : List Vector) →
+    (ms : List Bool) × IsFirstBasis n before rows ms × ((ks : List Bool) → IsFirstBasis n before rows ks → ks ≡ ms)
+first_basis_is_one n before rows =
+    let h = first_basis n before rows in (h.0, h.1, λ ks f. first_unique n before rows ks h.0 f h.1)
+
 -- ---- over rows that are new
 -- elimination takes each of them
 pub reach : (n : ℕ) (gs : List Vector) → AreNew n gs → Reached n gs
@@ -53,18 +79,3 @@ reach n (g ∷ gs) a = by (reach n gs a.1)
 
 pub eliminate_over : (n : ℕ) (before gs : List Vector) → AreNew n before → Eliminated n before gs
 eliminate_over n before gs a = eliminate n before gs (reach n before a)
-
--- a further row is new over them or follows from them
-pub new_or_follows : (n : ℕ) (gs : List Vector) → AreNew n gs → (g : Vector) → IsNew n gs g ⊎ Follows n gs g
-new_or_follows n gs a g = by (reach n gs a)
-  where
-    by : Reached n gs → IsNew n gs g ⊎ Follows n gs g
-    by r = ⊎_elim (λ z. inr (follows_row g r z)) (λ f. inl (new_row g r f)) (scan g r.slots)
-
-pub first_basis_over : (n : ℕ) (before gs : List Vector) → AreNew n before →
-    (ms : List Bool) × IsFirstBasis n before gs ms × ((ks : List Bool) → IsFirstBasis n before gs ks → ks ≡ ms)
-first_basis_over n before gs a = by (eliminate_over n before gs a)
-  where
-    by : Eliminated n before gs →
-        (ms : List Bool) × IsFirstBasis n before gs ms × ((ks : List Bool) → IsFirstBasis n before gs ks → ks ≡ ms)
-    by e = (e.marks, e.first, λ ks f. first_unique n before gs ks e.marks f e.first)

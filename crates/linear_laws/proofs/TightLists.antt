@@ -22,7 +22,7 @@ pub tight_marks : (n : ℕ) (before : List Vector) → AreNew n before → (y : 
     TightMarks n before y gs
 tight_marks n before a y [] = record { marks = []; full = refl; first = tt }
 tight_marks n before a y (g ∷ gs) =
-    by (ℤ_discrete (g · y) (pos 0)) (new_or_follows n before a g) (tight_marks n before a y gs)
+    by (ℤ_discrete (g · y) (pos 0)) (new_or_follows n before g) (tight_marks n before a y gs)
     (λ w. tight_marks n (g ∷ before) (w, a) y gs)
   where
     skipped : TightMarks n before y gs → (g · y ≡ pos 0 → Follows n before g) → TightMarks n before y (g ∷ gs)

@@ -17,7 +17,7 @@ PrimitiveFactorDivides = (p q : ℤ) (y z : Vector) → IsPrimitive y → scale 
 
 -- over rows that are new one over another, each list of rows has one first basis
 abbrev pub FirstBasisIsOne : Type 0
-FirstBasisIsOne = (n : ℕ) (before rows : List Vector) → AreNew n before →
+FirstBasisIsOne = (n : ℕ) (before rows : List Vector) →
     (marks : List Bool) × IsFirstBasis n before rows marks
     × ((others : List Bool) → IsFirstBasis n before rows others → others ≡ marks)
 

@@ -5,7 +5,7 @@ use Rattle.poly_num.specs.Numbers.{Crosses}
 use Rattle.poly_model.specs.declared.overflow.Overflow.{Overflow}
 use Rattle.poly_model.specs.declared.overflow.Place.{Place}
 use Rattle.poly_model.specs.Systems.{Polyhedron}
-use Rattle.poly_model.specs.Spaces.{Space, IsSpaceOf}
+use Rattle.poly_model.specs.Spaces.{Space, HasPoints, IsSpaceOf}
 use Rattle.poly_model.specs.Dictionaries.{Table, IsDictionary}
 
 -- row i and column j
@@ -44,6 +44,8 @@ pub record IsOuter (space : Space) (s : ℕ) (o : Overflow) : Type 0 where
 pub record Passes (p : Polyhedron) (o : Overflow) : Type 0 where
   pub space : Space
   pub phase : IsSpaceOf p o.phase space
+  -- without a point, any constants would do
+  pub point : HasPoints space
   pub table : Table
   pub dictionary : IsDictionary space o.key table
   pub r : ℕ

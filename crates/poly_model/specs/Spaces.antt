@@ -1,5 +1,5 @@
 -- The spaces of the four phases, with a linear form for each label.
-use Rattle.std.specs.Prelude.{◌≡◌, ℕ, suc, ◌+◌, ◌-◌, ◌==◌, nat_lt, Bool, true, false, not, cond, if◌then◌else◌, ℤ, pos, List, [], ◌∷◌, ◌++◌, map, length}
+use Rattle.std.specs.Prelude.{◌≡◌, ◌≢◌, ℕ, suc, ◌+◌, ◌-◌, ◌==◌, nat_lt, Bool, true, false, not, cond, if◌then◌else◌, ℤ, pos, List, [], ◌∷◌, ◌++◌, map, length}
 use Rattle.std.specs.List.{filter, list_any, range_with_len}
 use Rattle.poly_num.specs.Vectors.{Vector, ◌·◌}
 use Rattle.poly_model.specs.declared.kind.Kind.{Kind}
@@ -29,6 +29,12 @@ pub record IsInside (space : Space) (y : Vector) : Type 0 where
 pub record IsDirection (space : Space) (z : Vector) : Type 0 where
   pub inside : IsInside space z
   pub level : space.infinity · z ≡ pos 0
+
+-- the space has a point: some vector of it is not 0 at infinity
+pub record HasPoints (space : Space) : Type 0 where
+  pub vector : Vector
+  pub inside : IsInside space vector
+  pub finite : space.infinity · vector ≢ pos 0
 
 -- the label of coordinate j
 abbrev pub coordinate_label : ℕ → ℕ
