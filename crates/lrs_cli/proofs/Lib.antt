@@ -1,13 +1,3 @@
-pub mod Answered
-pub mod CappedValues
-pub mod CutRows
-pub mod FirstLine
-pub mod FirstWord
-pub mod KnownValues
-pub mod PlainLemmas
-pub mod PlainRows
-pub mod PlainSizes
-pub mod PlainSteps
-pub mod Positions
+pub mod FaultLemmas
 pub mod StatusLemmas
 pub mod UnitRows

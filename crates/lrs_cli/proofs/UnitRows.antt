@@ -5,8 +5,9 @@ use Rattle.std.specs.List.{list_all, range_with_len}
 use Rattle.std.proofs.lemmas.Bool.{ne_eqb}
 use Rattle.std.proofs.lemmas.Bool.Decides.{Decides-int_eq, nat_tests}
 use Rattle.std.proofs.lemmas.List.{length-take, length-drop, get_or-take, get_or-drop}
-use Rattle.lrs_cli.specs.PlainTables.{is_zero, is_nonzero, Matrix, is_unit_at, is_positive_then_zeros, has_unit_at, is_bounded}
-use Rattle.lrs_cli.proofs.Positions.{position_some, position_none, passes, fails_before}
+use Rattle.poly_model.specs.Systems.{Polyhedron}
+use Rattle.lrs_cli.specs.Supported.{is_zero, is_nonzero, is_unit_at, is_positive_then_zeros, has_unit_at, is_bounded}
+use Rattle.poly_reader.proofs.Positions.{position_some, position_none, passes, fails_before}
 
 not_false : (b : Bool) → not b ≡ false → b ≡ true
 not_false true e = refl
@@ -103,13 +104,13 @@ all_in_range p (b ∷ tests) start h =
     rw (here, later) refl
 
 -- the places from 1 on, where the places of all rows were found
-pub bounded_from_places : (t : Matrix) (found : List Bool) (n : ℕ) → length found ≡ 256 → n ≡ t.width
-    → n ≤ 256 → ((j : ℕ) → j < 256 → get_or found j false ≡ has_unit_at t.rows j)
-    → list_all (λ b. b) (take (n - 1) (drop 1 found)) ≡ is_bounded t
-bounded_from_places t found n full same narrow places =
-    let size : length (take (n - 1) (drop 1 found)) ≡ t.width - 1 = omega
+pub bounded_from_places : (p : Polyhedron) (found : List Bool) (n : ℕ) → length found ≡ 256 → n ≡ p.n
+    → n ≤ 256 → ((j : ℕ) → j < 256 → get_or found j false ≡ has_unit_at p.rows j)
+    → list_all (λ b. b) (take (n - 1) (drop 1 found)) ≡ is_bounded p
+bounded_from_places p found n full same narrow places =
+    let size : length (take (n - 1) (drop 1 found)) ≡ p.n - 1 = omega
     (arith, length-take (n - 1) (drop 1 found), length-drop 1 found) in
     let place = λ (k : ℕ) (lt : k < length (take (n - 1) (drop 1 found))).
     get_or-take (n - 1) (drop 1 found) k false (omega arith) ∙ get_or-drop 1 found k false ∙ places (1 + k)
     (omega arith) in
-    rw (← size) (all_in_range (has_unit_at t.rows) (take (n - 1) (drop 1 found)) 1 place)
+    rw (← size) (all_in_range (has_unit_at p.rows) (take (n - 1) (drop 1 found)) 1 place)

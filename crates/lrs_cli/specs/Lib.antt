@@ -1,6 +1,3 @@
-pub mod Lines
-pub mod PlainNumbers
-pub mod PlainTables
-pub mod Plain
+pub mod Supported
 pub mod StatusLine
 pub mod Answers

@@ -2,8 +2,32 @@
 use Rattle.std.specs.Prelude.{ℕ, List, ◌++◌, codes, decimal}
 use Rattle.poly_model.specs.declared.overflow.Overflow.{Overflow}
 use Rattle.poly_model.specs.LabelText.{key_text, place_text, phase_text}
+use Rattle.poly_reader.specs.declared.bad.BadKind.{BadKind}
+use Rattle.poly_reader.specs.declared.bad.BadKind.TheVariants as kinds
 use Rattle.lrs_cli.specs.declared.status.Status.{Status}
-use Rattle.lrs_cli.specs.declared.status.Status.TheVariants.{Done, Usage, Overflow as Overflowed, ReadFault, WriteFault, OutOfMemory, Unsupported}
+use Rattle.lrs_cli.specs.declared.status.Status.TheVariants.{Done, Usage, BadFile, Overflow as Overflowed, ReadFault, WriteFault, OutOfMemory, Unsupported}
+
+-- the name of what is wrong with a file
+abbrev pub kind_text : BadKind → List ℕ
+kind_text kinds.TooLong = codes "TooLong"
+kind_text kinds.Nonnegative = codes "Nonnegative"
+kind_text kinds.BadLinearity = codes "BadLinearity"
+kind_text kinds.NoBegin = codes "NoBegin"
+kind_text kinds.BadHeader = codes "BadHeader"
+kind_text kinds.TooManyRows = codes "TooManyRows"
+kind_text kinds.BadWidth = codes "BadWidth"
+kind_text kinds.UnsupportedType = codes "UnsupportedType"
+kind_text kinds.ShortData = codes "ShortData"
+kind_text kinds.LongData = codes "LongData"
+kind_text kinds.BadNumber = codes "BadNumber"
+kind_text kinds.ZeroDenominator = codes "ZeroDenominator"
+kind_text kinds.WideNumber = codes "WideNumber"
+kind_text kinds.NoEnd = codes "NoEnd"
+kind_text kinds.MisplacedLinearity = codes "MisplacedLinearity"
+kind_text kinds.NoRows = codes "NoRows"
+kind_text kinds.BadFirst = codes "BadFirst"
+kind_text kinds.LinearPoint = codes "LinearPoint"
+kind_text kinds.WideRow = codes "WideRow"
 
 -- the four places
 abbrev pub places_text : Overflow → List ℕ
@@ -16,6 +40,7 @@ overflow_text o = phase_text o.phase ++ (codes " " ++ (key_text o.key ++ (codes 
 unfoldable pub line_of : Status → List ℕ
 line_of (Done rows lines) = codes "lrs: done " ++ (decimal rows ++ (codes " rows " ++ (decimal lines ++ codes " lines\n")))
 line_of Usage = codes "lrs: usage: lrs convert / run LEDGER / resume LEDGER / status LEDGER / job / demo KIND N\n"
+line_of (BadFile bad) = codes "lrs: bad file: " ++ (kind_text bad.kind ++ (codes " at line " ++ (decimal bad.line ++ codes "\n")))
 line_of (Overflowed o) = codes "lrs: overflow " ++ (overflow_text o ++ codes "\n")
 line_of ReadFault = codes "lrs: read fault\n"
 line_of WriteFault = codes "lrs: write fault\n"
@@ -25,6 +50,7 @@ line_of Unsupported = codes "lrs: unsupported\n"
 abbrev pub number_of : Status → ℕ
 number_of (Done rows lines) = 0
 number_of Usage = 2
+number_of (BadFile bad) = 3
 number_of (Overflowed o) = 5
 number_of ReadFault = 6
 number_of WriteFault = 7

@@ -3,14 +3,9 @@
 
 mod convert;
 mod dictionary;
-mod lines;
 mod lister;
-mod numbers;
-mod plain;
-#[cfg(test)]
-mod plain_tests;
 mod status;
-mod table;
+mod supported;
 #[cfg(test)]
 mod tests;
 mod top;

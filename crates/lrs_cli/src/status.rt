@@ -3,10 +3,11 @@ ghost use Rattle.std.specs.Prelude.{◌≡◌, ◌∷◌, ◌++◌, codes, decim
 ghost use Rattle.poly_io.specs.Causes.{HasCause};
 ghost use Rattle.poly_io.specs.Written.{WritesText};
 ghost use Rattle.poly_model.specs.LabelText.{label_text, labels_text, key_text, place_text, phase_text};
-ghost use Rattle.lrs_cli.specs.StatusLine.{line_of, number_of, overflow_text, places_text};
+ghost use Rattle.lrs_cli.specs.StatusLine.{line_of, number_of, kind_text, overflow_text, places_text};
 
 use poly_io::{Sink, WriteFault, write_all, write_count};
 use poly_model::{Key, Overflow, Phase, Place};
+use poly_reader::{BadFile, BadKind};
 
 /// How a call of the program ended.
 #[derive(Clone, Copy, PartialEq, Eq, Debug)]
@@ -15,6 +16,8 @@ pub enum Status {
     Done { rows: u64, lines: u32 },
     /// The words are no command of this program.
     Usage,
+    /// The input describes no polyhedron: what is wrong first, and on which line.
+    BadFile(BadFile),
     /// A product that the listing needs does not fit 127 bits and a sign.
     Overflow(Overflow),
     /// The input could not be read.
@@ -23,7 +26,7 @@ pub enum Status {
     WriteFault,
     /// This process has no memory left.
     OutOfMemory,
-    /// The input is not a file of the form that this program reads so far.
+    /// The input describes a polyhedron that this program does not list yet.
     Unsupported,
 }
 
@@ -35,6 +38,7 @@ impl Status {
         match self {
             Status::Done { .. } => 0,
             Status::Usage => 2,
+            Status::BadFile(_) => 3,
             Status::Overflow(_) => 5,
             Status::ReadFault => 6,
             Status::WriteFault => 7,
@@ -56,6 +60,7 @@ pub fn status_line<S: Sink>(status: &Status, out: &mut S) -> Result<(), WriteFau
             out,
             b"lrs: usage: lrs convert / run LEDGER / resume LEDGER / status LEDGER / job / demo KIND N\n",
         ),
+        Status::BadFile(bad) => bad_file_line(*bad, out),
         Status::Overflow(overflow) => overflow_line(overflow, out),
         Status::ReadFault => write_all(out, b"lrs: read fault\n"),
         Status::WriteFault => write_all(out, b"lrs: write fault\n"),
@@ -73,6 +78,44 @@ fn done_line<S: Sink>(rows: u64, lines: u32, out: &mut S) -> Result<(), WriteFau
     write_all(out, b" rows ")?;
     write_count(lines as u64, out)?;
     write_all(out, b" lines\n")
+}
+
+fn bad_file_line<S: Sink>(bad: BadFile, out: &mut S) -> Result<(), WriteFault>
+    ensures text { WritesText (S.written out.old) (S.written out.new) result (line_of (Status.BadFile bad)) }
+    ensures cause { HasCause (S.faults out.old) (S.faults out.new) result }
+{
+    write_all(out, b"lrs: bad file: ")?;
+    write_kind(bad.kind, out)?;
+    write_all(out, b" at line ")?;
+    write_count(bad.line, out)?;
+    write_all(out, b"\n")
+}
+
+fn write_kind<S: Sink>(kind: BadKind, out: &mut S) -> Result<(), WriteFault>
+    ensures text { WritesText (S.written out.old) (S.written out.new) result (kind_text kind) }
+    ensures cause { HasCause (S.faults out.old) (S.faults out.new) result }
+{
+    match kind {
+        BadKind::TooLong => write_all(out, b"TooLong"),
+        BadKind::Nonnegative => write_all(out, b"Nonnegative"),
+        BadKind::BadLinearity => write_all(out, b"BadLinearity"),
+        BadKind::NoBegin => write_all(out, b"NoBegin"),
+        BadKind::BadHeader => write_all(out, b"BadHeader"),
+        BadKind::TooManyRows => write_all(out, b"TooManyRows"),
+        BadKind::BadWidth => write_all(out, b"BadWidth"),
+        BadKind::UnsupportedType => write_all(out, b"UnsupportedType"),
+        BadKind::ShortData => write_all(out, b"ShortData"),
+        BadKind::LongData => write_all(out, b"LongData"),
+        BadKind::BadNumber => write_all(out, b"BadNumber"),
+        BadKind::ZeroDenominator => write_all(out, b"ZeroDenominator"),
+        BadKind::WideNumber => write_all(out, b"WideNumber"),
+        BadKind::NoEnd => write_all(out, b"NoEnd"),
+        BadKind::MisplacedLinearity => write_all(out, b"MisplacedLinearity"),
+        BadKind::NoRows => write_all(out, b"NoRows"),
+        BadKind::BadFirst => write_all(out, b"BadFirst"),
+        BadKind::LinearPoint => write_all(out, b"LinearPoint"),
+        BadKind::WideRow => write_all(out, b"WideRow"),
+    }
 }
 
 fn overflow_line<S: Sink>(overflow: &Overflow, out: &mut S) -> Result<(), WriteFault>

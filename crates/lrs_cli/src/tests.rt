@@ -3,6 +3,7 @@ use crate::status::{Status, status_line};
 use crate::top::lrs;
 use poly_io::{Call, MemSink, MemSource};
 use poly_model::{Key, Label, Overflow, Phase, Place};
+use poly_reader::{BadFile, BadKind};
 use std::alloc::{AllocError, Global};
 use std::test::Fail;
 
@@ -19,7 +20,7 @@ fn sorted_lines<'a>(alloc: Global, text: &'a [u8]) -> Result<Vec<&'a [u8]>, Allo
 }
 
 #[test]
-fn converts_plain_files(rt: HostRuntime) -> Result<(), Fail> {
+fn converts_files(rt: HostRuntime) -> Result<(), Fail> {
     let alloc = rt.alloc();
     let rows = [
         (SQUARE, SQUARE_LISTING, 4),
@@ -45,6 +46,23 @@ fn converts_plain_files(rt: HostRuntime) -> Result<(), Fail> {
             "H-representation\nbegin\n3 3 integer\n0 1 0\n0 0 1\n4 -2 -6\nend\n",
             "V-representation\nbegin\n***** 3 rational\n 1 0 0\n 1 2 0\n 1 0 2/3\nend\n",
             3,
+        ),
+        // No kind, a name, fractions.
+        (
+            "segment\nbegin 2 2 rational 1/2 -1 +0 01 end",
+            "V-representation\nbegin\n***** 2 rational\n 1 0\n 1 1/2\nend\n",
+            2,
+        ),
+        // The square without the number of its rows, and with its rows broken.
+        (
+            "H-representation\nbegin\n***** 3 integer\n0 1 0\n0 0 1\n1 -1 0\n1 0 -1\nend\n",
+            SQUARE_LISTING,
+            4,
+        ),
+        (
+            "H-representation\r\nbegin\r\n4 3\ninteger 0\n1 0 0\t0 1\n\n1 -1 0 1 0\n-1 end of it\nmaxoutput 3\n",
+            SQUARE_LISTING,
+            4,
         ),
     ];
     for (file, listing, count) in rows {
@@ -76,7 +94,10 @@ fn refuses_what_it_cannot_list(rt: HostRuntime) {
         "H-representation\nbegin\n2 2 integer\n-1 1\n0 -1\nend\n",
         // A pyramid over a square.
         "H-representation\nbegin\n5 4 integer\n0 0 0 1\n1 -1 0 -1\n1 1 0 -1\n1 0 -1 -1\n1 0 1 -1\nend\n",
-        "",
+        // A row that is linear.
+        "linearity 1 1\nbegin\n1 2 integer\n0 1\nend\n",
+        // Points.
+        "V-representation\nbegin\n1 2 integer\n1 1\nend\n",
     ] {
         let mut input = MemSource::new(file.as_bytes(), &[]);
         let mut out = MemSink::new(alloc, &[]);
@@ -100,6 +121,28 @@ fn refuses_what_it_cannot_list(rt: HostRuntime) {
             })
         )
     );
+}
+
+#[test]
+fn says_what_is_wrong_with_a_file(rt: HostRuntime) {
+    let alloc = rt.alloc();
+    let rows = [
+        ("", BadKind::NoBegin, 1),
+        (
+            "H-representation\nbegin\n4 3 integer\n0 1 0\n0 0 1\n1 -1 0\n1 0\nend\n",
+            BadKind::ShortData,
+            8,
+        ),
+        ("begin\n1 2 integer\n 1 1.5\nend\n", BadKind::BadNumber, 3),
+        ("begin\n1 2 real\n 1 1\nend\n", BadKind::UnsupportedType, 2),
+    ];
+    for (file, kind, line) in rows {
+        let mut input = MemSource::new(file.as_bytes(), &[]);
+        let mut out = MemSink::new(alloc, &[]);
+        let status = lrs(alloc, ["convert"].as_slice(), &mut input, &mut out);
+        assert_eq!(rt; status, Status::BadFile(BadFile { kind, line }), "{file}");
+        assert_eq!(rt; out.written(), b"".as_slice());
+    }
 }
 
 #[test]
@@ -160,6 +203,13 @@ fn prints_status_lines(rt: HostRuntime) -> Result<(), Fail> {
         (
             Status::Overflow(overflow),
             "lrs: overflow cone 3 3 x1 x3 2,x1 t,c x2,x1 2,3\n",
+        ),
+        (
+            Status::BadFile(BadFile {
+                kind: BadKind::WideNumber,
+                line: 12,
+            }),
+            "lrs: bad file: WideNumber at line 12\n",
         ),
         (Status::Unsupported, "lrs: unsupported\n"),
     ];

@@ -3,7 +3,8 @@ ghost use Rattle.std.specs.Prelude.{◌≡◌, ℕ, map};
 ghost use Rattle.std.specs.Io.KnownBytes.{IsAtEnd};
 ghost use Rattle.poly_io.specs.Causes.{Rose};
 ghost use Rattle.poly_io.specs.Taken.{TakesAtMost};
-ghost use Rattle.lrs_cli.specs.Answers.{IsLine, Told, IsPlain, IsNotPlain, Lists, WritesNothing};
+ghost use Rattle.poly_reader.specs.declared.bad.BadFile.{BadFile};
+ghost use Rattle.lrs_cli.specs.Answers.{IsLine, Told, IsSupported, IsUnsupported, IsBadFile, Lists, WritesNothing};
 
 use crate::convert::convert;
 use crate::status::Status;
@@ -17,8 +18,9 @@ pub fn lrs<I: Source, O: Sink>(alloc: Global, words: &[&str], input: &mut I, out
     ensures unread { result ≡ Status.Usage → input.new ≡ input.old }
     ensures unwritten { WritesNothing result → out.new ≡ out.old }
     ensures done { (rows lines : ℕ) → result ≡ Status.Done rows lines → IsAtEnd (I.left input.new) }
-    ensures plain { Lists result → Told (I.left input.old) IsPlain }
-    ensures unsupported { result ≡ Status.Unsupported → Told (I.left input.old) IsNotPlain }
+    ensures supported { Lists result → Told (I.left input.old) IsSupported }
+    ensures unsupported { result ≡ Status.Unsupported → Told (I.left input.old) IsUnsupported }
+    ensures bad { (f : BadFile) → result ≡ Status.BadFile f → Told (I.left input.old) (IsBadFile f) }
     ensures read { result ≡ Status.ReadFault → Rose (I.faults input.old) (I.faults input.new) }
     ensures write { result ≡ Status.WriteFault → Rose (O.faults out.old) (O.faults out.new) }
     // Whatever the answer is, at most one byte more than a file may have was taken.

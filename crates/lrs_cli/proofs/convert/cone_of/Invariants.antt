@@ -5,4 +5,4 @@ abbrev pub invariant-loop-i : goal.invariant-loop-i
 invariant-loop-i l = vec_len l.cells ≡ l.i * l.width
 
 abbrev pub invariant-loop-j : goal.invariant-loop-j
-invariant-loop-j l = vec_len l.cells ≡ length l.table.rows * l.width + l.j
+invariant-loop-j l = vec_len l.cells ≡ length l.poly.rows * l.width + l.j

@@ -1,7 +1,0 @@
-use Rattle.std.proofs.Common.{◌≡◌, take}
-use Rattle.lrs_cli.specs.PlainNumbers.{capped, value_of}
-use Rattle.lrs_cli.proofs.numbers.value.Given as goal
-
--- the value of the digits before b-index
-abbrev pub invariant-digits : goal.invariant-digits
-invariant-digits l = l.value ≡ capped (value_of (take l.b-index l.digits))

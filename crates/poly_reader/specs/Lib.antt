@@ -1,0 +1,12 @@
+pub mod Lines
+pub mod Grammar
+pub mod FirstFault
+pub mod Head
+pub mod Header
+pub mod Matrix
+pub mod Marks
+pub mod Scaling
+pub mod Rows
+pub mod Reading
+pub mod Taking
+pub mod Laws

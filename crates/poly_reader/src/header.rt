@@ -1,0 +1,103 @@
+//! The header: the number of rows, the width and the type.
+ghost use Rattle.std.specs.Prelude.{◌≡◌, ◌≤◌, ◌<◌, IfOk, IfSome};
+ghost use Rattle.poly_reader.specs.Lines.{word};
+ghost use Rattle.poly_reader.specs.FirstFault.{Gives};
+ghost use Rattle.poly_reader.specs.Header.{rows_of, rows_within, width_of, width_within, type_fault, size_of, size};
+
+use crate::bad::bad;
+use crate::lines::{Token, is};
+use crate::number::count;
+use crate::words::Words;
+use crate::{BadFile, BadKind};
+
+/// The announced number of rows, where there is one, how many numbers a row has, and the words
+/// behind the header.
+#[derive(Drop)]
+pub struct Header<'a> {
+    pub rows: Option<usize>,
+    pub width: usize,
+    pub words: Words<'a>,
+}
+
+fn rows_within(m: u128, line: u64) -> Result<Option<usize>, BadFile>
+    ensures gives { Gives (λ x. x) result (rows_within line m) }
+    ensures few { IfOk result (λ rows. IfSome rows (λ m. m ≤ 4096)) }
+{
+    if m > 4096 {
+        Err(bad(BadKind::TooManyRows, line))
+    } else {
+        Ok(Some(m as usize))
+    }
+}
+
+#[tactic(auto, unfolding(crate::specs::Header::rows_of), using(crate::proofs::HeaderLemmas::rows_capped))]
+fn rows(w: Token) -> Result<Option<usize>, BadFile>
+    ensures gives { Gives (λ x. x) result (rows_of (word w.entry)) }
+    ensures few { IfOk result (λ rows. IfSome rows (λ m. m ≤ 4096)) }
+{
+    if is(w.text, b"*****") {
+        return Ok(None);
+    }
+    match count(w.text) {
+        Some(m) => rows_within(m, w.line),
+        None => Err(bad(BadKind::BadHeader, w.line)),
+    }
+}
+
+fn width_within(n: u128, line: u64) -> Result<usize, BadFile>
+    ensures gives { Gives (λ x. x) result (width_within line n) }
+    ensures some { IfOk result (λ n. 0 < n) }
+    ensures narrow { IfOk result (λ n. n ≤ 256) }
+{
+    if n == 0 || n > 256 {
+        Err(bad(BadKind::BadWidth, line))
+    } else {
+        Ok(n as usize)
+    }
+}
+
+#[tactic(auto, unfolding(crate::specs::Header::width_of), using(crate::proofs::HeaderLemmas::width_capped))]
+fn width(w: Token) -> Result<usize, BadFile>
+    ensures gives { Gives (λ x. x) result (width_of (word w.entry)) }
+    ensures some { IfOk result (λ n. 0 < n) }
+    ensures narrow { IfOk result (λ n. n ≤ 256) }
+{
+    match count(w.text) {
+        Some(n) => width_within(n, w.line),
+        None => Err(bad(BadKind::BadHeader, w.line)),
+    }
+}
+
+#[tactic(auto, unfolding(crate::specs::Header::type_fault))]
+fn check_type(w: Token) -> Result<(), BadFile>
+    ensures { Gives (λ x. x) result (type_fault (word w.entry)) }
+{
+    if is(w.text, b"integer") || is(w.text, b"rational") {
+        Ok(())
+    } else {
+        Err(bad(BadKind::UnsupportedType, w.line))
+    }
+}
+
+/// The header in front of these words; the text ends on line `last`.
+#[tactic(auto, unfolding(crate::specs::Header::size_of))]
+pub fn header_of<'a>(words: Words<'a>, last: u64) -> Result<Header<'a>, BadFile>
+    ensures gives { Gives size result (size_of last words.entry) }
+    ensures few { IfOk result (λ h. IfSome h.rows (λ m. m ≤ 4096)) }
+    ensures some { IfOk result (λ h. 0 < h.width) }
+    ensures narrow { IfOk result (λ h. h.width ≤ 256) }
+{
+    let Some((m, words)) = words.next() else {
+        return Err(bad(BadKind::BadHeader, last));
+    };
+    let rows = rows(m)?;
+    let Some((n, words)) = words.next() else {
+        return Err(bad(BadKind::BadHeader, last));
+    };
+    let width = width(n)?;
+    let Some((t, words)) = words.next() else {
+        return Err(bad(BadKind::BadHeader, last));
+    };
+    check_type(t)?;
+    Ok(Header { rows, width, words })
+}

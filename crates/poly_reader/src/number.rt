@@ -1,0 +1,150 @@
+//! Words that are numbers.
+ghost use Rattle.std.specs.Prelude.{◌≡◌, ◌≤◌, ◌^◌, pos, position, option_map, Ok, IfOk};
+ghost use Rattle.std.specs.List.{list_all};
+ghost use Rattle.poly_reader.specs.Grammar.{is_digit, with_digit_of, value_of, is_count, count_of, is_negative, unsigned, is_slash, numerator_of, denominator_of, signed, capped};
+ghost use Rattle.poly_num.specs.Fractions.{lowest};
+ghost use Rattle.poly_reader.specs.FirstFault.{Checks};
+ghost use Rattle.poly_reader.specs.Matrix.{AreSizes, sizes_of, number_of};
+
+use crate::BadKind;
+use poly_num::{Frac, Num};
+
+/// One past the greatest size of a number: what stands for each greater value too.
+const TOO_WIDE: u128 = 1 << 127;
+
+fn is_digit_byte(b: u8) -> bool
+    ensures { result ≡ is_digit b }
+{
+    b'0' <= b && b <= b'9'
+}
+
+fn is_all_digits(word: &[u8]) -> bool
+    ensures { result ≡ list_all is_digit word.now }
+{
+    word.iter().all(|b| is_digit_byte(*b))
+}
+
+/// Whether a word is digits: at least one, and nothing else.
+#[tactic(auto, using(crate::proofs::CappedValues::no_length))]
+pub fn is_count(word: &[u8]) -> bool
+    ensures { result ≡ is_count word.now }
+{
+    !word.is_empty() && is_all_digits(word)
+}
+
+// The value with one more digit, or the cap.
+fn with_digit(value: u128, digit: u8) -> u128
+    requires { value ≤ 2 ^ 127 }
+    ensures { result ≡ capped (with_digit_of value digit) }
+{
+    if value > TOO_WIDE / 10 {
+        TOO_WIDE
+    } else {
+        (10 * value + digit.saturating_sub(b'0') as u128).min(TOO_WIDE)
+    }
+}
+
+/// The value of a word of digits, where 2^127 stands for each greater one too.
+pub fn value(digits: &[u8]) -> u128
+    ensures { result ≡ capped (value_of digits.now) }
+{
+    let mut value = 0u128;
+    'digits: for b in digits {
+        value = with_digit(value, *b);
+    }
+    value
+}
+
+/// That value; none where the word is something else.
+#[tactic(auto, unfolding(crate::specs::Grammar::count_of))]
+pub fn count(word: &[u8]) -> Option<u128>
+    ensures { result ≡ option_map capped (count_of word.now) }
+{
+    if is_count(word) {
+        Some(value(word))
+    } else {
+        None
+    }
+}
+
+fn split_sign(word: &[u8]) -> (bool, &[u8])
+    ensures sign { result.0 ≡ is_negative word.now }
+    ensures rest { result.1.now ≡ unsigned word.now }
+{
+    match word {
+        [b'+', rest @ ..] => (false, rest),
+        [b'-', rest @ ..] => (true, rest),
+        _ => (false, word),
+    }
+}
+
+fn slash_at(word: &[u8]) -> Option<usize>
+    ensures { result ≡ position is_slash word.now }
+{
+    word.iter().position(|b| *b == b'/')
+}
+
+// The sizes above and below the slash.
+fn parts(word: &[u8]) -> (Option<u128>, Option<u128>)
+    ensures above { result.0 ≡ option_map capped (numerator_of word.now) }
+    ensures below { result.1 ≡ option_map capped (denominator_of word.now) }
+{
+    match slash_at(word) {
+        Some(at) => (count(&word[..at]), count(&word[at + 1..])),
+        None => (count(word), Some(1)),
+    }
+}
+
+// The sizes that a number has, or what is wrong with it.
+fn sizes(above: Option<u128>, below: Option<u128>) -> Result<(u128, u128), BadKind>
+    ensures value { result ≡ sizes_of above below }
+    ensures bounds { IfOk result AreSizes }
+{
+    match (above, below) {
+        (Some(p), Some(q)) => {
+            if q == 0 {
+                Err(BadKind::ZeroDenominator)
+            } else if p >= TOO_WIDE || q >= TOO_WIDE {
+                Err(BadKind::WideNumber)
+            } else {
+                Ok((p, q))
+            }
+        }
+        _ => Err(BadKind::BadNumber),
+    }
+}
+
+fn fraction(negative: bool, above: u128, below: u128) -> Result<Frac, BadKind>
+    requires { AreSizes (above, below) }
+    ensures { result ≡ Ok (lowest (signed negative above) (pos below)) }
+{
+    let num = Num::from_parts(negative, above);
+    let den = Num::from_parts(false, below);
+    Frac::new(num, den).ok_or(BadKind::ZeroDenominator)
+}
+
+/// The number that a word is, in lowest terms, or what is wrong with it.
+#[tactic(auto, unfolding(crate::specs::Matrix::number_of), using(crate::proofs::CappedValues::sizes_capped))]
+pub fn number(word: &[u8]) -> Result<Frac, BadKind>
+    ensures { result ≡ number_of word.now }
+{
+    let (negative, rest) = split_sign(word);
+    let (above, below) = parts(rest);
+    match sizes(above, below) {
+        Ok((p, q)) => fraction(negative, p, q),
+        Err(kind) => Err(kind),
+    }
+}
+
+/// What is wrong with a word as a number. This is faster than to reduce it.
+#[tactic(auto, unfolding(crate::specs::Matrix::number_of), using(crate::proofs::CappedValues::sizes_capped))]
+pub fn check_number(word: &[u8]) -> Result<(), BadKind>
+    ensures { Checks result (number_of word.now) }
+{
+    let (_, rest) = split_sign(word);
+    let (above, below) = parts(rest);
+    match sizes(above, below) {
+        Ok(_) => Ok(()),
+        Err(kind) => Err(kind),
+    }
+}

@@ -1,0 +1,101 @@
+//! The whole reader.
+ghost use Rattle.std.specs.Prelude.{◌≡◌, ◌≤◌, ◌<◌, length, IfOk, IsOk};
+ghost use Rattle.poly_model.specs.Tables.{IsShaped};
+ghost use Rattle.poly_reader.specs.FirstFault.{Gives, Parses};
+ghost use Rattle.poly_reader.specs.Reading.{length_fault, empty_fault, polyhedron, reading};
+
+use crate::bad::bad;
+use crate::head::head_of;
+use crate::header::header_of;
+use crate::late::check_late;
+use crate::lines::{Lines, last_line_of};
+use crate::marks::linear_marks;
+use crate::matrix::extent_of;
+use crate::rows::table;
+use crate::{BadFile, BadKind, ParseStop};
+use poly_model::{Kind, Poly};
+use poly_num::Num;
+use std::alloc::Global;
+
+/// A polyhedron but for its text.
+#[derive(Drop)]
+struct Parts {
+    kind: Kind,
+    width: usize,
+    cells: Vec<Num>,
+    linear: Vec<bool>,
+}
+
+fn check_length(bytes: usize) -> Result<(), BadFile>
+    ensures gives { Gives (λ x. x) result (length_fault bytes) }
+    ensures within { IsOk result → bytes ≤ 67108864 }
+{
+    if bytes > 67_108_864 {
+        return Err(bad(BadKind::TooLong, 0));
+    }
+    Ok(())
+}
+
+fn check_some_row(kind: Kind, rows: usize, line: u64) -> Result<(), BadFile>
+    ensures { Gives (λ x. x) result (empty_fault kind rows line) }
+{
+    if kind == Kind::V && rows == 0 {
+        return Err(bad(BadKind::NoRows, line));
+    }
+    Ok(())
+}
+
+#[tactic(auto, unfolding(crate::specs::Reading::reading))]
+fn parts_of(alloc: Global, text: &[u8]) -> Result<Parts, ParseStop>
+    ensures reads { Parses (polyhedron text.now) result (reading text.now) }
+    ensures shaped { IfOk result (λ p. IsShaped 4096 (length p.linear.items) p.width p.cells.items) }
+{
+    check_length(text.len())?;
+    let last = last_line_of(text);
+    let head = head_of(Lines::new(text), last)?;
+    let header = header_of(head.words, last)?;
+    let width = header.width;
+    let extent = extent_of(header.rows, width, header.words.copied(), last)?;
+    check_late(extent.words, extent.end_line)?;
+    let rows = extent.count / width;
+    let linear = linear_marks(alloc, rows, Lines::new(text))?;
+    check_some_row(head.kind, rows, extent.end_line)?;
+    let cells = table(alloc, head.kind, width, &linear, header.words, last)?;
+    Ok(Parts {
+        kind: head.kind,
+        width,
+        cells,
+        linear,
+    })
+}
+
+/// The polyhedron of a text, or the first thing that is wrong with it. Besides the polyhedron, with
+/// its text, no more memory is taken than for one row.
+pub fn poly_of(alloc: Global, text: &[u8]) -> Result<Poly, ParseStop>
+    ensures { Parses (λ p. p) result (reading text.now) }
+{
+    let parts = parts_of(alloc, text)?;
+    let copy = Vec::from_slice(alloc, text)?;
+    Ok(Poly::new(
+        parts.kind,
+        parts.width as u32,
+        parts.cells,
+        parts.linear,
+        copy,
+    ))
+}
+
+/// The polyhedron of a text that it keeps, or the first thing that is wrong with it.
+pub fn poly_with(alloc: Global, text: Vec<u8>) -> Result<Poly, ParseStop>
+    ensures reads { Parses (λ p. p) result (reading text.items) }
+    ensures text { IfOk result (λ p. p.text ≡ text.items) }
+{
+    let parts = parts_of(alloc, &text)?;
+    Ok(Poly::new(
+        parts.kind,
+        parts.width as u32,
+        parts.cells,
+        parts.linear,
+        text,
+    ))
+}

@@ -1,0 +1,222 @@
+//! Texts whose answer is known from the rules of the format.
+ghost use Rattle.std.specs.Prelude.{◌≡◌, ◌<◌};
+
+use crate::{BadFile, BadKind, ParseStop, ReadStop, poly_of, read_poly};
+use poly_io::{Call, MemSource};
+use poly_model::{Kind, Poly};
+use std::alloc::{AllocFailed, Global};
+use std::test::Fail;
+
+/// A text that is refused, for what, and on which line.
+#[derive(Clone, Copy)]
+struct Refused {
+    text: &'static str,
+    kind: BadKind,
+    line: u64,
+}
+
+const fn case(text: &'static str, kind: BadKind, line: u64) -> Refused {
+    Refused { text, kind, line }
+}
+
+#[test]
+fn refuses_for_the_first_fault(rt: HostRuntime) {
+    for row in [
+        case("", BadKind::NoBegin, 1),
+        case("begin\nx 2 integer\n", BadKind::BadHeader, 2),
+        case("begin\n4097 2 integer\n", BadKind::TooManyRows, 2),
+        case("begin\n1 257 integer\n", BadKind::BadWidth, 2),
+        case("begin\n1 2 real\n 1 1\nend\n", BadKind::UnsupportedType, 2),
+        case("begin\n1 2 integer\n 1 x\nend\n", BadKind::BadNumber, 3),
+        case("begin\n1 2 integer\n 1 2 3\nend\n", BadKind::LongData, 3),
+        case("begin\n1 2 integer\n 1\nend\n", BadKind::ShortData, 4),
+        case(
+            "begin\n***** 2 integer\n 1 2 3\nend\n",
+            BadKind::ShortData,
+            4,
+        ),
+        case("begin\n1 2 integer\n 1 2\n", BadKind::NoEnd, 4),
+        case(
+            "begin\n1 2 integer\n 1 170141183460469231731687303715884105728\nend\n",
+            BadKind::WideNumber,
+            3,
+        ),
+        case(
+            "linearity 2 1\nbegin\n1 2 integer\n 1 2\nend\n",
+            BadKind::BadLinearity,
+            1,
+        ),
+        case(
+            "linearity 1 3\nbegin\n1 2 integer\n 1 2\nend\n",
+            BadKind::BadLinearity,
+            1,
+        ),
+        case(
+            "begin\n1 2 integer\n 1 2\nend\nlinearity 1 1\n",
+            BadKind::MisplacedLinearity,
+            5,
+        ),
+        case(
+            "nonnegative\nbegin\n1 2 integer\n 1 2\nend\n",
+            BadKind::Nonnegative,
+            1,
+        ),
+        case(
+            "V-representation\nbegin\n0 2 integer\nend\n",
+            BadKind::NoRows,
+            4,
+        ),
+        case(
+            "V-representation\nbegin\n1 2 integer\n 2 1\nend\n",
+            BadKind::BadFirst,
+            4,
+        ),
+        case(
+            "V-representation\nlinearity 1 1\nbegin\n1 2 integer\n 1 1\nend\n",
+            BadKind::LinearPoint,
+            5,
+        ),
+        case(
+            "begin\n1 2 rational\n 1 1/0\nend\n",
+            BadKind::ZeroDenominator,
+            3,
+        ),
+        case(
+            "begin\n1 2 rational\n 1/1267650600228229401496703205376 1/1267650600228229401496703205375\nend\n",
+            BadKind::WideRow,
+            3,
+        ),
+        case("begin\n1 2 rational\n 1 1.5\nend\n", BadKind::BadNumber, 3),
+        case("begins\nbegin\n", BadKind::BadHeader, 3),
+        case("\rbegin\r\n\r1\r2\rinteger\r\n\r\n", BadKind::NoEnd, 4),
+    ] {
+        let want = BadFile {
+            kind: row.kind,
+            line: row.line,
+        };
+        let stop = poly_of(rt.alloc(), row.text.as_bytes()).err();
+        assert_eq!(rt; stop, Some(ParseStop::Bad(want)), "{}", row.text);
+    }
+}
+
+/// A text that is accepted, and its polyhedron: the rows one after the other, and which are linear.
+#[derive(Clone, Copy)]
+struct Accepted {
+    text: &'static str,
+    kind: Kind,
+    n: u32,
+    entries: &'static [i128],
+    linear: &'static [bool],
+}
+
+#[test]
+fn gives_the_rows(rt: HostRuntime) -> Result<(), Fail> {
+    for row in [
+        Accepted {
+            text: "names\n linearity 1 2\nH-representation\nbegin\n2 2 rational\n +1/2 -01\n 0/3 4\nend\nmaximize\n",
+            kind: Kind::H,
+            n: 2,
+            entries: &[1, -2, 0, 1],
+            linear: &[false, true],
+        },
+        Accepted {
+            text: "begin\n1 2 integer\n 1 170141183460469231731687303715884105727\nend",
+            kind: Kind::H,
+            n: 2,
+            entries: &[1, 170141183460469231731687303715884105727],
+            linear: &[false],
+        },
+        Accepted {
+            text: "V-representation\nbegin\n***** 2 integer\n 3/3 1/6 0 -4 end of the numbers\n",
+            kind: Kind::V,
+            n: 2,
+            entries: &[6, 1, 0, -1],
+            linear: &[false, false],
+        },
+        Accepted {
+            text: "V-representation\nlinearity 1 3 2\nlinearity 2 1 3\nH-representation\nbegin\n3 1 rational 0 -7 5/10 end\n",
+            kind: Kind::H,
+            n: 1,
+            entries: &[0, -1, 1],
+            linear: &[true, false, true],
+        },
+        Accepted {
+            text: "begin\n0 3 integer\nend\n",
+            kind: Kind::H,
+            n: 3,
+            entries: &[],
+            linear: &[],
+        },
+    ] {
+        let poly = poly_of(rt.alloc(), row.text.as_bytes())?;
+        assert_eq!(rt; (poly.kind(), poly.n()), (row.kind, row.n), "{}", row.text);
+        assert_eq!(rt;
+            entries_of(rt.alloc(), &poly)?.as_slice(),
+            row.entries,
+            "{}",
+            row.text
+        );
+        assert_eq!(rt;
+            marks_of(rt.alloc(), &poly)?.as_slice(),
+            row.linear,
+            "{}",
+            row.text
+        );
+        assert_eq!(rt; poly.text(), row.text.as_bytes());
+    }
+    Ok(())
+}
+
+fn entries_of(alloc: Global, poly: &Poly) -> Result<Vec<i128>, AllocFailed<i128>> {
+    let mut entries = Vec::new(alloc);
+    for i in 0..poly.rows() {
+        for x in poly.row(i + 1) {
+            entries.push(x.get())?;
+        }
+    }
+    Ok(entries)
+}
+
+fn marks_of(alloc: Global, poly: &Poly) -> Result<Vec<bool>, AllocFailed<bool>> {
+    let mut marks = Vec::new(alloc);
+    for i in 0..poly.rows() {
+        marks.push(poly.is_linear(i + 1))?;
+    }
+    Ok(marks)
+}
+
+#[test]
+fn reads_a_source_in_pieces(rt: HostRuntime) -> Result<(), Fail> {
+    let text = b"begin\n1 2 integer\n 3 6\nend\n";
+    let mut source = MemSource::new(text, &[Call::AtMost(3), Call::AtMost(1)]);
+    let poly = read_poly(rt.alloc(), &mut source)?;
+    assert_eq!(rt;
+        entries_of(rt.alloc(), &poly)?.as_slice(),
+        [1, 2].as_slice()
+    );
+    assert_eq!(rt; poly.text(), text.as_slice());
+
+    let mut source = MemSource::new(text, &[Call::AtMost(25), Call::Fail]);
+    assert_eq!(rt;
+        read_poly(rt.alloc(), &mut source).err(),
+        Some(ReadStop::Fault)
+    );
+    assert_eq!(rt; (source.left().len(), source.faults()), (2, 1));
+    Ok(())
+}
+
+#[test]
+fn takes_one_byte_past_the_longest_file(rt: HostRuntime) -> Result<(), Fail> {
+    let text: Vec<u8> = Vec::from_elem(rt.alloc(), b'\n', 67_108_867)?;
+    let mut source = MemSource::new(&text, &[]);
+    let want = BadFile {
+        kind: BadKind::TooLong,
+        line: 0,
+    };
+    assert_eq!(rt;
+        read_poly(rt.alloc(), &mut source).err(),
+        Some(ReadStop::Bad(want))
+    );
+    assert_eq!(rt; source.left().len(), 2);
+    Ok(())
+}
