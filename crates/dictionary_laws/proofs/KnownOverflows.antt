@@ -192,19 +192,21 @@ passes = record {
   outside = (has_row_1 (2 ^ 64) (2 ^ 63), row_1_outside);
   inside = Contains-first 8193 (8194 ∷ []);
   nonzero = λ e. omega (arith, ap unsigned_abs e);
-  places = inl (record {
-    i = 2;
-    j = 8194;
-    row = has_row_2 (2 ^ 64) (2 ^ 63);
-    other_row = λ e. omega arith;
-    column = inl (Contains-later 8194 8193 (8194 ∷ []) (Contains-first 8194 []));
-    other_column = λ e. omega arith;
-    a = (refl, refl);
-    b = (refl, refl);
-    c = (refl, refl);
-    d = (refl, refl);
-  });
-  passes = λ fits. let l : 2 ^ 127 < 2 ^ 127 = fits.0 in omega (arith, l);
+  passing = record {
+    places = inl (record {
+      i = 2;
+      j = 8194;
+      row = has_row_2 (2 ^ 64) (2 ^ 63);
+      other_row = λ e. omega arith;
+      column = inl (Contains-later 8194 8193 (8194 ∷ []) (Contains-first 8194 []));
+      other_column = λ e. omega arith;
+      a = (refl, refl);
+      b = (refl, refl);
+      c = (refl, refl);
+      d = (refl, refl);
+    });
+    passes = λ fits. let l : 2 ^ 127 < 2 ^ 127 = fits.0 in omega (arith, l);
+  };
 }
 
 -- 2^127 - 1 and 1: whatever dictionary is looked at, it is this one, and its products fit
@@ -225,7 +227,7 @@ passes_not : Passes (file (2 ^ 127 - 1) 1) overflow → ⊥
 passes_not h =
     let d : IsDictionary (space (2 ^ 127 - 1) 1) key h.table =
     subst (λ (s : Space). IsDictionary s key h.table) h.phase h.dictionary in
-    h.passes (crosses_along (pos (2 ^ 127 - 1)) (pos 1) (pos 0) (pos 0)
+    h.passing.passes (crosses_along (pos (2 ^ 127 - 1)) (pos 1) (pos 0) (pos 0)
     (h.table.entry 1 8193) (h.table.entry 2 8194) (h.table.entry 2 8193) (h.table.entry 1 8194)
     (entry_is h.table d 1 8193 (has_row_1 (2 ^ 127 - 1) 1) (Contains-first 8193 (8194 ∷ [])))
     (entry_is h.table d 2 8194 (has_row_2 (2 ^ 127 - 1) 1)

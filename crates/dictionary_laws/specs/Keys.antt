@@ -1,6 +1,11 @@
 -- Keys as sets of labels, and one label put in the place of another.
-use Rattle.std.specs.Prelude.{◌≡◌, ◌≢◌, ◌⊎◌, ℕ, List, [], ◌∷◌}
+use Rattle.std.specs.Prelude.{◌≡◌, ◌≢◌, ◌⊎◌, ℕ, zero, suc, ◌==◌, if◌then◌else◌, List, [], ◌∷◌}
 use Rattle.std.specs.List.{Contains}
+
+-- how many labels stand before the first one that is k
+abbrev pub place_in : List ℕ → ℕ → ℕ
+place_in [] k = zero
+place_in (x ∷ xs) k = if x == k then zero else suc (place_in xs k)
 
 -- each label stands once
 abbrev pub AreDistinct : List ℕ → Type 0

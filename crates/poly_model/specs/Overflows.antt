@@ -18,10 +18,10 @@ number_at t place =
     if place.col.0 == 65535 then t.constant place.row.0 else t.entry place.row.0 place.col.0
 
 -- the exchange of row r for column s multiplies the entries at (r, s) and (i, j), and those at (i, s) and (r, j)
-pub record IsInner (space : Space) (key : List ℕ) (r s : ℕ) (o : Overflow) : Type 0 where
+pub record IsInner (labels key : List ℕ) (r s : ℕ) (o : Overflow) : Type 0 where
   pub i : ℕ
   pub j : ℕ
-  pub row : Contains space.labels i
+  pub row : Contains labels i
   pub other_row : i ≢ r
   pub column : Contains key j ⊎ (j ≡ 65535)
   pub other_column : j ≢ s
@@ -31,16 +31,21 @@ pub record IsInner (space : Space) (key : List ℕ) (r s : ℕ) (o : Overflow) :
   pub d : IsPlace o.d r j
 
 -- it multiplies the entry at (i, s) and the denominator, which stands at (s, s)
-pub record IsOuter (space : Space) (s : ℕ) (o : Overflow) : Type 0 where
+pub record IsOuter (labels : List ℕ) (s : ℕ) (o : Overflow) : Type 0 where
   pub i : ℕ
-  pub row : Contains space.labels i
+  pub row : Contains labels i
   pub a : IsPlace o.a i s
   pub b : IsPlace o.b s s
   pub c : IsPlace o.c i s
   pub d : IsPlace o.d s s
 
--- a pivot at the dictionary of the overflow's key in its phase needs the products of the entries at a
--- and b and at c and d, and one of them or their difference is no number of 127 bits and a sign
+-- the exchange of r and s at numbers of these labels and this key needs the products of the entries at
+-- a and b and at c and d, and one of them or their difference is no number of 127 bits and a sign
+pub record IsPassing (labels key : List ℕ) (t : Table) (r s : ℕ) (o : Overflow) : Type 0 where
+  pub places : IsInner labels key r s o ⊎ IsOuter labels s o
+  pub passes : ¬ (Crosses (number_at t o.a) (number_at t o.b) (number_at t o.c) (number_at t o.d))
+
+-- a pivot at the dictionary of the overflow's key in its phase needs these products
 pub record Passes (p : Polyhedron) (o : Overflow) : Type 0 where
   pub space : Space
   pub phase : IsSpaceOf p o.phase space
@@ -53,5 +58,4 @@ pub record Passes (p : Polyhedron) (o : Overflow) : Type 0 where
   pub outside : Contains space.labels r × (Contains o.key r → ⊥)
   pub inside : Contains o.key s
   pub nonzero : table.entry r s ≢ pos 0
-  pub places : IsInner space o.key r s o ⊎ IsOuter space s o
-  pub passes : ¬ (Crosses (number_at table o.a) (number_at table o.b) (number_at table o.c) (number_at table o.d))
+  pub passing : IsPassing space.labels o.key table r s o

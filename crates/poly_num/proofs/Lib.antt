@@ -5,5 +5,6 @@ pub mod DivisorLemmas
 pub mod PrimitiveLemmas
 pub mod FractionLemmas
 pub mod SizeLemmas
+pub mod WordLemmas
 pub mod CompareLemmas
 pub mod KnownValues

@@ -7,6 +7,10 @@ use Rattle.std.specs.declared.cmp.Ordering.{Ordering}
 abbrev pub IsNum : ℤ → Type 0
 IsNum z = unsigned_abs z < 2 ^ 127
 
+-- the size is at most 2 ^ 63 - 1: the number fits a machine word
+abbrev pub IsWord : ℤ → Type 0
+IsWord z = unsigned_abs z < 2 ^ 63
+
 -- a b, c d and a b - c d are numbers
 abbrev pub Crosses : ℤ → ℤ → ℤ → ℤ → Type 0
 Crosses a b c d = IsNum (a *ℤ b) × IsNum (c *ℤ d) × IsNum (a *ℤ b -ℤ c *ℤ d)

@@ -6,6 +6,7 @@
 
 mod compare;
 mod divisors;
+mod exact;
 mod frac;
 mod number;
 mod products;
@@ -14,12 +15,15 @@ mod sums;
 #[cfg(test)]
 mod tests;
 mod vectors;
+mod words;
 
 pub use compare::cmp_cross;
 pub use divisors::{gcd, quotient};
+pub use exact::Divisor;
 pub use frac::Frac;
 pub use number::Num;
-pub use products::{cross, mul};
+pub use products::{cross, known_cross, known_product, mul};
 pub use signs::{dot_sign, lex_sign, sign};
 pub use sums::{add, neg, sub};
 pub use vectors::{negate, primitive};
+pub use words::{are_words, is_word, word_cross, word_product};

@@ -34,6 +34,24 @@ pub fn cross(a: Num, b: Num, c: Num, d: Num) -> Option<Num>
     }
 }
 
+/// `a b`, where it is known to be a number.
+pub fn known_product(a: Num, b: Num) -> Num
+    requires { IsNum (a *ℤ b) }
+    ensures { result ≡ a *ℤ b }
+{
+    Num {
+        value: a.value * b.value,
+    }
+}
+
+/// `a b - c d`, where the products and the difference are known to be numbers.
+pub fn known_cross(a: Num, b: Num, c: Num, d: Num) -> Num
+    requires { Crosses a b c d }
+    ensures { result ≡ a *ℤ b -ℤ c *ℤ d }
+{
+    difference(known_product(a, b), known_product(c, d))
+}
+
 // `a b - c d`, each step checked.
 fn checked_cross(a: Num, b: Num, c: Num, d: Num) -> Option<Num>
     ensures { SomeIff result (Crosses a b c d) (a *ℤ b -ℤ c *ℤ d) }
@@ -51,7 +69,7 @@ fn narrowed(a: Num) -> Option<i64>
 }
 
 // The product of two numbers of 64 bits, with its bounds.
-fn narrow_product(a: i64, b: i64) -> Num
+pub(crate) fn narrow_product(a: i64, b: i64) -> Num
     ensures value { result ≡ a *ℤ b }
     ensures lower_bound { neg_ℤ (pos (2 ^ 126)) <ℤ result }
     ensures upper_bound { result ≤ℤ pos (2 ^ 126) }
@@ -62,7 +80,7 @@ fn narrow_product(a: i64, b: i64) -> Num
 }
 
 // `a - b`, where it is known not to pass.
-fn difference(a: Num, b: Num) -> Num
+pub(crate) fn difference(a: Num, b: Num) -> Num
     requires { IsNum (a -ℤ b) }
     ensures { result ≡ a -ℤ b }
 {

@@ -1,0 +1,6 @@
+pub mod Written
+pub mod Reduced
+pub mod PlaceLemmas
+pub mod Pivots
+pub mod CarriedOut
+pub mod OverflowLemmas

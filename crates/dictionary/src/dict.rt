@@ -1,0 +1,132 @@
+//! The dictionary of a cobasis in one table, with pivots in place.
+ghost use Rattle.std.specs.Prelude.{◌≡◌, ◌<◌, ◌<ℤ◌, suc, pos, IfOk, IfErr, length};
+ghost use Rattle.std.specs.List.{Contains};
+ghost use Rattle.std.specs.Result.{IsOk};
+ghost use Rattle.poly_model.specs.Dictionaries.{Table};
+ghost use Rattle.dictionary_laws.specs.Keys.{place_in};
+ghost use Rattle.dictionary.specs.Cells.{cell};
+ghost use Rattle.dictionary.specs.Views.{table_of, IsPivot, CanPivot, IsOverflow, NothingPasses};
+
+use crate::cells::cell_at;
+use crate::places::place_of;
+use poly_model::{Key, Label, Phase};
+use poly_num::Num;
+use std::alloc::AllocError;
+use std::marker::Model;
+
+/// The dictionary of a cobasis in its phase: over a common denominator, each label of the phase (its
+/// rows and coordinates) is written as a constant and an entry for each label of the cobasis,
+///
+///     denominator * value(i) = constant(i) + sum of entry(i, k) * value(k)
+///
+/// (V. Chvatal, "Linear Programming", 1983). The denominator is the least positive one.
+#[derive(Drop)]
+pub struct Dict {
+    pub(crate) phase: Phase,
+    pub(crate) key: Key,
+    // a label for each row of cells, ascending
+    pub(crate) labels: Vec<u16>,
+    // a label for each column of cells behind the first, which has the constants
+    pub(crate) columns: Vec<u16>,
+    pub(crate) denominator: Num,
+    pub(crate) cells: Vec<Num>,
+    // room for a copy of a row
+    pub(crate) pivot_row: Vec<Num>,
+}
+
+impl Model for Dict {
+    ghost use Rattle.std.specs.Prelude.{◌≡◌, suc, length};
+    ghost use Rattle.dictionary_laws.specs.Keys.{place_in};
+ghost use Rattle.dictionary.specs.Cells.{cell};
+ghost use Rattle.dictionary.specs.Views.{Dictionary, IsWhole};
+
+    ghost Value = { Dictionary };
+
+    ghost view = { λ d. record { phase = d.phase; labels = d.labels.items; key = d.key; columns = d.columns.items; denominator = d.denominator; cells = d.cells.items } };
+
+    ghost invariant = { λ d. (length d.pivot_row.items ≡ suc (length d.columns.items)) × IsWhole (record { phase = d.phase; labels = d.labels.items; key = d.key; columns = d.columns.items; denominator = d.denominator; cells = d.cells.items }) };
+}
+
+impl Dict {
+    /// The phase that it is of.
+    pub fn phase(&self) -> Phase
+        ensures { result ≡ self.now.phase }
+    {
+        self.phase
+    }
+
+    /// The cobasis.
+    pub fn key(&self) -> Key
+        ensures { result ≡ self.now.key }
+    {
+        self.key
+    }
+
+    /// The common denominator, which is positive.
+    pub fn denominator(&self) -> Num
+        ensures value { result ≡ self.now.denominator }
+        ensures positive { pos 0 <ℤ result }
+    {
+        self.denominator
+    }
+
+    /// The constant of a label.
+    pub fn constant(&self, row: Label) -> Num
+        requires { Contains self.now.labels row.0 }
+        ensures { result ≡ Table.constant (table_of self.now) row.0 }
+    {
+        self.number(self.row_of(row), 0)
+    }
+
+    /// The entry of a label in the column of a label of the cobasis. That of such a label itself is the
+    /// denominator in its own column, and 0 in the others.
+    pub fn entry(&self, row: Label, col: Label) -> Num
+        requires row { Contains self.now.labels row.0 }
+        requires column { Contains self.now.key col.0 }
+        ensures { result ≡ Table.entry (table_of self.now) row.0 col.0 }
+    {
+        self.number(self.row_of(row), self.column_of(col))
+    }
+
+    /// A dictionary that is equal.
+    pub fn copy(&self) -> Result<Dict, AllocError>
+        ensures { IfOk result (λ d. d ≡ self.now) }
+    {
+        Ok(Dict {
+            phase: self.phase,
+            key: self.key,
+            labels: self.labels.clone()?,
+            columns: self.columns.clone()?,
+            denominator: self.denominator,
+            cells: self.cells.clone()?,
+            pivot_row: self.pivot_row.clone()?,
+        })
+    }
+
+    // The row of cells of a label.
+    pub(crate) fn row_of(&self, row: Label) -> usize
+        requires { Contains self.now.labels row.0 }
+        ensures value { result ≡ place_in self.now.labels row.0 }
+        ensures within { result < length self.now.labels }
+    {
+        place_of(&self.labels, row.0)
+    }
+
+    // The column of cells of a label of the cobasis.
+    pub(crate) fn column_of(&self, col: Label) -> usize
+        requires { Contains self.now.key col.0 }
+        ensures value { result ≡ suc (place_in self.now.columns col.0) }
+        ensures within { result < suc (length self.now.columns) }
+    {
+        place_of(&self.columns, col.0) + 1
+    }
+
+    // The number in row i and column j of the cells.
+    fn number(&self, i: usize, j: usize) -> Num
+        requires row { i < length self.now.labels }
+        requires column { j < suc (length self.now.columns) }
+        ensures { result ≡ cell (suc (length self.now.columns)) self.now.cells i j }
+    {
+        cell_at(&self.cells, self.labels.len(), self.pivot_row.len(), i, j)
+    }
+}

@@ -1,0 +1,103 @@
+//! The exchange of a row and a column in a table of cells, in place.
+ghost use Rattle.std.specs.Prelude.{◌≡◌, ◌≢◌, ◌<◌, ◌*◌, ◌*ℤ◌, ◌-ℤ◌, ◌<ℤ◌, length, pos};
+ghost use Rattle.std.specs.List.{slice_index_or};
+ghost use Rattle.poly_num.specs.Numbers.{IsNum, Crosses};
+ghost use Rattle.dictionary.specs.Cells.{cell, pivot_cell, Fits, IsPivotRow, AreExchangedCells, IsReduced, IsExchanged};
+
+use crate::cells::{at_place, cell_at};
+use poly_num::{Num, known_cross, known_product, negate, primitive};
+
+/// The exchange of a row and a column, both counted from 0, in a table of so many rows of `width` cells
+/// over a denominator.
+#[derive(Clone, Copy)]
+pub struct Exchange {
+    pub height: usize,
+    pub width: usize,
+    pub row: usize,
+    pub column: usize,
+    pub denominator: Num,
+}
+
+// The new cell in row i and column j. `c` is the old one in the row and the exchange's column.
+fn exchanged_cell(cells: &[Num], pivot_row: &[Num], x: &Exchange, i: usize, j: usize, c: Num) -> Num
+    requires size { length cells.now ≡ x.now.height * x.now.width }
+    requires width { length pivot_row.now ≡ x.now.width }
+    requires column { x.now.column < x.now.width }
+    requires i { i < x.now.height }
+    requires j { j < x.now.width }
+    requires column_fits { IsNum (c *ℤ x.now.denominator) }
+    requires inside_fits { j ≢ x.now.column → i ≢ x.now.row →
+        Crosses (cell x.now.width cells.now i j) (slice_index_or pivot_row.now x.now.column (pos 0)) c (slice_index_or pivot_row.now j (pos 0)) }
+    ensures column { j ≡ x.now.column → result ≡ c *ℤ x.now.denominator }
+    ensures row { j ≢ x.now.column → i ≡ x.now.row → result ≡ pos 0 }
+    ensures inside { j ≢ x.now.column → i ≢ x.now.row →
+        result ≡ cell x.now.width cells.now i j *ℤ slice_index_or pivot_row.now x.now.column (pos 0) -ℤ c *ℤ slice_index_or pivot_row.now j (pos 0) }
+{
+    if j == x.column {
+        known_product(c, x.denominator)
+    } else if i == x.row {
+        Num::ZERO
+    } else {
+        known_cross(cells[i * x.width + j], pivot_row[x.column], c, pivot_row[j])
+    }
+}
+
+// A copy of the exchange's row.
+fn copy_row(cells: &[Num], x: &Exchange, pivot_row: &mut [Num])
+    requires size { length cells.now ≡ x.now.height * x.now.width }
+    requires row { x.now.row < x.now.height }
+    requires width { length pivot_row.old ≡ x.now.width }
+    ensures { IsPivotRow x.now cells.now pivot_row.new }
+{
+    'columns: for j in 0..x.width {
+        pivot_row[j] = cell_at(cells, x.height, x.width, x.row, j);
+    }
+}
+
+// All new cells, where no product passes: only the exchange's row and column are read beside a cell, and
+// `pivot_row` is a copy of that row.
+fn write(cells: &mut [Num], pivot_row: &[Num], x: &Exchange)
+    requires size { length cells.old ≡ x.now.height * x.now.width }
+    requires row { x.now.row < x.now.height }
+    requires column { x.now.column < x.now.width }
+    requires copy { IsPivotRow x.now cells.old pivot_row.now }
+    requires fits { Fits x.now cells.old }
+    ensures { AreExchangedCells x.now cells.old cells.new }
+{
+    'rows: for i in 0..x.height {
+        let c = cell_at(cells, x.height, x.width, i, x.column);
+        'columns: for j in 0..x.width {
+            let z = exchanged_cell(cells, pivot_row, x, i, j, c);
+            cells[i * x.width + j] = z;
+        }
+    }
+}
+
+// Divides out what is common, and makes the cell at the place positive.
+fn reduce(cells: &mut [Num], place: usize)
+    requires place { place < length cells.old }
+    requires nonzero { slice_index_or cells.old place (pos 0) ≢ pos 0 }
+    ensures { IsReduced place cells.old cells.new }
+{
+    primitive(cells);
+    if !at_place(cells, place).is_positive() {
+        negate(cells);
+    }
+}
+
+/// Exchanges the row and the column, where no product passes. `pivot_row` has room for a row.
+pub fn exchange_in_place(cells: &mut [Num], pivot_row: &mut [Num], x: &Exchange)
+    requires size { length cells.old ≡ x.now.height * x.now.width }
+    requires room { length pivot_row.old ≡ x.now.width }
+    requires row { x.now.row < x.now.height }
+    requires column { x.now.column < x.now.width }
+    requires denominator { pos 0 <ℤ x.now.denominator }
+    requires nonzero { pivot_cell x.now cells.old ≢ pos 0 }
+    requires fits { Fits x.now cells.old }
+    ensures exchanged { IsExchanged x.now cells.old cells.new }
+    ensures room { length pivot_row.new ≡ x.now.width }
+{
+    copy_row(cells, x, pivot_row);
+    write(cells, pivot_row, x);
+    reduce(cells, x.row * x.width + x.column);
+}

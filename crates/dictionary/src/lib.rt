@@ -1,0 +1,11 @@
+//! Dictionaries of cobases over their least denominator, with pivots in place.
+#![tactic(auto)]
+
+mod cells;
+mod exchange;
+mod dict;
+mod passing;
+mod pivot;
+mod places;
+
+pub use dict::Dict;

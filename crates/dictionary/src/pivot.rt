@@ -1,0 +1,109 @@
+//! The pivot: a label enters the cobasis in the place of another.
+ghost use Rattle.std.specs.Prelude.{◌≡◌, ◌<◌, suc, length, IfOk, IfErr};
+ghost use Rattle.std.specs.Result.{IsOk};
+ghost use Rattle.std.specs.List.{Contains};
+ghost use Rattle.dictionary.specs.Cells.{Fits, PassesAt};
+ghost use Rattle.dictionary.specs.Views.{exchange_at, column_label, CanPivot, IsPivot, IsOverflow, NothingPasses};
+
+use crate::Dict;
+use crate::cells::at_place;
+use crate::exchange::{Exchange, exchange_in_place};
+use crate::passing::{Spot, passing};
+use crate::places::place_of;
+use poly_model::{Label, Overflow, Place};
+
+impl Dict {
+    /// Exchanges `row`, which is outside the cobasis, for `col`, which is in it. Takes no memory.
+    ///
+    /// Every product and every difference of two is tested before the first number is written. Where one
+    /// has no 127 bits, the answer names the dictionary and its places, and nothing has changed.
+    pub fn pivot(&mut self, row: Label, col: Label) -> Result<(), Overflow>
+        requires { CanPivot self.old row.0 col.0 }
+        ensures pivoted { IfOk result (λ _. IsPivot self.old row.0 col.0 self.new) }
+        ensures unchanged { IfErr result (λ _. self.new ≡ self.old) }
+        ensures passes { IfErr result (λ o. IsOverflow self.old row.0 col.0 o) }
+        ensures complete { NothingPasses self.old row.0 col.0 → IsOk result }
+    {
+        let x = self.exchange_of(row, col);
+        match passing(&self.cells, &x) {
+            Some(spot) => Err(self.overflow_at(row, col, spot)),
+            None => {
+                self.carry_out(row, col, &x);
+                Ok(())
+            }
+        }
+    }
+
+    // The exchange of their row and column.
+    fn exchange_of(&self, row: Label, col: Label) -> Exchange
+        requires row { Contains self.now.labels row.0 }
+        requires column { Contains self.now.key col.0 }
+        ensures { result ≡ exchange_at self.now row.0 col.0 }
+    {
+        Exchange {
+            height: self.labels.len(),
+            width: self.pivot_row.len(),
+            row: self.row_of(row),
+            column: self.column_of(col),
+            denominator: self.denominator,
+        }
+    }
+
+    // The exchange, where nothing passes.
+    fn carry_out(&mut self, row: Label, col: Label, x: &Exchange)
+        requires can { CanPivot self.old row.0 col.0 }
+        requires exchange { x.now ≡ exchange_at self.old row.0 col.0 }
+        requires fits { Fits x.now self.old.cells }
+        ensures { IsPivot self.old row.0 col.0 self.new }
+    {
+        let at = place_of(self.key.labels(), col.0);
+        exchange_in_place(&mut self.cells, &mut self.pivot_row, x);
+        self.denominator = at_place(&self.cells, x.row * x.width + x.column);
+        self.key = self.key.without_at(at).with(row.0);
+        self.columns[x.column - 1] = row.0;
+    }
+
+    // The overflow of the exchange at a place of the cells.
+    fn overflow_at(&self, row: Label, col: Label, spot: Spot) -> Overflow
+        requires can { CanPivot self.now row.0 col.0 }
+        requires passes { PassesAt (exchange_at self.now row.0 col.0) self.now.cells spot.row spot.column }
+        ensures { IsOverflow self.now row.0 col.0 result }
+    {
+        let label = Label(self.labels[spot.row]);
+        let at = Place { row: label, col };
+        if spot.column == self.column_of(col) {
+            let own = Place { row: col, col };
+            self.overflow(at, own, at, own)
+        } else {
+            let other = self.column_label(spot.column);
+            let pivot = Place { row, col };
+            let inside = Place { row: label, col: other };
+            self.overflow(pivot, inside, at, Place { row, col: other })
+        }
+    }
+
+    fn overflow(&self, a: Place, b: Place, c: Place, d: Place) -> Overflow
+        ensures { result ≡ record { phase = self.now.phase; key = self.now.key; a = a; b = b; c = c; d = d } }
+    {
+        Overflow {
+            phase: self.phase,
+            key: self.key,
+            a,
+            b,
+            c,
+            d,
+        }
+    }
+
+    // The label of a column of the cells.
+    fn column_label(&self, column: usize) -> Label
+        requires { column < suc (length self.now.columns) }
+        ensures { result.0 ≡ column_label self.now column }
+    {
+        if column == 0 {
+            Label::CONSTANT
+        } else {
+            Label(self.columns[column - 1])
+        }
+    }
+}
