@@ -15,5 +15,7 @@ pub mod Starts
 pub mod KeyExchange
 pub mod PhasePoints
 pub mod Equations
+pub mod CoordinateDictionary
+pub mod CoordinateSpaces
 pub mod KnownValues
 pub mod KnownOverflows

@@ -20,6 +20,9 @@ ghost use Rattle.dictionary_laws.specs.Laws.{
   StartLaws,
   PhasePoints,
   PointOfEquations,
+  CoordinateDictionary,
+  PhaseCoordinates,
+  CoordinateKeys,
 };
 
 /// A label of the cobasis has the denominator in its own column and 0 in the others. Where the space
@@ -102,4 +105,21 @@ pub fn phase_points()
 /// their constants are 0.
 pub fn point_of_equations()
     ensures { PointOfEquations }
+{}
+
+/// Where nothing is fixed, the coordinates are a cobasis. Its dictionary has the denominator 1, and
+/// the numbers of a label are the entries of its form.
+pub fn coordinate_dictionary()
+    ensures { CoordinateDictionary }
+{}
+
+/// The cone's space has all coordinates; that of the file's rows has them too, and of an H file all
+/// but the one at infinity.
+pub fn phase_coordinates()
+    ensures { PhaseCoordinates }
+{}
+
+/// A key of coordinates ascends, and has no label of a row.
+pub fn coordinate_keys()
+    ensures { CoordinateKeys }
 {}
