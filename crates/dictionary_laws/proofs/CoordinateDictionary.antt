@@ -1,5 +1,5 @@
 -- Where nothing is fixed, the coordinates are a cobasis, and the entries of the forms are its dictionary.
-use Rattle.std.proofs.Common.{◌≡◌, ◌≢◌, ℕ, zero, suc, Bool, true, false, cond, List, [], ◌∷◌, ℤ, pos, ◌+ℤ◌, ◌*ℤ◌, map, length, drop, get_or, refl, sym, ap, subst, ◌∙◌, ⊎_elim, arith}
+use Rattle.std.proofs.Common.{◌≡◌, ◌≢◌, ℕ, zero, suc, Bool, true, false, cond, List, [], ◌∷◌, ℤ, pos, ◌+ℤ◌, ◌*ℤ◌, map, length, drop, get_or, refl, sym, ap, subst, ◌∙◌, arith}
 use Rattle.std.specs.Prelude.{◌+◌, ◌≤ℤ◌, ◌<ℤ◌, ◌==◌, if◌then◌else◌}
 use Rattle.std.specs.List.{Contains, range_with_len}
 use Rattle.std.proofs.lemmas.Int.{ints}
@@ -16,12 +16,12 @@ use Rattle.linear_laws.proofs.Members.{Contains-first, Contains-later, Contains-
 use Rattle.linear_laws.proofs.Entries.{at-nil, coordinate_reads}
 use Rattle.dictionary_laws.specs.Keys.{AreDistinct, place_in}
 use Rattle.dictionary_laws.specs.Coordinates.{HasCoordinates, coordinate_table}
-use Rattle.dictionary_laws.proofs.Members.{contains_cases, sum_same, sum_zero}
+use Rattle.dictionary_laws.proofs.Members.{contains_other, sum_same, sum_zero}
 use Rattle.dictionary_laws.proofs.Directions.{zero_times}
 use Rattle.dictionary_laws.proofs.Duals.{Dual, independent}
 
 -- ---- places
-place_step : (P : ℕ → Type 0) (x k : ℕ) (ks : List ℕ) → (x ≡ k → P zero) →
+pub place_step : (P : ℕ → Type 0) (x k : ℕ) (ks : List ℕ) → (x ≡ k → P zero) →
     (x ≢ k → P (suc (place_in ks k))) → P (place_in (x ∷ ks) k)
 place_step P x k ks f g = by (x == k) refl
   where
@@ -29,10 +29,10 @@ place_step P x k ks f g = by (x == k) refl
     by true e = f (eqb-true x k e)
     by false e = g (eqb-false x k e)
 
-place_first : (x : ℕ) (ks : List ℕ) → place_in (x ∷ ks) x ≡ zero
+pub place_first : (x : ℕ) (ks : List ℕ) → place_in (x ∷ ks) x ≡ zero
 place_first x ks = place_step (λ i. i ≡ zero) x x ks (λ _. refl) (λ n. absurd (n refl))
 
-place_later : (x k : ℕ) (ks : List ℕ) → x ≢ k → place_in (x ∷ ks) k ≡ suc (place_in ks k)
+pub place_later : (x k : ℕ) (ks : List ℕ) → x ≢ k → place_in (x ∷ ks) k ≡ suc (place_in ks k)
 place_later x k ks n =
     place_step (λ i. i ≡ suc (place_in ks k)) x k ks (λ e. absurd (n e)) (λ _. refl)
 
@@ -41,19 +41,15 @@ behind : (x k : ℕ) (ks : List ℕ) → AreDistinct (x ∷ ks) → Contains ks 
     place_in (x ∷ ks) k ≡ suc (place_in ks k)
 behind x k ks h c = place_later x k ks (λ e. h.0 (subst (λ (j : ℕ). Contains ks j) (sym e) c))
 
-member : (x : ℕ) (ks : List ℕ) (k : ℕ) → Contains (x ∷ ks) k → x ≢ k → Contains ks k
-member x ks k c n = ⊎_elim (λ (e : k ≡ x). absurd (n (sym e))) (λ (d : Contains ks k). d)
-    (contains_cases x ks k c)
-
 -- a list of numbers, one for each label, at the place of a label
-at_place : (f : ℕ → ℤ) (ks : List ℕ) (k : ℕ) → Contains ks k → at (place_in ks k) (map f ks) ≡ f k
+pub at_place : (f : ℕ → ℤ) (ks : List ℕ) (k : ℕ) → Contains ks k → at (place_in ks k) (map f ks) ≡ f k
 at_place f [] k c = absurd (Contains-nil k c)
 at_place f (x ∷ ks) k c =
     place_step (λ i. at i (map f (x ∷ ks)) ≡ f k) x k ks (λ e. ap f e)
-    (λ n. at_place f ks k (member x ks k c n))
+    (λ n. at_place f ks k (contains_other x ks k c (λ e. n (sym e))))
 
 -- the forms of the labels are those of successive coordinates
-form_at : (f : ℕ → Vector) (ks : List ℕ) (a : ℕ) →
+pub form_at : (f : ℕ → Vector) (ks : List ℕ) (a : ℕ) →
     map f ks ≡ map coordinate (range_with_len a (length ks)) → (k : ℕ) → Contains ks k →
     (j : ℕ) → a + place_in ks k ≡ j → f k ≡ coordinate j
 form_at f [] a h k c j e = absurd (Contains-nil k c)
@@ -61,7 +57,7 @@ form_at f (x ∷ ks) a h k c j q =
     place_step (λ i. a + i ≡ j → f k ≡ coordinate j) x k ks
     (λ e s. let same : a ≡ j = omega (arith, s) in
     ap f (sym e) ∙ ap (λ l. get_or l 0 []) h ∙ ap coordinate same)
-    (λ n s. form_at f ks (a + 1) (ap (λ l. drop 1 l) h) k (member x ks k c n) j (omega (arith, s)))
+    (λ n s. form_at f ks (a + 1) (ap (λ l. drop 1 l) h) k (contains_other x ks k c (λ e. n (sym e))) j (omega (arith, s)))
     q
 
 -- ---- the value of a form by its entries

@@ -3,4 +3,5 @@ pub mod Points
 pub mod Numbers
 pub mod Exchange
 pub mod Coordinates
+pub mod MainSpace
 pub mod Laws

@@ -23,6 +23,7 @@ ghost use Rattle.dictionary_laws.specs.Laws.{
   CoordinateDictionary,
   PhaseCoordinates,
   CoordinateKeys,
+  MainDictionary,
 };
 
 /// A label of the cobasis has the denominator in its own column and 0 in the others. Where the space
@@ -122,4 +123,11 @@ pub fn phase_coordinates()
 /// A key of coordinates ascends, and has no label of a row.
 pub fn coordinate_keys()
     ensures { CoordinateKeys }
+{}
+
+/// A dictionary of the file's rows whose equations are settled and have a point, with the free
+/// coordinates in its key: its other labels are a cobasis of the main space, and its numbers write the
+/// labels there.
+pub fn main_dictionary()
+    ensures { MainDictionary }
 {}
