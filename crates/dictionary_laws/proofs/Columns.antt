@@ -1,6 +1,6 @@
 -- Directions for the labels of a cobasis, each with one positive value at its own label and 0 at
 -- the others.
-use Rattle.std.proofs.Common.{◌≡◌, ◌≢◌, ℕ, zero, suc, Bool, true, false, cond, List, [], ◌∷◌, ℤ, pos, negsuc, ◌*ℤ◌, refl, sym, ap, subst, ◌∙◌, ⊎_elim, arith}
+use Rattle.std.proofs.Common.{◌≡◌, ◌≢◌, ℕ, zero, suc, Bool, true, false, cond, List, [], ◌∷◌, ℤ, pos, negsuc, ◌*ℤ◌, refl, sym, ap, subst, ◌∙◌, arith}
 use Rattle.std.specs.Prelude.{◌<ℤ◌, ◌==◌, if◌then◌else◌}
 use Rattle.std.specs.List.{Contains}
 use Rattle.std.proofs.lemmas.Int.{ints}
@@ -12,7 +12,7 @@ use Rattle.poly_num.proofs.VectorLemmas.{dot-scale}
 use Rattle.poly_model.specs.Spaces.{Space, IsInside, IsDirection}
 use Rattle.poly_model.specs.Dictionaries.{IsCobasis, sum_over}
 use Rattle.linear_laws.proofs.Members.{Contains-first, Contains-later, Contains-nil}
-use Rattle.dictionary_laws.proofs.Members.{contains_cases, sum_zero, sum_single}
+use Rattle.dictionary_laws.proofs.Members.{contains_other, sum_zero, sum_single}
 use Rattle.dictionary_laws.proofs.Directions.{times_zero, zero_at_scale, direction_scale, spread, inside_spread}
 use Rattle.dictionary_laws.proofs.Duals.{Dual, dual_of, distinct}
 
@@ -30,10 +30,6 @@ pick P j k u v f g = by (j == k) refl
     by : (b : Bool) → (j == k) ≡ b → P (cond b u v)
     by true e = f (eqb-true j k e)
     by false e = g (eqb-false j k e)
-
-other : (x : ℕ) (ks : List ℕ) (k : ℕ) → Contains (x ∷ ks) k → k ≢ x → Contains ks k
-other x ks k c n = ⊎_elim (λ (e : k ≡ x). absurd (n e)) (λ (d : Contains ks k). d)
-    (contains_cases x ks k c)
 
 front_value : (e a : ℤ) → (e *ℤ a) *ℤ a ≡ e *ℤ (a *ℤ a)
 front_value e a = simp expand
@@ -58,17 +54,17 @@ module _ (space : Space) where
     dual = λ k. if k == x then front else behind k;
     direction = λ k i. pick (λ v. IsDirection space v) k x front (behind k)
         (λ e. direction_scale space (c.value *ℤ a) d.vector d.direction)
-        (λ n. direction_scale space (a *ℤ a) (c.dual k) (c.direction k (other x labels k i n)));
+        (λ n. direction_scale space (a *ℤ a) (c.dual k) (c.direction k (contains_other x labels k i n)));
     here = λ k i. pick (λ v. space.form k · v ≡ c.value *ℤ (a *ℤ a)) k x front (behind k)
         (λ e. subst (λ (j : ℕ). space.form j · front ≡ c.value *ℤ (a *ℤ a)) (sym e)
         (dot-scale (space.form x) (c.value *ℤ a) d.vector ∙ front_value c.value a))
         (λ n. dot-scale (space.form k) (a *ℤ a) (c.dual k)
-        ∙ ap (λ (z : ℤ). (a *ℤ a) *ℤ z) (c.here k (other x labels k i n)) ∙ mul_comm (a *ℤ a) c.value);
+        ∙ ap (λ (z : ℤ). (a *ℤ a) *ℤ z) (c.here k (contains_other x labels k i n)) ∙ mul_comm (a *ℤ a) c.value);
     elsewhere = λ k i j m n. pick (λ v. space.form j · v ≡ pos 0) k x front (behind k)
         (λ e. zero_at_scale (space.form j) (c.value *ℤ a) d.vector
         (d.elsewhere j m (λ f. n (f ∙ sym e))))
         (λ o. zero_at_scale (space.form j) (a *ℤ a) (c.dual k)
-        (c.elsewhere k (other x labels k i o) j m n));
+        (c.elsewhere k (contains_other x labels k i o) j m n));
   }
     where
       a : ℤ

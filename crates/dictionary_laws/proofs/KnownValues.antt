@@ -14,6 +14,7 @@ use Rattle.poly_model.specs.declared.kind.Kind.TheVariants.{H}
 use Rattle.poly_model.specs.Systems.{Polyhedron, FileRow}
 use Rattle.poly_model.specs.Spaces.{Space, IsInside, IsDirection, prepare_space}
 use Rattle.poly_model.specs.Dictionaries.{Table, IsCobasis, AreIndependent, Writes, IsDictionary, sum_over}
+use Rattle.dictionary_laws.specs.Coordinates.{coordinate_key, coordinate_table, first_coordinate}
 use Rattle.linear_laws.proofs.Members.{Contains-first, Contains-later, Contains-nil}
 use Rattle.dictionary_laws.proofs.Members.{by_cases}
 
@@ -44,6 +45,23 @@ table = record {
       else (if i == 8193 then (if k == 1 then pos 1 else pos 3)
       else (if k == 1 then pos 0 else pos 2));
 }
+
+-- before that: the coordinates, whose numbers are the entries of the rows
+coordinates_are : coordinate_key (first_coordinate H) 3 ≡ 8193 ∷ 8194 ∷ []
+coordinates_are = refl
+
+abbrev first_table : Table
+first_table = coordinate_table space (8193 ∷ 8194 ∷ [])
+
+entries_of_row_1 :
+    first_table.constant 1 ∷ first_table.entry 1 8193 ∷ first_table.entry 1 8194 ∷ []
+    ≡ pos 1 ∷ pos 2 ∷ negsuc 2 ∷ []
+entries_of_row_1 = refl
+
+entries_of_x2 :
+    first_table.constant 8194 ∷ first_table.entry 8194 8193 ∷ first_table.entry 8194 8194 ∷ []
+    ≡ pos 0 ∷ pos 0 ∷ pos 1 ∷ []
+entries_of_x2 = refl
 
 labels_are : space.labels ≡ 1 ∷ 2 ∷ 8193 ∷ 8194 ∷ []
 labels_are = refl

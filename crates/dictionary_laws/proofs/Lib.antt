@@ -15,5 +15,12 @@ pub mod Starts
 pub mod KeyExchange
 pub mod PhasePoints
 pub mod Equations
+pub mod CoordinateDictionary
+pub mod CoordinateSpaces
+pub mod Filters
+pub mod SettledCuts
+pub mod MainRows
+pub mod MainSpace
 pub mod KnownValues
 pub mod KnownOverflows
+pub mod KnownMainSpace

@@ -11,6 +11,10 @@ use Rattle.dictionary_laws.specs.Keys.{AreDistinct, HaveSameLabels}
 pub contains_cases : (x : ℕ) (ks : List ℕ) (k : ℕ) → Contains (x ∷ ks) k → (k ≡ x) ⊎ Contains ks k
 contains_cases x ks k c = ⊎_elim (λ (e : x ≡ k). inl (sym e)) (λ (d : Contains ks k). inr d) (Contains-cons_cases k x ks c)
 
+pub contains_other : (x : ℕ) (ks : List ℕ) (k : ℕ) → Contains (x ∷ ks) k → k ≢ x → Contains ks k
+contains_other x ks k c n = ⊎_elim (λ (e : k ≡ x). absurd (n e)) (λ (d : Contains ks k). d)
+    (contains_cases x ks k c)
+
 -- a fact of each label of a list, where it holds at the first and at all others
 pub by_cases : (P : ℕ → Type 0) (x : ℕ) (ks : List ℕ) → P x → ((k : ℕ) → Contains ks k → P k) →
     (k : ℕ) → Contains (x ∷ ks) k → P k

@@ -1,5 +1,5 @@
 -- The start cobasis is there, is one, and is a cobasis where no direction but 0 is 0 on all rows.
-use Rattle.std.proofs.Common.{◌≡◌, ℕ, Bool, true, false, cond, List, [], ◌∷◌, pos, map, length, refl, sym, ap, subst, ◌∙◌}
+use Rattle.std.proofs.Common.{◌≡◌, ℕ, Bool, true, false, List, [], ◌∷◌, pos, map, length, refl, sym, ap, subst, ◌∙◌}
 use Rattle.std.specs.List.{AllByRecursion, Contains, filter}
 use Rattle.std.proofs.lemmas.List.Elements.{All-from_recursion}
 use Rattle.poly_num.specs.Vectors.{Vector, ◌·◌}
@@ -9,18 +9,8 @@ use Rattle.poly_model.specs.Dictionaries.{AreIndependent, IsCobasis}
 use Rattle.dictionary_laws.specs.Points.{RowsDetermine}
 use Rattle.linear_laws.proofs.Members.{Contains-first, Contains-later, Contains-nil}
 use Rattle.dictionary_laws.proofs.Members.{by_cases, all_from}
+use Rattle.dictionary_laws.proofs.Filters.{filter_only}
 use Rattle.linear_laws.proofs.FirstBases.{first_basis, first_unique}
-
-filter_within : (test : ℕ → Bool) (ks : List ℕ) (k : ℕ) → Contains (filter test ks) k → Contains ks k
-filter_within test [] k c = c
-filter_within test (x ∷ ks) k c = by (filter_within test ks) (test x) c
-  where
-    by : ((j : ℕ) → Contains (filter test ks) j → Contains ks j) →
-        (b : Bool) → Contains (cond b (x ∷ filter test ks) (filter test ks)) k → Contains (x ∷ ks) k
-    by within true d =
-        by_cases (Contains (x ∷ ks)) x (filter test ks) (Contains-first x ks)
-        (λ j i. Contains-later j x ks (within j i)) k d
-    by within false d = Contains-later k x ks (within k d)
 
 marked_within : (ks : List ℕ) (ms : List Bool) (k : ℕ) → Contains (marked ks ms) k → Contains ks k
 marked_within [] ms k c = c
@@ -92,8 +82,8 @@ module _ (space : Space) where
   start_is_cobasis rows start h = subst (λ (key : List ℕ). IsCobasis space key) (sym h.taken) (record {
     labels = All-from_recursion (Contains space.labels) key
         (all_from (Contains space.labels) key
-        (λ k c. filter_within is_row space.labels k
-        (marked_within (filter is_row space.labels) h.marks k c)));
+        (λ k c. (filter_only is_row space.labels k
+        (marked_within (filter is_row space.labels) h.marks k c)).0));
     independent = marked_independent [] (space.infinity ∷ space.fixed)
         (filter is_row space.labels) h.marks stand_at_first h.first;
     enough = λ z d v. rows z d

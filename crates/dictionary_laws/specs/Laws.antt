@@ -3,12 +3,14 @@ use Rattle.std.specs.Prelude.{◌≡◌, ◌≢◌, ◌↔◌, ℕ, ◌<◌, pos
 use Rattle.std.specs.List.{Contains}
 use Rattle.poly_model.specs.Keys.{IsKey, with_label}
 use Rattle.poly_model.specs.Systems.{Polyhedron}
-use Rattle.poly_model.specs.Spaces.{Space, IsStartCobasis, HasPoints}
+use Rattle.poly_model.specs.Spaces.{Space, IsStartCobasis, prepare_space, HasPoints}
 use Rattle.poly_model.specs.Dictionaries.{Table, IsCobasis, Writes, IsDictionary}
 use Rattle.dictionary_laws.specs.Keys.{AreDistinct, HaveSameLabels, Exchanges}
 use Rattle.dictionary_laws.specs.Points.{HasPointOn, AreSettled, RowsDetermine, ArePhasePoints}
 use Rattle.dictionary_laws.specs.Numbers.{IsOwnRow, Agree, DividesNumbers, DividesOutside, ArePrimitive, IsGcdOfNumbers, divided}
 use Rattle.dictionary_laws.specs.Exchange.{CanExchange, exchanged}
+use Rattle.dictionary_laws.specs.Coordinates.{HasCoordinates, coordinate_key, coordinate_table, ArePhaseCoordinates, AreCoordinateLabels}
+use Rattle.dictionary_laws.specs.MainSpace.{CanEnterMain, EntersMain}
 
 -- in numbers that write the labels over a cobasis, each label of the key has its own row
 abbrev pub OwnEntries : Type 0
@@ -120,3 +122,24 @@ PointOfEquations =
     Writes space key t → ((i : ℕ) → Contains equations i → Contains space.labels i) →
     AreSettled key t equations →
     HasPointOn space equations ↔ ((i : ℕ) → Contains equations i → t.constant i ≡ pos 0)
+
+-- the coordinates are a cobasis, and its dictionary has the entries of the forms
+abbrev pub CoordinateDictionary : Type 0
+CoordinateDictionary =
+    (space : Space) (key : List ℕ) → HasCoordinates space key → AreDistinct key →
+    IsDictionary space key (coordinate_table space key)
+
+-- the first two phases have such spaces
+abbrev pub PhaseCoordinates : Type 0
+PhaseCoordinates = (p : Polyhedron) → ArePhaseCoordinates p
+
+-- the keys of coordinates are ascending labels of coordinates
+abbrev pub CoordinateKeys : Type 0
+CoordinateKeys = (j n : ℕ) → AreCoordinateLabels (coordinate_key j n)
+
+-- a dictionary of the file's rows, without its equations and free coordinates, is one of the main space
+-- up to a common divisor. No label of a row may be that of a coordinate
+abbrev pub MainDictionary : Type 0
+MainDictionary =
+    (p : Polyhedron) (free key : List ℕ) (t : Table) → length p.rows < 8192 →
+    IsDictionary (prepare_space p) key t → CanEnterMain p free key t → EntersMain p free key t

@@ -20,6 +20,10 @@ ghost use Rattle.dictionary_laws.specs.Laws.{
   StartLaws,
   PhasePoints,
   PointOfEquations,
+  CoordinateDictionary,
+  PhaseCoordinates,
+  CoordinateKeys,
+  MainDictionary,
 };
 
 /// A label of the cobasis has the denominator in its own column and 0 in the others. Where the space
@@ -102,4 +106,28 @@ pub fn phase_points()
 /// their constants are 0.
 pub fn point_of_equations()
     ensures { PointOfEquations }
+{}
+
+/// Where nothing is fixed, the coordinates are a cobasis. Its dictionary has the denominator 1, and
+/// the numbers of a label are the entries of its form.
+pub fn coordinate_dictionary()
+    ensures { CoordinateDictionary }
+{}
+
+/// The cone's space has all coordinates; that of the file's rows has them too, and of an H file all
+/// but the one at infinity.
+pub fn phase_coordinates()
+    ensures { PhaseCoordinates }
+{}
+
+/// A key of coordinates ascends, and has no label of a row.
+pub fn coordinate_keys()
+    ensures { CoordinateKeys }
+{}
+
+/// A dictionary of the file's rows whose equations are settled and have a point, with the free
+/// coordinates in its key: its other labels are a cobasis of the main space, and its numbers write the
+/// labels there.
+pub fn main_dictionary()
+    ensures { MainDictionary }
 {}
