@@ -12,11 +12,6 @@ abbrev pub AreDistinct : List ℕ → Type 0
 AreDistinct [] = Unit {0}
 AreDistinct (k ∷ ks) = (Contains ks k → ⊥) × AreDistinct ks
 
--- how many labels stand before the first one that is k
-abbrev pub place_in : List ℕ → ℕ → ℕ
-place_in [] k = zero
-place_in (x ∷ xs) k = if x == k then zero else suc (place_in xs k)
-
 -- the two lists have the same labels
 pub record HaveSameLabels (key other : List ℕ) : Type 0 where
   pub there : (k : ℕ) → Contains key k → Contains other k
