@@ -4,3 +4,8 @@ pub mod PlaceLemmas
 pub mod Pivots
 pub mod CarriedOut
 pub mod OverflowLemmas
+pub mod CommonLemmas
+pub mod LeftLemmas
+pub mod WrittenOver
+pub mod UndividedLemmas
+pub mod LeastOver

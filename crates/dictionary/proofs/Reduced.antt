@@ -8,7 +8,7 @@ use Rattle.poly_num.proofs.Order.{zero_factor}
 use Rattle.poly_num.proofs.VectorLemmas.{length-scale}
 use Rattle.poly_num.proofs.PrimitiveLemmas.{primitive-neg}
 use Rattle.dictionary.specs.declared.exchange.Exchange.{Exchange}
-use Rattle.dictionary.specs.Cells.{cell, pivot_cell, IsExchangedCell, AreExchangedCells, IsReduced, IsExchanged}
+use Rattle.dictionary.specs.Cells.{pivot_cell, IsExchangedCell, AreExchangedCells, IsReduced, IsExchanged}
 
 pub get_or-scale : (g : ℤ) (v : List ℤ) (k : ℕ) → get_or (scale g v) k (pos 0) ≡ g *ℤ get_or v k (pos 0)
 get_or-scale g [] k = sym (mul_zero g)
@@ -20,7 +20,7 @@ get_or-neg [] k = refl
 get_or-neg (x ∷ v) zero = refl
 get_or-neg (x ∷ v) (suc k) = get_or-neg v k
 
-get_or-zero : (v : List ℤ) (k : ℕ) → IsZero v → get_or v k (pos 0) ≡ pos 0
+pub get_or-zero : (v : List ℤ) (k : ℕ) → IsZero v → get_or v k (pos 0) ≡ pos 0
 get_or-zero [] k h = refl
 get_or-zero (x ∷ v) zero h = h.0
 get_or-zero (x ∷ v) (suc k) h = get_or-zero v k h.1

@@ -7,5 +7,6 @@ mod dict;
 mod passing;
 mod pivot;
 mod places;
+mod words;
 
 pub use dict::Dict;
