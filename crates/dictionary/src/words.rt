@@ -171,31 +171,25 @@ fn quick(half: bool, e: Num, p: Num, c: Num, a: Num, divisor: &Divisor) -> Optio
     }
 }
 
-// The new cell in row i and a column j that is not the exchange's, over the divisor. `c` is the old cell in
-// the row and the exchange's column.
-fn inside_cell(cells: &mut [Num], row: &[Num], x: &Exchange, i: usize, j: usize, p: Num, c: Num, half: bool, divisor: &mut Divisor) -> Num
-    requires size { length cells.old ≡ x.now.height * x.now.width }
-    requires width { length row.now ≡ x.now.width }
-    requires i { i < x.now.height }
-    requires j { j < x.now.width }
+// `e p - c a` over the divisor. Where that does not divide it, the divisor shrinks, and the cells before the
+// place grow.
+fn over_cross(cells: &mut [Num], place: usize, e: Num, p: Num, c: Num, a: Num, half: bool, divisor: &mut Divisor) -> Num
+    requires place { place ≤ length cells.old }
+    requires e { IsWord e }
     requires p { IsWord p }
     requires c { IsWord c }
-    requires cell { IsWord (cell x.now.width cells.old i j) }
-    requires above { IsWord (slice_index_or row.now j (pos 0)) }
+    requires a { IsWord a }
+    requires half { IsTrue half → IsHalf p × IsHalf c × IsHalf a × IsHalf divisor.old }
     requires positive { pos 0 <ℤ divisor.old }
     requires word { IsWord divisor.old }
-    requires half { IsTrue half → IsHalf p × IsHalf c × IsHalf (slice_index_or row.now j (pos 0)) × IsHalf divisor.old }
-    requires fits { (k : ℕ) → k < i * x.now.width + j → IsNum (slice_index_or cells.old k (pos 0) *ℤ divisor.old) }
-    ensures quotient { result *ℤ divisor.new ≡ cell x.now.width cells.old i j *ℤ p -ℤ c *ℤ slice_index_or row.now j (pos 0) }
+    requires fits { (k : ℕ) → k < place → IsNum (slice_index_or cells.old k (pos 0) *ℤ divisor.old) }
+    ensures quotient { result *ℤ divisor.new ≡ e *ℤ p -ℤ c *ℤ a }
     ensures left { IsLeftOf divisor.old (result *ℤ divisor.new) divisor.new }
-    ensures rescaled { IsRescaled (i * x.now.width + j) divisor.old divisor.new cells.old cells.new }
+    ensures rescaled { IsRescaled place divisor.old divisor.new cells.old cells.new }
 {
-    let place = i * x.width + j;
-    let e = cells[place];
-    let above = row[j];
-    match quick(half, e, p, c, above, divisor) {
+    match quick(half, e, p, c, a, divisor) {
         Some(q) => q,
-        None => over(cells, place, word_cross(e, p, c, above), divisor),
+        None => over(cells, place, word_cross(e, p, c, a), divisor),
     }
 }
 
@@ -212,19 +206,22 @@ fn new_cell(cells: &mut [Num], row: &[Num], x: &Exchange, i: usize, j: usize, p:
     requires denominator { IsWord x.now.denominator }
     requires cell { IsWord (cell x.now.width cells.old i j) }
     requires above { IsWord (slice_index_or row.now j (pos 0)) }
+    requires half { IsTrue half → IsHalf p × IsHalf c × IsHalf (slice_index_or row.now j (pos 0)) × IsHalf divisor.old }
+    requires half_denominator { IsTrue half → IsHalf x.now.denominator }
     requires positive { pos 0 <ℤ divisor.old }
     requires word { IsWord divisor.old }
-    requires half { IsTrue half → IsHalf p × IsHalf c × IsHalf (slice_index_or row.now j (pos 0)) × IsHalf divisor.old }
     requires fits { (k : ℕ) → k < i * x.now.width + j → IsNum (slice_index_or cells.old k (pos 0) *ℤ divisor.old) }
     ensures column { j ≡ x.now.column → result *ℤ divisor.new ≡ own *ℤ x.now.denominator }
     ensures inside { j ≢ x.now.column → result *ℤ divisor.new ≡ cell x.now.width cells.old i j *ℤ p -ℤ c *ℤ slice_index_or row.now j (pos 0) }
     ensures left { IsLeftOf divisor.old (result *ℤ divisor.new) divisor.new }
     ensures rescaled { IsRescaled (i * x.now.width + j) divisor.old divisor.new cells.old cells.new }
 {
+    let place = i * x.width + j;
     if j == x.column {
-        over(cells, i * x.width + j, word_product(own, x.denominator), divisor)
+        over_cross(cells, place, own, x.denominator, Num::ZERO, Num::ZERO, half, divisor)
     } else {
-        inside_cell(cells, row, x, i, j, p, c, half, divisor)
+        let e = cells[place];
+        over_cross(cells, place, e, p, c, row[j], half, divisor)
     }
 }
 
@@ -233,6 +230,13 @@ fn stays(p: Num, c: Num, divisor: &Divisor) -> bool
     ensures { IsTrue result → (c ≡ pos 0) × (p ≡ divisor.now) }
 {
     c == Num::ZERO && p == divisor.value()
+}
+
+// Whether the denominator and the exchange's row fit half words.
+fn fit_half(row: &[Num], denominator: Num) -> bool
+    ensures { IsTrue result → All IsHalf row.now × IsHalf denominator }
+{
+    is_half(denominator) && are_halves(row)
 }
 
 // Whether all that a row's new cells are computed of, but the row itself, fits half a word.
@@ -260,7 +264,7 @@ pub fn exchange_words(cells: &mut [Num], pivot_row: &mut [Num], x: &Exchange)
     let common = common_factor(cells, x);
     let sign = sign_number(cell_at(cells, x.height, x.width, x.row, x.column));
     copy_turned(cells, x, sign, pivot_row);
-    let half_row = are_halves(pivot_row);
+    let half_row = fit_half(pivot_row, x.denominator);
     let p = over_common(at_place(pivot_row, x.column), &common);
     let mut divisor = Divisor::new(x.denominator);
     'rows: for i in 0..x.height {

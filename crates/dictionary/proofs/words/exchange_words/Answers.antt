@@ -59,12 +59,15 @@ columns-init c =
       half = λ t. (c.fits_half-half.ensures t).2;
     }
 
+pub new_cell-z-requires-clause-half_denominator : goal.new_cell-z-requires-clause-half_denominator
+new_cell-z-requires-clause-half_denominator c t = (c.fit_half-half_row.ensures (c.fits_half-half.ensures t).0).1
+
 pub new_cell-z-requires-clause-half : goal.new_cell-z-requires-clause-half
 new_cell-z-requires-clause-half c t =
     let x = c.args.x.now in
     let row = c.copy_turned.new.row in
     let f = c.fits_half-half.ensures t in
-    let all : All IsHalf row = c.are_halves-half_row.ensures.0 f.0 in
+    let all : All IsHalf row = (c.fit_half-half_row.ensures f.0).0 in
     let at = λ (j : ℕ) (l : j < x.width).
         All-get_or IsHalf row j (pos 0) (omega (arith, c.copy_turned.ensures.width)) all in
     let p = quotient_half c.over_common-p.result c.common_factor-common.result c.at_place.result
