@@ -17,7 +17,7 @@ use Rattle.poly_num.proofs.DivisorLemmas.{dvd-multiple}
 use Rattle.poly_num.proofs.PrimitiveLemmas.{zero_from_size}
 use Rattle.poly_num.proofs.WordLemmas.{words_product, words_cross}
 use Rattle.dictionary.specs.declared.exchange.Exchange.{Exchange}
-use Rattle.dictionary.specs.Cells.{cell, pivot_cell, IsExchangedCell}
+use Rattle.dictionary.specs.Cells.{cell, pivot_cell, Fits, IsExchangedCell}
 use Rattle.dictionary.specs.WordExchange.{IsLeftOf, IsRescaled}
 use Rattle.dictionary.proofs.LeftLemmas.{at_least}
 
@@ -35,6 +35,18 @@ pub word_at : (x : Exchange) (old : List ℤ) → length old ≡ x.height * x.wi
 word_at x old size words i j hi hj =
     All-get_or IsWord old (i * x.width + j) (pos 0)
     (let l = mul-add-lt i x.width j x.height hi hj in omega (arith, mul_comm x.height x.width)) words
+
+-- where all cells and the denominator are words, no product passes
+pub words_fit : (x : Exchange) (old : List ℤ) → length old ≡ x.height * x.width → All IsWord old →
+    x.row < x.height → x.column < x.width → IsWord x.denominator → Fits x old
+words_fit x old size words hr hs word i hi =
+    let at = word_at x old size words in
+    record {
+      column = words_product (cell x.width old i x.column) x.denominator (at i x.column hi hs) word;
+      inside = λ j hj _ _.
+          words_cross (cell x.width old i j) (pivot_cell x old) (cell x.width old i x.column) (cell x.width old x.row j)
+          (at i j hi hj) (at x.row x.column hr hs) (at i x.column hi hs) (at x.row j hr hj);
+    }
 
 module _ (x : Exchange) (old : List ℤ) (f : ℤ) where
   -- the cells before place p are the new ones over f g, the others the old ones; g divides the

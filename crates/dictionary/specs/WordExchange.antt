@@ -34,10 +34,11 @@ pub record IsSignOf (z t : ℤ) : Type 0 where
   pub square : t *ℤ t ≡ pos 1
   pub positive : z ≢ pos 0 → pos 0 <ℤ (t *ℤ z)
 
--- the exchange's row with the sign t
-pub record IsTurnedRow (x : Exchange) (cells : List ℤ) (t : ℤ) (row : List ℤ) : Type 0 where
+-- a copy of the exchange's row with z in the exchange's column
+pub record IsShiftedRow (x : Exchange) (cells : List ℤ) (z : ℤ) (row : List ℤ) : Type 0 where
   pub width : length row ≡ x.width
-  pub same : (j : ℕ) → j < x.width → slice_index_or row j (pos 0) ≡ t *ℤ cell x.width cells x.row j
+  pub own : slice_index_or row x.column (pos 0) ≡ z
+  pub others : (j : ℕ) → j < x.width → j ≢ x.column → slice_index_or row j (pos 0) ≡ cell x.width cells x.row j
 
 -- h is what is left of the divisor g where n is to be divided too
 pub record IsLeftOf (g n h : ℤ) : Type 0 where

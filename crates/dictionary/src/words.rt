@@ -8,11 +8,14 @@ ghost use Rattle.poly_num.specs.Numbers.{IsNum, IsWord};
 ghost use Rattle.poly_num.specs.Divisors.{IsGcdOf};
 ghost use Rattle.poly_num.specs.Halves.{IsHalf};
 ghost use Rattle.dictionary.specs.Cells.{cell, pivot_cell, IsExchanged};
-ghost use Rattle.dictionary.specs.WordExchange.{HasUnitRow, IsCommonTo, IsSignOf, IsTurnedRow, IsLeftOf, IsScaled, IsRescaled};
+ghost use Rattle.dictionary.specs.WordExchange.{HasUnitRow, IsCommonTo, IsSignOf, IsShiftedRow, IsLeftOf, IsScaled, IsRescaled};
 
 use crate::cells::{at_place, cell_at};
-use crate::exchange::Exchange;
-use poly_num::{Divisor, Num, are_halves, gcd, is_half, known_product, neg, quotient, word_cross, word_product};
+use crate::exchange::{Exchange, exchange_in_place};
+use poly_num::{
+    Divisor, Num, are_halves, gcd, is_half, is_word, known_product, neg, quotient, sub, word_cross,
+    word_product,
+};
 
 // Whether the number is 1.
 #[tactic(auto, using(std::proofs::lemmas::Bool::Decides::nat_tests))]
@@ -93,18 +96,26 @@ fn sign_number(a: Num) -> Num
     }
 }
 
-// A copy of the exchange's row with a sign.
-fn copy_turned(cells: &[Num], x: &Exchange, t: Num, row: &mut [Num])
+// The pivot's cell less the denominator, where that fits a machine word.
+fn shift_of(pivot: Num, denominator: Num) -> Option<Num>
+    ensures { IfSome result (λ z. (z ≡ pivot -ℤ denominator) × IsWord z) }
+{
+    let z = sub(pivot, denominator)?;
+    if is_word(z) { Some(z) } else { None }
+}
+
+// A copy of the exchange's row, with another number in its column.
+fn copy_shifted(cells: &[Num], x: &Exchange, shift: Num, row: &mut [Num])
     requires size { length cells.now ≡ x.now.height * x.now.width }
     requires row { x.now.row < x.now.height }
+    requires column { x.now.column < x.now.width }
     requires width { length row.old ≡ x.now.width }
-    requires sign { IsWord t }
-    requires words { All IsWord cells.now }
-    ensures { IsTurnedRow x.now cells.now t row.new }
+    ensures { IsShiftedRow x.now cells.now shift row.new }
 {
     'columns: for j in 0..x.width {
-        row[j] = word_product(t, cell_at(cells, x.height, x.width, x.row, j));
+        row[j] = cell_at(cells, x.height, x.width, x.row, j);
     }
+    row[x.column] = shift;
 }
 
 // The cells before the place times a factor.
@@ -193,38 +204,6 @@ fn over_cross(cells: &mut [Num], place: usize, e: Num, p: Num, c: Num, a: Num, h
     }
 }
 
-// The new cell in row i and column j, over the divisor. `c` is the old one in the row and the exchange's
-// column, `own` is that with the sign of the pivot's cell.
-fn new_cell(cells: &mut [Num], row: &[Num], x: &Exchange, i: usize, j: usize, p: Num, c: Num, own: Num, half: bool, divisor: &mut Divisor) -> Num
-    requires size { length cells.old ≡ x.now.height * x.now.width }
-    requires width { length row.now ≡ x.now.width }
-    requires i { i < x.now.height }
-    requires j { j < x.now.width }
-    requires p { IsWord p }
-    requires c { IsWord c }
-    requires own { IsWord own }
-    requires denominator { IsWord x.now.denominator }
-    requires cell { IsWord (cell x.now.width cells.old i j) }
-    requires above { IsWord (slice_index_or row.now j (pos 0)) }
-    requires half { IsTrue half → IsHalf p × IsHalf c × IsHalf (slice_index_or row.now j (pos 0)) × IsHalf divisor.old }
-    requires half_denominator { IsTrue half → IsHalf x.now.denominator }
-    requires positive { pos 0 <ℤ divisor.old }
-    requires word { IsWord divisor.old }
-    requires fits { (k : ℕ) → k < i * x.now.width + j → IsNum (slice_index_or cells.old k (pos 0) *ℤ divisor.old) }
-    ensures column { j ≡ x.now.column → result *ℤ divisor.new ≡ own *ℤ x.now.denominator }
-    ensures inside { j ≢ x.now.column → result *ℤ divisor.new ≡ cell x.now.width cells.old i j *ℤ p -ℤ c *ℤ slice_index_or row.now j (pos 0) }
-    ensures left { IsLeftOf divisor.old (result *ℤ divisor.new) divisor.new }
-    ensures rescaled { IsRescaled (i * x.now.width + j) divisor.old divisor.new cells.old cells.new }
-{
-    let place = i * x.width + j;
-    if j == x.column {
-        over_cross(cells, place, own, x.denominator, Num::ZERO, Num::ZERO, half, divisor)
-    } else {
-        let e = cells[place];
-        over_cross(cells, place, e, p, c, row[j], half, divisor)
-    }
-}
-
 // Whether the row stays as it is: the exchange takes nothing of it, and divides what it is multiplied by.
 fn stays(p: Num, c: Num, divisor: &Divisor) -> bool
     ensures { IsTrue result → (c ≡ pos 0) × (p ≡ divisor.now) }
@@ -232,18 +211,51 @@ fn stays(p: Num, c: Num, divisor: &Divisor) -> bool
     c == Num::ZERO && p == divisor.value()
 }
 
-// Whether the denominator and the exchange's row fit half words.
-fn fit_half(row: &[Num], denominator: Num) -> bool
-    ensures { IsTrue result → All IsHalf row.now × IsHalf denominator }
+// Whether all that a row's new cells are computed of, but the row itself, fits half a word.
+fn fits_half(half_row: bool, p: Num, c: Num, divisor: &Divisor) -> bool
+    ensures { IsTrue result → IsTrue half_row × IsHalf p × IsHalf c × IsHalf divisor.now }
 {
-    is_half(denominator) && are_halves(row)
+    half_row && is_half(p) && is_half(c) && is_half(divisor.value())
 }
 
-// Whether all that a row's new cells are computed of, but the row itself, fits half a word.
-fn fits_half(half_row: bool, c: Num, divisor: &Divisor) -> bool
-    ensures { IsTrue result → IsTrue half_row × IsHalf c × IsHalf divisor.now }
+// The exchange, where the pivot's cell less the denominator fits a machine word too. With that in the
+// column of the exchange's row, all columns take the same steps.
+fn exchange_over(cells: &mut [Num], pivot_row: &mut [Num], x: &Exchange, shift: Num)
+    requires size { length cells.old ≡ x.now.height * x.now.width }
+    requires room { length pivot_row.old ≡ x.now.width }
+    requires row { x.now.row < x.now.height }
+    requires column { x.now.column < x.now.width }
+    requires denominator { pos 0 <ℤ x.now.denominator }
+    requires nonzero { pivot_cell x.now cells.old ≢ pos 0 }
+    requires word { IsWord x.now.denominator }
+    requires words { All IsWord cells.old }
+    requires unit { HasUnitRow x.now cells.old }
+    requires shift { shift ≡ pivot_cell x.now cells.old -ℤ x.now.denominator }
+    requires shift_word { IsWord shift }
+    ensures exchanged { IsExchanged x.now cells.old cells.new }
+    ensures room { length pivot_row.new ≡ x.now.width }
 {
-    half_row && is_half(c) && is_half(divisor.value())
+    let common = common_factor(cells, x);
+    let pivot = cell_at(cells, x.height, x.width, x.row, x.column);
+    let sign = sign_number(pivot);
+    copy_shifted(cells, x, shift, pivot_row);
+    let half_row = are_halves(pivot_row);
+    let p = over_common(word_product(sign, pivot), &common);
+    let mut divisor = Divisor::new(x.denominator);
+    'rows: for i in 0..x.height {
+        let c = over_common(cell_at(cells, x.height, x.width, i, x.column), &common);
+        let own = word_product(sign, c);
+        if stays(p, own, &divisor) {
+            continue;
+        }
+        let half = fits_half(half_row, p, own, &divisor);
+        'columns: for j in 0..x.width {
+            let e = cell_at(cells, x.height, x.width, i, j);
+            let a = at_place(pivot_row, j);
+            let z = over_cross(cells, i * x.width + j, e, p, own, a, half, &mut divisor);
+            cells[i * x.width + j] = z;
+        }
+    }
 }
 
 /// Exchanges the row and the column where all cells and the denominator fit a machine word: no product can
@@ -261,22 +273,9 @@ pub fn exchange_words(cells: &mut [Num], pivot_row: &mut [Num], x: &Exchange)
     ensures exchanged { IsExchanged x.now cells.old cells.new }
     ensures room { length pivot_row.new ≡ x.now.width }
 {
-    let common = common_factor(cells, x);
-    let sign = sign_number(cell_at(cells, x.height, x.width, x.row, x.column));
-    copy_turned(cells, x, sign, pivot_row);
-    let half_row = fit_half(pivot_row, x.denominator);
-    let p = over_common(at_place(pivot_row, x.column), &common);
-    let mut divisor = Divisor::new(x.denominator);
-    'rows: for i in 0..x.height {
-        let c = over_common(cell_at(cells, x.height, x.width, i, x.column), &common);
-        if stays(p, c, &divisor) {
-            continue;
-        }
-        let own = word_product(sign, c);
-        let half = fits_half(half_row, c, &divisor);
-        'columns: for j in 0..x.width {
-            let z = new_cell(cells, pivot_row, x, i, j, p, c, own, half, &mut divisor);
-            cells[i * x.width + j] = z;
-        }
+    let pivot = cell_at(cells, x.height, x.width, x.row, x.column);
+    match shift_of(pivot, x.denominator) {
+        Some(shift) => exchange_over(cells, pivot_row, x, shift),
+        None => exchange_in_place(cells, pivot_row, x),
     }
 }

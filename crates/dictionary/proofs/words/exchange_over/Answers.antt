@@ -1,0 +1,201 @@
+use Rattle.std.proofs.Common.{◌≡◌, ◌<◌, ℕ, ℤ, ◌+◌, ◌-◌, ◌*◌, ◌*ℤ◌, ◌-ℤ◌, pos, length, get_or, sym, ap, subst, arith, ◌∙◌, mul_comm, refl, ⊎_elim}
+use Prim.Native.Nat.{◌∣◌}
+use Rattle.std.specs.List.{All}
+use Rattle.std.specs.Prelude.{unsigned_abs}
+use Rattle.std.proofs.lemmas.List.Elements.{All-get_or}
+use Rattle.std.proofs.lemmas.Nat.{mul-add-lt}
+use Rattle.poly_num.specs.Halves.{IsHalf}
+use Rattle.poly_num.specs.Numbers.{IsWord}
+use Rattle.dictionary.specs.Cells.{cell, pivot_cell}
+use Rattle.dictionary.specs.WordExchange.{IsSignOf}
+use Rattle.dictionary.proofs.LeftLemmas.{quotient_word, divisor_word, divisor_half}
+use Rattle.dictionary.proofs.WrittenOver.{IsWrittenOver, over_start, over_along, over_more, over_stays, over_fits, word_at}
+use Rattle.dictionary.proofs.UndividedLemmas.{turned_word, turned_divides, factor_nonzero, shifted_word, undivided_is, stays_is}
+use Rattle.dictionary.proofs.LeastOver.{least_exchanged}
+use Rattle.dictionary.proofs.words.exchange_over.Goals as goal
+
+pub over_common-p-requires-clause-divides : goal.over_common-p-requires-clause-divides
+over_common-p-requires-clause-divides c =
+    let x = c.args.x.now in
+    let h = c.common_factor-common in
+    let t = c.sign_number-sign in
+    subst (λ (z : ℤ). unsigned_abs h.result ∣ unsigned_abs z) (sym c.word_product.ensures)
+    (turned_divides h.result t.result c.cell_at-pivot.result t.ensures.size
+    (subst (λ (z : ℤ). unsigned_abs h.result ∣ unsigned_abs z) (sym c.cell_at-pivot.ensures)
+    (h.ensures.row x.column c.requires.column)))
+
+pub rows-init : goal.rows-init
+rows-init c =
+    let x = c.args.x.now in
+    let old = c.args.cells.now in
+    let f = c.sign_number-sign.result *ℤ c.common_factor-common.result in
+    subst (λ (g : ℤ). IsWrittenOver x old f (0 * x.width) g old) (sym c.new-divisor.ensures)
+    (over_along x old f 0 (0 * x.width) x.denominator old (omega arith) (over_start x old f c.requires.denominator))
+
+pub over_common-c-requires-clause-divides : goal.over_common-c-requires-clause-divides
+over_common-c-requires-clause-divides c =
+    let h = c.common_factor-common in
+    let same = c.cell_at.ensures
+        ∙ c.rows.invariant.rest c.rows.i c.args.x.now.column c.rows-test.true c.requires.column (omega arith) in
+    subst (λ (z : ℤ). unsigned_abs h.result ∣ unsigned_abs z) (sym same) (h.ensures.column c.rows.i c.rows-test.true)
+
+pub word_product-own-requires-clause-right : goal.word_product-own-requires-clause-right
+word_product-own-requires-clause-right c =
+    let x = c.args.x.now in
+    let same = c.cell_at.ensures
+        ∙ c.rows.invariant.rest c.rows.i x.column c.rows-test.true c.requires.column (omega arith) in
+    quotient_word c.over_common-c.result c.common_factor-common.result c.cell_at.result
+    c.common_factor-common.ensures.positive c.over_common-c.ensures
+    (subst IsWord (sym same)
+    (word_at x c.args.cells.now c.requires.size c.requires.words c.rows.i x.column c.rows-test.true c.requires.column))
+
+pub columns-init : goal.columns-init
+columns-init c =
+    let x = c.args.x.now in
+    let i = c.rows.i in
+    record {
+      over =
+          over_along x c.args.cells.now (c.sign_number-sign.result *ℤ c.common_factor-common.result) (i * x.width)
+          (i * x.width + 0) c.rows.divisor c.rows.cells (omega arith) c.rows.invariant;
+      half = λ t. (c.fits_half-half.ensures t).3;
+    }
+
+pub over_cross-z-requires-clause-p : goal.over_cross-z-requires-clause-p
+over_cross-z-requires-clause-p c =
+    let x = c.args.x.now in
+    let t = c.sign_number-sign in
+    quotient_word c.over_common-p.result c.common_factor-common.result c.word_product.result
+    c.common_factor-common.ensures.positive c.over_common-p.ensures
+    (subst IsWord (sym c.word_product.ensures)
+    (turned_word t.result c.cell_at-pivot.result t.ensures.size
+    (subst IsWord (sym c.cell_at-pivot.ensures)
+    (word_at x c.args.cells.now c.requires.size c.requires.words x.row x.column c.requires.row c.requires.column))))
+
+pub over_cross-z-requires-clause-c : goal.over_cross-z-requires-clause-c
+over_cross-z-requires-clause-c c =
+    let x = c.args.x.now in
+    let t = c.sign_number-sign in
+    let same = c.cell_at.ensures
+        ∙ c.rows.invariant.rest c.rows.i x.column c.rows-test.true c.requires.column (omega arith) in
+    subst IsWord (sym c.word_product-own.ensures)
+    (turned_word t.result c.over_common-c.result t.ensures.size
+    (quotient_word c.over_common-c.result c.common_factor-common.result c.cell_at.result
+    c.common_factor-common.ensures.positive c.over_common-c.ensures
+    (subst IsWord (sym same)
+    (word_at x c.args.cells.now c.requires.size c.requires.words c.rows.i x.column c.rows-test.true c.requires.column))))
+
+pub over_cross-z-requires-clause-e : goal.over_cross-z-requires-clause-e
+over_cross-z-requires-clause-e c =
+    let x = c.args.x.now in
+    let same = c.cell_at-e.ensures
+        ∙ c.columns.invariant.over.rest c.rows.i c.columns.j c.rows-test.true c.columns-test.true (omega arith) in
+    subst IsWord (sym same)
+    (word_at x c.args.cells.now c.requires.size c.requires.words c.rows.i c.columns.j c.rows-test.true c.columns-test.true)
+
+pub over_cross-z-requires-clause-a : goal.over_cross-z-requires-clause-a
+over_cross-z-requires-clause-a c =
+    let x = c.args.x.now in
+    subst IsWord (sym c.at_place-a.ensures)
+    (shifted_word x c.args.cells.now c.copy_shifted.new.row c.args.shift c.requires.shift_word c.copy_shifted.ensures
+    c.columns.j c.columns-test.true
+    (word_at x c.args.cells.now c.requires.size c.requires.words x.row c.columns.j c.requires.row c.columns-test.true))
+
+pub over_cross-z-requires-clause-half : goal.over_cross-z-requires-clause-half
+over_cross-z-requires-clause-half c t =
+    let row = c.copy_shifted.new.row in
+    let f = c.fits_half-half.ensures t in
+    let all : All IsHalf row = c.are_halves-half_row.ensures.0 f.0 in
+    let lt : c.columns.j < length row = omega (arith, c.copy_shifted.ensures.width, c.columns-test.true) in
+    let a = subst IsHalf (sym c.at_place-a.ensures) (All-get_or IsHalf row c.columns.j (pos 0) lt all) in
+    (f.1, f.2, a, c.columns.invariant.half t)
+
+pub over_cross-z-requires-clause-word : goal.over_cross-z-requires-clause-word
+over_cross-z-requires-clause-word c =
+    divisor_word c.args.x.now.denominator c.columns.divisor c.requires.denominator c.columns.invariant.over.divides
+    c.requires.word
+
+pub over_cross-z-requires-clause-fits : goal.over_cross-z-requires-clause-fits
+over_cross-z-requires-clause-fits c =
+    let x = c.args.x.now in
+    let q = c.requires in
+    let t = c.sign_number-sign in
+    let h = c.common_factor-common in
+    let nonzero = factor_nonzero (pivot_cell x c.args.cells.now) t.result h.result q.nonzero
+        (subst (λ (z : ℤ). IsSignOf z t.result) c.cell_at-pivot.ensures t.ensures) h.ensures.positive in
+    let l = mul-add-lt c.rows.i x.width c.columns.j x.height c.rows-test.true c.columns-test.true in
+    over_fits x c.args.cells.now (t.result *ℤ h.result) q.size q.row q.column q.words q.word nonzero
+    (c.rows.i * x.width + c.columns.j) c.columns.divisor c.columns.cells (omega (arith, mul_comm x.height x.width))
+    c.columns.invariant.over
+
+pub columns-preserved : goal.columns-preserved
+columns-preserved c =
+    let x = c.args.x.now in
+    let old = c.args.cells.now in
+    let q = c.requires in
+    let i = c.rows.i in
+    let j = c.columns.j in
+    let t = c.sign_number-sign in
+    let h = c.common_factor-common in
+    let f = t.result *ℤ h.result in
+    let g = c.over_cross-z in
+    let row = c.copy_shifted.new.row in
+    let p = c.over_common-p.result in
+    let own = c.word_product-own.result in
+    let n = g.result *ℤ g.new.divisor in
+    let sign = subst (λ (z : ℤ). IsSignOf z t.result) c.cell_at-pivot.ensures t.ensures in
+    let nonzero = factor_nonzero (pivot_cell x old) t.result h.result q.nonzero sign h.ensures.positive in
+    let ep = c.over_common-p.ensures ∙ c.word_product.ensures ∙ ap (λ (z : ℤ). t.result *ℤ z) c.cell_at-pivot.ensures in
+    let ec = c.over_common-c.ensures ∙ c.cell_at.ensures
+        ∙ c.rows.invariant.rest i x.column c.rows-test.true q.column (omega arith) in
+    let same = c.cell_at-e.ensures
+        ∙ c.columns.invariant.over.rest i j c.rows-test.true c.columns-test.true (omega arith) in
+    let en : n ≡ cell x.width old i j *ℤ p -ℤ own *ℤ get_or row j (pos 0) =
+    g.ensures.quotient ∙ rw (same, c.at_place-a.ensures) refl in
+    let is = undivided_is x old row h.result t.result p c.args.shift q.column sign c.copy_shifted.ensures q.shift ep i j
+        c.columns-test.true c.over_common-c.result own n ec c.word_product-own.ensures en in
+    record {
+      over =
+          over_along x old f (i * x.width + j + 1) (i * x.width + (j + 1)) _ _ (omega arith)
+          (over_more x old f nonzero q.size i j c.rows-test.true c.columns-test.true c.columns.divisor g.new.divisor
+          c.columns.cells g.new.cells n g.result is refl g.ensures.left g.ensures.rescaled c.columns.invariant.over);
+      half = λ k.
+          divisor_half c.columns.divisor g.new.divisor c.columns.invariant.over.positive g.ensures.left.divides
+          (c.columns.invariant.half k);
+    }
+
+pub rows-preserved-then-stays : goal.rows-preserved-then-stays
+rows-preserved-then-stays c =
+    let x = c.args.x.now in
+    let old = c.args.cells.now in
+    let q = c.requires in
+    let i = c.rows.i in
+    let t = c.sign_number-sign in
+    let h = c.common_factor-common in
+    let sign = subst (λ (z : ℤ). IsSignOf z t.result) c.cell_at-pivot.ensures t.ensures in
+    let ep = c.over_common-p.ensures ∙ c.word_product.ensures ∙ ap (λ (z : ℤ). t.result *ℤ z) c.cell_at-pivot.ensures in
+    let ec = c.over_common-c.ensures ∙ c.cell_at.ensures
+        ∙ c.rows.invariant.rest i x.column c.rows-test.true q.column (omega arith) in
+    let same = c.stays.ensures c.if-stays.true in
+    over_stays x old (t.result *ℤ h.result) i c.rows.divisor c.rows.cells c.rows-test.true
+    (λ j hj.
+        stays_is x old c.copy_shifted.new.row h.result t.result c.over_common-p.result c.args.shift q.column sign
+        c.copy_shifted.ensures q.shift ep i j hj c.over_common-c.result c.word_product-own.result c.rows.divisor ec
+        c.word_product-own.ensures same.0 same.1)
+    c.rows.invariant
+
+pub rows-preserved : goal.rows-preserved
+rows-preserved c =
+    let e : c.columns.j ≡ c.args.x.now.width = omega arith in
+    over_along c.args.x.now c.args.cells.now _ _ _ _ _ (omega arith) c.columns.invariant.over
+
+pub returns-clause-exchanged : goal.returns-clause-exchanged
+returns-clause-exchanged c =
+    let x = c.args.x.now in
+    let q = c.requires in
+    let t = c.sign_number-sign in
+    let h = c.common_factor-common in
+    let e : c.rows.i ≡ x.height = omega arith in
+    least_exchanged x c.args.cells.now c.rows.cells h.result t.result c.rows.divisor q.row q.column q.denominator
+    q.nonzero h.ensures (subst (λ (z : ℤ). IsSignOf z t.result) c.cell_at-pivot.ensures t.ensures) q.unit
+    (over_along x c.args.cells.now (t.result *ℤ h.result) (c.rows.i * x.width) (x.height * x.width) c.rows.divisor
+    c.rows.cells (ap (λ (n : ℕ). n * x.width) e) c.rows.invariant)
