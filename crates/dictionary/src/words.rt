@@ -211,11 +211,18 @@ fn stays(p: Num, c: Num, divisor: &Divisor) -> bool
     c == Num::ZERO && p == divisor.value()
 }
 
-// Whether all that a row's new cells are computed of, but the row itself, fits half a word.
-fn fits_half(half_row: bool, p: Num, c: Num, divisor: &Divisor) -> bool
-    ensures { IsTrue result → IsTrue half_row × IsHalf p × IsHalf c × IsHalf divisor.now }
+// Whether all that the new cells of every row are computed of fits half a word.
+fn fit_half(row: &[Num], p: Num, denominator: Num) -> bool
+    ensures { IsTrue result → All IsHalf row.now × IsHalf p × IsHalf denominator }
 {
-    half_row && is_half(p) && is_half(c) && is_half(divisor.value())
+    is_half(p) && is_half(denominator) && are_halves(row)
+}
+
+// The same for one row, whose cell in the exchange's column is c.
+fn row_fits_half(others: bool, c: Num) -> bool
+    ensures { IsTrue result → IsTrue others × IsHalf c }
+{
+    others && is_half(c)
 }
 
 // The exchange, where the pivot's cell less the denominator fits a machine word too. With that in the
@@ -239,8 +246,8 @@ fn exchange_over(cells: &mut [Num], pivot_row: &mut [Num], x: &Exchange, shift: 
     let pivot = cell_at(cells, x.height, x.width, x.row, x.column);
     let sign = sign_number(pivot);
     copy_shifted(cells, x, shift, pivot_row);
-    let half_row = are_halves(pivot_row);
     let p = over_common(word_product(sign, pivot), &common);
+    let halves = fit_half(pivot_row, p, x.denominator);
     let mut divisor = Divisor::new(x.denominator);
     'rows: for i in 0..x.height {
         let c = over_common(cell_at(cells, x.height, x.width, i, x.column), &common);
@@ -248,7 +255,7 @@ fn exchange_over(cells: &mut [Num], pivot_row: &mut [Num], x: &Exchange, shift: 
         if stays(p, own, &divisor) {
             continue;
         }
-        let half = fits_half(half_row, p, own, &divisor);
+        let half = row_fits_half(halves, own);
         'columns: for j in 0..x.width {
             let e = cell_at(cells, x.height, x.width, i, j);
             let a = at_place(pivot_row, j);

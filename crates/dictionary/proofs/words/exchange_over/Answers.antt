@@ -53,12 +53,8 @@ pub columns-init : goal.columns-init
 columns-init c =
     let x = c.args.x.now in
     let i = c.rows.i in
-    record {
-      over =
-          over_along x c.args.cells.now (c.sign_number-sign.result *ℤ c.common_factor-common.result) (i * x.width)
-          (i * x.width + 0) c.rows.divisor c.rows.cells (omega arith) c.rows.invariant;
-      half = λ t. (c.fits_half-half.ensures t).3;
-    }
+    over_along x c.args.cells.now (c.sign_number-sign.result *ℤ c.common_factor-common.result) (i * x.width)
+    (i * x.width + 0) c.rows.divisor c.rows.cells (omega arith) c.rows.invariant
 
 pub over_cross-z-requires-clause-p : goal.over_cross-z-requires-clause-p
 over_cross-z-requires-clause-p c =
@@ -88,7 +84,7 @@ pub over_cross-z-requires-clause-e : goal.over_cross-z-requires-clause-e
 over_cross-z-requires-clause-e c =
     let x = c.args.x.now in
     let same = c.cell_at-e.ensures
-        ∙ c.columns.invariant.over.rest c.rows.i c.columns.j c.rows-test.true c.columns-test.true (omega arith) in
+        ∙ c.columns.invariant.rest c.rows.i c.columns.j c.rows-test.true c.columns-test.true (omega arith) in
     subst IsWord (sym same)
     (word_at x c.args.cells.now c.requires.size c.requires.words c.rows.i c.columns.j c.rows-test.true c.columns-test.true)
 
@@ -103,15 +99,16 @@ over_cross-z-requires-clause-a c =
 pub over_cross-z-requires-clause-half : goal.over_cross-z-requires-clause-half
 over_cross-z-requires-clause-half c t =
     let row = c.copy_shifted.new.row in
-    let f = c.fits_half-half.ensures t in
-    let all : All IsHalf row = c.are_halves-half_row.ensures.0 f.0 in
+    let own = c.row_fits_half-half.ensures t in
+    let f = c.fit_half-halves.ensures own.0 in
     let lt : c.columns.j < length row = omega (arith, c.copy_shifted.ensures.width, c.columns-test.true) in
-    let a = subst IsHalf (sym c.at_place-a.ensures) (All-get_or IsHalf row c.columns.j (pos 0) lt all) in
-    (f.1, f.2, a, c.columns.invariant.half t)
+    let a = subst IsHalf (sym c.at_place-a.ensures) (All-get_or IsHalf row c.columns.j (pos 0) lt f.0) in
+    let g = divisor_half c.args.x.now.denominator c.columns.divisor c.requires.denominator c.columns.invariant.divides f.2 in
+    (f.1, own.1, a, g)
 
 pub over_cross-z-requires-clause-word : goal.over_cross-z-requires-clause-word
 over_cross-z-requires-clause-word c =
-    divisor_word c.args.x.now.denominator c.columns.divisor c.requires.denominator c.columns.invariant.over.divides
+    divisor_word c.args.x.now.denominator c.columns.divisor c.requires.denominator c.columns.invariant.divides
     c.requires.word
 
 pub over_cross-z-requires-clause-fits : goal.over_cross-z-requires-clause-fits
@@ -125,7 +122,7 @@ over_cross-z-requires-clause-fits c =
     let l = mul-add-lt c.rows.i x.width c.columns.j x.height c.rows-test.true c.columns-test.true in
     over_fits x c.args.cells.now (t.result *ℤ h.result) q.size q.row q.column q.words q.word nonzero
     (c.rows.i * x.width + c.columns.j) c.columns.divisor c.columns.cells (omega (arith, mul_comm x.height x.width))
-    c.columns.invariant.over
+    c.columns.invariant
 
 pub columns-preserved : goal.columns-preserved
 columns-preserved c =
@@ -148,20 +145,14 @@ columns-preserved c =
     let ec = c.over_common-c.ensures ∙ c.cell_at.ensures
         ∙ c.rows.invariant.rest i x.column c.rows-test.true q.column (omega arith) in
     let same = c.cell_at-e.ensures
-        ∙ c.columns.invariant.over.rest i j c.rows-test.true c.columns-test.true (omega arith) in
+        ∙ c.columns.invariant.rest i j c.rows-test.true c.columns-test.true (omega arith) in
     let en : n ≡ cell x.width old i j *ℤ p -ℤ own *ℤ get_or row j (pos 0) =
     g.ensures.quotient ∙ rw (same, c.at_place-a.ensures) refl in
     let is = undivided_is x old row h.result t.result p c.args.shift q.column sign c.copy_shifted.ensures q.shift ep i j
         c.columns-test.true c.over_common-c.result own n ec c.word_product-own.ensures en in
-    record {
-      over =
-          over_along x old f (i * x.width + j + 1) (i * x.width + (j + 1)) _ _ (omega arith)
-          (over_more x old f nonzero q.size i j c.rows-test.true c.columns-test.true c.columns.divisor g.new.divisor
-          c.columns.cells g.new.cells n g.result is refl g.ensures.left g.ensures.rescaled c.columns.invariant.over);
-      half = λ k.
-          divisor_half c.columns.divisor g.new.divisor c.columns.invariant.over.positive g.ensures.left.divides
-          (c.columns.invariant.half k);
-    }
+    over_along x old f (i * x.width + j + 1) (i * x.width + (j + 1)) _ _ (omega arith)
+    (over_more x old f nonzero q.size i j c.rows-test.true c.columns-test.true c.columns.divisor g.new.divisor
+    c.columns.cells g.new.cells n g.result is refl g.ensures.left g.ensures.rescaled c.columns.invariant)
 
 pub rows-preserved-then-stays : goal.rows-preserved-then-stays
 rows-preserved-then-stays c =
@@ -186,7 +177,7 @@ rows-preserved-then-stays c =
 pub rows-preserved : goal.rows-preserved
 rows-preserved c =
     let e : c.columns.j ≡ c.args.x.now.width = omega arith in
-    over_along c.args.x.now c.args.cells.now _ _ _ _ _ (omega arith) c.columns.invariant.over
+    over_along c.args.x.now c.args.cells.now _ _ _ _ _ (omega arith) c.columns.invariant
 
 pub returns-clause-exchanged : goal.returns-clause-exchanged
 returns-clause-exchanged c =
