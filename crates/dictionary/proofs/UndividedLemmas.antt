@@ -6,7 +6,7 @@ use Rattle.std.specs.Prelude.{◌<ℤ◌, unsigned_abs}
 use Rattle.std.proofs.lemmas.Bool.{cases_eq}
 use Rattle.std.proofs.lemmas.Int.{unsigned_abs-mul}
 use Rattle.poly_num.specs.Numbers.{IsWord}
-use Rattle.poly_num.proofs.Ring.{expand, lin, one_mul, zero_mul, mul_zero, mul_comm}
+use Rattle.poly_num.proofs.Ring.{expand, lin, one_mul, zero_mul, mul_comm}
 use Rattle.poly_num.proofs.Order.{mul_nonzero, positive_nonzero}
 use Rattle.dictionary.specs.declared.exchange.Exchange.{Exchange}
 use Rattle.dictionary.specs.Cells.{cell, pivot_cell, IsExchangedCell}

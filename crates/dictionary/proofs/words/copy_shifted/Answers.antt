@@ -1,4 +1,4 @@
-use Rattle.std.proofs.Common.{◌≡◌, ◌≢◌, ◌<◌, ℕ, ℤ, pos, length, set, arith, ◌∙◌, get_or-set_same, get_or-set_other}
+use Rattle.std.proofs.Common.{pos, arith, ◌∙◌, get_or-set_same, get_or-set_other}
 use Rattle.std.proofs.lemmas.List.{length-set}
 use Rattle.dictionary.proofs.words.copy_shifted.Goals as goal
 

@@ -1,6 +1,5 @@
-use Rattle.std.proofs.Common.{◌≡◌, ◌<◌, ℕ, ℤ, ◌+◌, ◌-◌, ◌*◌, ◌*ℤ◌, ◌-ℤ◌, pos, length, get_or, sym, ap, subst, arith, ◌∙◌, mul_comm, refl, ⊎_elim}
+use Rattle.std.proofs.Common.{◌≡◌, ◌<◌, ℕ, ℤ, ◌+◌, ◌*◌, ◌*ℤ◌, ◌-ℤ◌, pos, length, get_or, sym, ap, subst, arith, ◌∙◌, mul_comm, refl}
 use Prim.Native.Nat.{◌∣◌}
-use Rattle.std.specs.List.{All}
 use Rattle.std.specs.Prelude.{unsigned_abs}
 use Rattle.std.proofs.lemmas.List.Elements.{All-get_or}
 use Rattle.std.proofs.lemmas.Nat.{mul-add-lt}

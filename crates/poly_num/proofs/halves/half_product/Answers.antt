@@ -1,4 +1,4 @@
-use Rattle.std.proofs.Common.{FitsSigned, ◌*ℤ◌}
+use Rattle.std.proofs.Common.{FitsSigned}
 use Rattle.std.specs.Int.{w64}
 use Rattle.std.proofs.lemmas.Int.{to_z-of_z}
 use Rattle.poly_num.proofs.HalfLemmas.{halves_product}
