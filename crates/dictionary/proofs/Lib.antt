@@ -4,3 +4,5 @@ pub mod PlaceLemmas
 pub mod Pivots
 pub mod CarriedOut
 pub mod OverflowLemmas
+pub mod RangeLemmas
+pub mod FirstNumbers

@@ -3,6 +3,7 @@
 
 mod cells;
 mod exchange;
+mod new;
 mod dict;
 mod passing;
 mod pivot;
