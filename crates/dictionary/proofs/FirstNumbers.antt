@@ -1,8 +1,10 @@
 -- The numbers of a table whose rows are those of a system and then the unit rows of its columns.
-use Rattle.std.proofs.Common.{◌≡◌, ◌≢◌, ℕ, zero, suc, ◌+◌, ◌*◌, ◌-◌, ◌<◌, ◌≤◌, ◌++◌, ℤ, pos, cond, List, [], ◌∷◌, map, length, get_or, arith, refl, sym, ap, subst, ◌∙◌, ⊎_elim, add-one}
+use Rattle.std.proofs.Common.{◌≡◌, ◌≢◌, ℕ, zero, suc, ◌+◌, ◌*◌, ◌-◌, ◌<◌, ◌≤◌, ◌++◌, ℤ, pos, List, [], ◌∷◌, map, length, get_or, arith, refl, sym, ap, subst, ◌∙◌, ⊎_elim}
 use Rattle.std.specs.Prelude.{◌==◌, if◌then◌else◌}
 use Rattle.std.specs.List.{Contains, flat_map, range_with_len}
 use Rattle.std.proofs.lemmas.Bool.{cases_eq}
+use Rattle.std.proofs.lemmas.Nat.{mul-add-lt}
+use Rattle.std.proofs.Math.Nat.{suc-mul, add-mul}
 use Rattle.std.proofs.lemmas.List.FromFn.{length-range_with_len, length-map-range_with_len}
 use Rattle.linear_laws.proofs.Members.{Contains-first, Contains-later, Contains-nil}
 use Rattle.dictionary_laws.specs.Keys.{place_in}
@@ -55,25 +57,37 @@ length-add : (u v : List ℤ) → length (u ++ v) ≡ length u + length v
 length-add [] v = omega arith
 length-add (x ∷ u) v = ap suc (length-add u v) ∙ omega arith
 
+length-add_labels : (ks ls : List ℕ) → length (ks ++ ls) ≡ length ks + length ls
+length-add_labels [] ls = omega arith
+length-add_labels (x ∷ ks) ls = ap suc (length-add_labels ks ls) ∙ omega arith
+
 module _ (f : ℕ → List ℤ) (w : ℕ) where
+  next_rows : (n : ℕ) → w + n * w ≡ suc n * w
+  next_rows n = let e : suc n * w ≡ n * w + w = suc-mul n w in omega (arith, e)
+
+  first_place : (j : ℕ) → 0 * w + j ≡ j
+  first_place j = omega arith
+
   pub length_of_rows : (a n : ℕ) → ((i : ℕ) → a ≤ i → i < a + n → length (f i) ≡ w) →
       length (flat_map f (range_with_len a n)) ≡ n * w
-  length_of_rows a zero h = refl
+  length_of_rows a zero h = omega arith
   length_of_rows a (suc n) h =
       length-add (f a) (flat_map f (range_with_len (a + 1) n))
       ∙ ap (λ k. k + length (flat_map f (range_with_len (a + 1) n))) (h a (omega arith) (omega arith))
       ∙ ap (λ k. w + k) (length_of_rows (a + 1) n (λ i l k. h i (omega arith) (omega arith)))
-      ∙ omega arith
+      ∙ next_rows n
 
   pub cell_of_rows : (a n : ℕ) → ((i : ℕ) → a ≤ i → i < a + n → length (f i) ≡ w) → (c j : ℕ) → c < n → j < w →
       cell w (flat_map f (range_with_len a n)) c j ≡ get_or (f (a + c)) j (pos 0)
   cell_of_rows a zero h c j l k = absurd (omega arith)
   cell_of_rows a (suc n) h zero j l k =
-      get_left (f a) (flat_map f (range_with_len (a + 1) n)) j (omega (arith, h a (omega arith) (omega arith)))
+      ap (λ i. get_or (flat_map f (range_with_len a (suc n))) i (pos 0)) (first_place j)
+      ∙ get_left (f a) (flat_map f (range_with_len (a + 1) n)) j
+      (let e = h a (omega arith) (omega arith) in omega (arith, e))
       ∙ ap (λ i. get_or (f i) j (pos 0)) (omega arith)
   cell_of_rows a (suc n) h (suc c) j l k =
       get_right (f a) (flat_map f (range_with_len (a + 1) n)) (c * w + j) (suc c * w + j)
-      (let e = h a (omega arith) (omega arith) in omega (arith, e))
+      (let e = h a (omega arith) (omega arith) in let g = next_rows c in omega (arith, e, g))
       ∙ cell_of_rows (a + 1) n (λ i l k. h i (omega arith) (omega arith)) c j (omega arith) k
       ∙ ap (λ i. get_or (f i) j (pos 0)) (omega arith)
 
@@ -92,26 +106,53 @@ unit_cell w c j l =
     ∙ ap (λ k. if k == c then pos 1 else pos 0) (omega arith)
 
 -- ---- both together
+abbrev pub first_labels : ℕ → List ℕ → List ℕ
+first_labels m columns = range_with_len 1 m ++ columns
+
+abbrev pub first_cells : (ℕ → List ℤ) → ℕ → List ℕ → List ℤ
+first_cells f m columns =
+    flat_map f (range_with_len 1 m)
+    ++ flat_map (unit_row (suc (length columns))) (range_with_len 1 (length columns))
+
 module _ (f : ℕ → List ℤ) (m : ℕ) (columns : List ℕ) (apart : (k : ℕ) → Contains columns k → m < k)
     (widths : (i : ℕ) → 1 ≤ i → i < 1 + m → length (f i) ≡ suc (length columns)) where
   abbrev w : ℕ
   w = suc (length columns)
 
-  abbrev pub first_cells : List ℤ
-  first_cells = flat_map f (range_with_len 1 m) ++ flat_map (unit_row w) (range_with_len 1 (length columns))
-
-  abbrev pub first_labels : List ℕ
-  first_labels = range_with_len 1 m ++ columns
-
   rows_length : length (flat_map f (range_with_len 1 m)) ≡ m * w
   rows_length = length_of_rows f w 1 m widths
 
-  pub first_length : length first_cells ≡ length first_labels * w
-  first_length = ?
+  pub first_length : length (first_cells f m columns) ≡ length (first_labels m columns) * w
+  first_length =
+      length-add (flat_map f (range_with_len 1 m)) (flat_map (unit_row w) (range_with_len 1 (length columns)))
+      ∙ ap (λ k. k + length (flat_map (unit_row w) (range_with_len 1 (length columns)))) rows_length
+      ∙ ap (λ k. m * w + k) (length_of_rows (unit_row w) w 1 (length columns) (λ c l h. length_of_unit w c))
+      ∙ sym (add-mul m (length columns) w)
+      ∙ ap (λ k. k * w) (ap (λ k. k + length columns) (sym (length-range_with_len 1 m)) ∙ sym (length-add_labels (range_with_len 1 m) columns))
 
-  pub row_number : (i j : ℕ) → 0 < i → i ≤ m → j < w → cell w first_cells (place_in first_labels i) j ≡ get_or (f i) j (pos 0)
-  row_number i j l h k = ?
+  pub row_number : (i j : ℕ) → 0 < i → i ≤ m → j < w → cell w (first_cells f m columns) (place_in (first_labels m columns) i) j ≡ get_or (f i) j (pos 0)
+  row_number i j l h k =
+      let place : place_in (first_labels m columns) i ≡ i - 1 =
+      place_left (range_with_len 1 m) columns i (range_has 1 m i (omega arith) (omega arith))
+      ∙ place_in_range 1 m i (omega arith) (omega arith) in
+      let within = mul-add-lt (i - 1) w j m (omega arith) k in
+      ap (λ a. cell w (first_cells f m columns) a j) place
+      ∙ get_left (flat_map f (range_with_len 1 m)) (flat_map (unit_row w) (range_with_len 1 (length columns)))
+      ((i - 1) * w + j) (omega (arith, rows_length, within))
+      ∙ cell_of_rows f w 1 m widths (i - 1) j (omega arith) k
+      ∙ ap (λ a. get_or (f a) j (pos 0)) (omega arith)
 
   pub unit_number : (k j : ℕ) → Contains columns k → j < w →
-      cell w first_cells (place_in first_labels k) j ≡ (if j == suc (place_in columns k) then pos 1 else pos 0)
-  unit_number k j c l = ?
+      cell w (first_cells f m columns) (place_in (first_labels m columns) k) j ≡ (if j == suc (place_in columns k) then pos 1 else pos 0)
+  unit_number k j c l =
+      let q = place_in columns k in
+      let place : place_in (first_labels m columns) k ≡ m + q =
+      place_right (range_with_len 1 m) columns k
+      (λ h. let b = (range_only 1 m k h).1 in let a = apart k c in omega arith)
+      ∙ ap (λ a. a + q) (length-range_with_len 1 m) in
+      ap (λ a. cell w (first_cells f m columns) a j) place
+      ∙ get_right (flat_map f (range_with_len 1 m)) (flat_map (unit_row w) (range_with_len 1 (length columns)))
+      (q * w + j) ((m + q) * w + j) (let e = add-mul m q w in omega (arith, e, rows_length))
+      ∙ cell_of_rows (unit_row w) w 1 (length columns) (λ a h g. length_of_unit w a) q j (place_within columns k c) l
+      ∙ ap (λ a. get_or (unit_row w a) j (pos 0)) (omega arith)
+      ∙ unit_cell w (suc q) j l

@@ -6,3 +6,5 @@ pub mod CarriedOut
 pub mod OverflowLemmas
 pub mod RangeLemmas
 pub mod FirstNumbers
+pub mod Beginnings
+pub mod BeginSpaces

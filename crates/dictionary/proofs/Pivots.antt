@@ -1,5 +1,5 @@
 -- The exchange of cells is the pivot of a dictionary.
-use Rattle.std.proofs.Common.{mul_comm as mul_comm_nat, Bool, cond, ◌≡◌, ◌≢◌, ◌⊎◌, ℕ, zero, suc, ◌+◌, ◌*◌, ◌/◌, ◌%◌, ◌<◌, ℤ, pos, negsuc, neg_ℤ, ◌*ℤ◌, ◌-ℤ◌, List, ◌∷◌, length, get_or, set, remove, slice_index, arith, refl, sym, ap, subst, ◌∙◌, inl, inr, ⊎_elim}
+use Rattle.std.proofs.Common.{mul_comm as mul_comm_nat, Bool, cond, ◌≡◌, ◌≢◌, ℕ, zero, suc, ◌+◌, ◌*◌, ◌/◌, ◌%◌, ◌<◌, ℤ, pos, negsuc, neg_ℤ, ◌*ℤ◌, ◌-ℤ◌, List, length, get_or, set, arith, refl, sym, ap, subst, ◌∙◌, inl, ⊎_elim}
 use Prim.Native.Nat.{◌∣◌}
 use Rattle.std.specs.Prelude.{◌<ℤ◌, unsigned_abs}
 use Rattle.std.specs.List.{Contains, AllByRecursion}
@@ -9,15 +9,13 @@ use Rattle.std.proofs.lemmas.List.Elements.{All-from_get_or, Contains-get_or, re
 use Rattle.std.proofs.Math.Nat.{div-add-mod, div-lt_iff_lt-mul, eq-zero_of_zero-dvd, mod-lt}
 use Rattle.std.proofs.lemmas.Bool.{cases_eq, eq-eqb, ne_eqb}
 use Rattle.poly_num.specs.Fractions.{turned_by}
-use Rattle.poly_num.specs.Vectors.{DividesEach}
 use Rattle.poly_num.proofs.Ring.{lin, neg-mul, mul_comm, mul_zero, zero_mul}
 use Rattle.poly_num.proofs.Order.{cancel, zero_factor, mul_nonzero, positive_nonzero, positive_factor, positive_product}
-use Rattle.poly_model.specs.Keys.{IsKey, with_label}
 use Rattle.poly_model.specs.Spaces.{Space, HasPoints}
-use Rattle.poly_model.specs.Dictionaries.{Table, IsCobasis, Writes, IsDictionary}
-use Rattle.dictionary_laws.specs.Keys.{place_in, AreDistinct, HaveSameLabels, Exchanges}
+use Rattle.poly_model.specs.Dictionaries.{Table, IsCobasis, Writes}
+use Rattle.dictionary_laws.specs.Keys.{place_in, HaveSameLabels}
 use Rattle.dictionary_laws.specs.Laws.{IsExchangedKey}
-use Rattle.dictionary_laws.specs.Numbers.{ArePrimitive, DividesNumbers}
+use Rattle.dictionary_laws.specs.Numbers.{ArePrimitive}
 use Rattle.dictionary_laws.specs.Exchange.{CanExchange, exchanged}
 use Rattle.dictionary_laws.proofs.KeyExchange.{ascending_distinct}
 use Rattle.dictionary_laws.proofs.Multiples.{AreTimes, divisors_write}

@@ -8,7 +8,7 @@ use Rattle.poly_num.proofs.Order.{zero_factor}
 use Rattle.poly_num.proofs.VectorLemmas.{length-scale}
 use Rattle.poly_num.proofs.PrimitiveLemmas.{primitive-neg}
 use Rattle.dictionary.specs.declared.exchange.Exchange.{Exchange}
-use Rattle.dictionary.specs.Cells.{cell, pivot_cell, IsExchangedCell, AreExchangedCells, IsReduced, IsExchanged}
+use Rattle.dictionary.specs.Cells.{pivot_cell, IsExchangedCell, AreExchangedCells, IsReduced, IsExchanged}
 
 pub get_or-scale : (g : ℤ) (v : List ℤ) (k : ℕ) → get_or (scale g v) k (pos 0) ≡ g *ℤ get_or v k (pos 0)
 get_or-scale g [] k = sym (mul_zero g)

@@ -7,7 +7,7 @@ use Rattle.poly_num.proofs.Ring.{lin}
 use Rattle.poly_num.proofs.Ring as ring
 use Rattle.poly_num.specs.Numbers.{Crosses}
 use Rattle.dictionary.specs.declared.exchange.Exchange.{Exchange}
-use Rattle.dictionary.specs.Cells.{cell, pivot_cell, IsExchangedCell, IsPivotRow, AreExchangedCells, RowFits}
+use Rattle.dictionary.specs.Cells.{cell, IsExchangedCell, IsPivotRow, AreExchangedCells, RowFits}
 
 module _ (x : Exchange) (old : List ℤ) where
   -- the places before p hold the new cells, the others the old ones

@@ -1,12 +1,12 @@
 -- The dictionary with which a phase begins.
-use Rattle.std.specs.Prelude.{◌≡◌, ℕ, ◌-◌, ◌==◌, Bool, true, false, if◌then◌else◌, ℤ, pos, List, ◌∷◌, map, length}
+use Rattle.std.specs.Prelude.{◌≡◌, ℕ, ◌-◌, ◌<◌, ◌≤◌, ◌==◌, Bool, true, false, if◌then◌else◌, pos, map, length}
 use Rattle.std.specs.List.{range_with_len}
 use Rattle.poly_num.specs.Vectors.{Vector}
 use Rattle.poly_model.specs.declared.kind.Kind.{Kind}
 use Rattle.poly_model.specs.declared.kind.Kind.TheVariants.{H, V}
 use Rattle.poly_model.specs.declared.overflow.Phase.{Phase}
 use Rattle.poly_model.specs.declared.overflow.Phase.TheVariants.{Cone, Prepare, Main, First}
-use Rattle.poly_model.specs.Systems.{System, Polyhedron, cone_of}
+use Rattle.poly_model.specs.Systems.{System, Polyhedron, row_of, cone_of}
 use Rattle.poly_model.specs.Spaces.{Space, IsSpaceOf, in_front}
 use Rattle.dictionary_laws.specs.Coordinates.{coordinate_key}
 use Rattle.dictionary.specs.Views.{Dictionary, IsDictionaryIn}
@@ -34,6 +34,10 @@ row_cells constants entries = if constants then entries else in_front entries
 -- 1 in column c, 0 in the others
 abbrev pub unit_row : ℕ → ℕ → Vector
 unit_row width c = map (λ j. if j == c then pos 1 else pos 0) (range_with_len 0 width)
+
+-- the first m rows have an entry for each coordinate
+abbrev pub HasWidths : System → ℕ → Type 0
+HasWidths sys m = (i : ℕ) → 0 < i → i ≤ m → length (row_of sys.rows i).entries ≡ sys.n
 
 -- the dictionary of the coordinates, over the denominator 1, in each space of this phase of a
 -- polyhedron with this cone

@@ -1,10 +1,11 @@
 //! The dictionary of the coordinates, with which a phase begins.
-ghost use Rattle.std.specs.Prelude.{◌≡◌, ◌⊎◌, ◌≤◌, ◌<◌, ◌-◌, ◌++◌, ◌==◌, if◌then◌else◌, pos, length, IfOk, OnOk};
+ghost use Rattle.std.specs.Prelude.{◌≡◌, ◌⊎◌, ◌≤◌, ◌<◌, ◌+◌, ◌-◌, ◌++◌, ◌==◌, if◌then◌else◌, pos, length, vec_len, IfOk, OnOk};
 ghost use Rattle.std.specs.List.{flat_map, range_with_len};
+ghost use Rattle.poly_model.specs.Keys.{IsKey};
 ghost use Rattle.poly_model.specs.Systems.{row_of};
 ghost use Rattle.poly_model.specs.declared.overflow.Phase.TheVariants.{Cone, Prepare};
 ghost use Rattle.dictionary_laws.specs.Coordinates.{coordinate_key};
-ghost use Rattle.dictionary.specs.New.{first_label, has_constants, row_count, row_cells, unit_row, IsNew};
+ghost use Rattle.dictionary.specs.New.{first_label, has_constants, row_count, row_cells, unit_row, HasWidths, IsNew};
 
 use crate::Dict;
 use poly_model::{Key, Kind, Phase, System};
@@ -23,12 +24,10 @@ impl Dict {
         let columns = coordinate_labels(alloc, constants, sys.n())?;
         let labels = all_labels(alloc, rows, &columns)?;
         let width = columns.len() + 1;
-        let mut cells = Vec::with_capacity(alloc, labels.len() * width)?;
-        push_rows(&mut cells, sys, rows, constants)?;
-        push_units(&mut cells, width)?;
+        let cells = all_cells(alloc, sys, rows, constants, width)?;
         Ok(Dict {
             phase,
-            key: Key::from_ascending(&columns).unwrap_or(Key::empty()),
+            key: key_of(&columns),
             labels,
             columns,
             denominator: Num::ONE,
@@ -65,7 +64,9 @@ fn row_count(sys: &System, constants: bool) -> u32
 fn coordinate_labels(alloc: Global, constants: bool, n: u32) -> Result<Vec<u16>, AllocError>
     requires some { 0 < n }
     requires narrow { n ≤ 256 }
-    ensures { IfOk result (λ v. v.items ≡ coordinate_key (first_label constants) n) }
+    ensures value { IfOk result (λ v. v.items ≡ coordinate_key (first_label constants) n) }
+    ensures narrow { IfOk result (λ v. vec_len v ≤ 256) }
+    ensures key { IfOk result (λ v. IsKey v.items) }
 {
     let first: u16 = if constants { 1 } else { 0 };
     let mut labels = Vec::new(alloc);
@@ -88,6 +89,36 @@ fn all_labels(alloc: Global, rows: u32, columns: &[u16]) -> Result<Vec<u16>, All
     Ok(labels)
 }
 
+fn key_of(labels: &[u16]) -> Key
+    requires { IsKey labels.now }
+    ensures { result ≡ labels.now }
+{
+    Key::from_ascending(labels).unwrap_or(Key::empty())
+}
+
+// The cells of the rows and then of the coordinates, `width` to a row, in one block of memory.
+fn all_cells(
+    alloc: Global,
+    sys: &System,
+    rows: u32,
+    constants: bool,
+    width: usize,
+) -> Result<Vec<Num>, AllocError>
+    requires rows { rows ≤ length sys.now.rows }
+    requires few { rows ≤ 4097 }
+    requires some { 0 < width }
+    requires narrow { width ≤ 257 }
+    ensures value { IfOk result (λ v. v.items ≡
+        flat_map (λ i. row_cells constants (row_of sys.now.rows i).entries) (range_with_len 1 rows) ++
+        flat_map (unit_row width) (range_with_len 1 (width - 1))) }
+    ensures widths { IfOk result (λ v. HasWidths sys.now rows) }
+{
+    let mut cells = Vec::with_capacity(alloc, (rows as usize + width) * width)?;
+    push_rows(&mut cells, sys, rows, constants)?;
+    push_units(&mut cells, width)?;
+    Ok(cells)
+}
+
 // The cells of the first rows.
 fn push_rows(
     cells: &mut Vec<Num>,
@@ -96,8 +127,9 @@ fn push_rows(
     constants: bool,
 ) -> Result<(), AllocError>
     requires { rows ≤ length sys.now.rows }
-    ensures { OnOk result (cells.new.items ≡ cells.old.items ++
+    ensures value { OnOk result (cells.new.items ≡ cells.old.items ++
         flat_map (λ i. row_cells constants (row_of sys.now.rows i).entries) (range_with_len 1 rows)) }
+    ensures widths { OnOk result (HasWidths sys.now rows) }
 {
     for i in 0..rows {
         push_row(cells, sys.row(i + 1), constants)?;

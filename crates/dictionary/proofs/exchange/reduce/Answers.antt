@@ -1,4 +1,3 @@
-use Rattle.std.proofs.Common.{◌≡◌}
 use Rattle.dictionary.proofs.Reduced.{kept, turned}
 use Rattle.dictionary.proofs.exchange.reduce.Goals as goal
 

@@ -1,6 +1,5 @@
-use Rattle.std.proofs.Common.{◌≡◌, ◌≢◌, ◌<◌, ◌+◌, ◌*◌, ◌*ℤ◌, arith, ◌∙◌}
-use Rattle.dictionary.specs.Cells.{cell}
-use Rattle.dictionary.proofs.Written.{IsWrittenTo, written_more, written_along, still_in_column, new_cell, still_crosses}
+use Rattle.std.proofs.Common.{arith, ◌∙◌}
+use Rattle.dictionary.proofs.Written.{written_more, written_along, still_in_column, new_cell, still_crosses}
 use Rattle.dictionary.proofs.exchange.write.Goals as goal
 
 pub exchanged_cell-z-requires-clause-column_fits : goal.exchanged_cell-z-requires-clause-column_fits

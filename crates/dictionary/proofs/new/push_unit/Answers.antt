@@ -1,4 +1,4 @@
-use Rattle.std.proofs.Common.{◌≡◌, ◌+◌, ◌++◌, ◌∷◌, [], pos, ap, sym, ◌∙◌, refl, arith}
+use Rattle.std.proofs.Common.{◌++◌, ◌∷◌, [], pos, ap, ◌∙◌, arith}
 use Rattle.std.specs.Prelude.{◌==◌, if◌then◌else◌}
 use Rattle.dictionary.proofs.RangeLemmas.{map_range_more}
 use Rattle.dictionary.proofs.new.push_unit.Goals as goal

@@ -1,4 +1,4 @@
-use Rattle.std.proofs.Common.{◌≡◌, ℕ, suc, List, ℤ, pos, ◌<◌, ◌+◌, ◌-◌, ◌*◌, length, set, remove, slice_index_or, refl, sym, ap, subst, arith, ◌∙◌}
+use Rattle.std.proofs.Common.{◌≡◌, List, ℤ, pos, ◌+◌, ◌-◌, ◌*◌, length, set, remove, slice_index_or, refl, sym, ap, subst, ◌∙◌}
 use Rattle.std.specs.Vec.{with_items, vec_len}
 use Rattle.std.proofs.lemmas.List.{with_items_is}
 use Rattle.poly_model.specs.Keys.{with_label}

@@ -1,5 +1,4 @@
-use Rattle.std.proofs.Common.{◌≡◌, ℕ, List, ℤ, ◌<◌, sym, ap, subst, ◌∙◌}
-use Rattle.dictionary.specs.declared.exchange.Exchange.{Exchange}
+use Rattle.std.proofs.Common.{List, ℤ, ap, subst, ◌∙◌}
 use Rattle.dictionary.specs.Cells.{Fits}
 use Rattle.dictionary.specs.Views.{Dictionary, IsWhole}
 use Rattle.dictionary.proofs.CarriedOut.{column_bound}
