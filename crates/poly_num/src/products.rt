@@ -44,7 +44,7 @@ fn checked_cross(a: Num, b: Num, c: Num, d: Num) -> Option<Num>
 }
 
 // The number, where it has 64 bits.
-fn narrowed(a: Num) -> Option<i64>
+pub(crate) fn narrowed(a: Num) -> Option<i64>
     ensures { SomeIff result (FitsSigned w64 a) a }
 {
     i64::try_from(a.value).ok()
