@@ -19,6 +19,9 @@ pub fn quotient(a: Num, d: Num) -> Num
     requires { pos 0 <ℤ d }
     ensures { result ≡ int_div a d }
 {
+    if d == Num::ONE {
+        return a;
+    }
     if let Some(x) = narrowed(a)
         && let Some(y) = narrowed(d)
     {
@@ -59,17 +62,17 @@ fn gcd_of_sizes(x: u128, y: u128) -> u128
     }
 }
 
-// The same of sizes of 64 bits.
+// The same of sizes of 64 bits. No division by 1 is made, with which most often the steps would end.
 fn gcd_of_words(mut x: u64, mut y: u64) -> u64
     ensures value { result ≡ gcd_of x y }
     ensures bounded { result ≤ max x y }
 {
-    while y != 0 {
+    while y > 1 {
         let r = x % y;
         x = y;
         y = r;
     }
-    x
+    if y == 1 { 1 } else { x }
 }
 
 // The same of any sizes.
