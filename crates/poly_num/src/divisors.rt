@@ -14,7 +14,8 @@ pub fn gcd(a: Num, b: Num) -> Num
     Num::from_parts(false, gcd_of_sizes(a.size(), b.size()))
 }
 
-/// `a / d` for a positive `d`, rounded toward zero.
+/// `a / d` for a positive `d`, rounded toward zero. Numbers of 64 bits take the machine's own
+/// division.
 pub fn quotient(a: Num, d: Num) -> Num
     requires { pos 0 <ℤ d }
     ensures { result ≡ int_div a d }
@@ -31,7 +32,7 @@ pub fn quotient(a: Num, d: Num) -> Num
     }
 }
 
-// The quotient of numbers of 64 bits, which takes the machine's own division.
+// The quotient of numbers of 64 bits.
 fn narrow_quotient(a: i64, d: i64) -> Num
     requires { pos 0 <ℤ d }
     ensures { result ≡ int_div a d }
@@ -41,6 +42,8 @@ fn narrow_quotient(a: i64, d: i64) -> Num
     }
 }
 
+// The quotient of any numbers.
+#[cold]
 fn wide_quotient(a: Num, d: Num) -> Num
     requires { pos 0 <ℤ d }
     ensures { result ≡ int_div a d }
@@ -76,6 +79,7 @@ fn gcd_of_words(mut x: u64, mut y: u64) -> u64
 }
 
 // The same of any sizes.
+#[cold]
 fn gcd_of_wide(mut x: u128, mut y: u128) -> u128
     ensures value { result ≡ gcd_of x y }
     ensures bounded { result ≤ max x y }

@@ -20,6 +20,7 @@ pub fn mul(a: Num, b: Num) -> Option<Num>
 }
 
 // `a b`, with a test for an overflow.
+#[cold]
 fn checked_mul(a: Num, b: Num) -> Option<Num>
     ensures { SomeIff result (IsNum (a *ℤ b)) (a *ℤ b) }
 {
