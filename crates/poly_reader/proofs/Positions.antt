@@ -1,11 +1,12 @@
 -- What `position` says: the first element that passes, or that none does.
-use Rattle.std.proofs.Common.{◌≡◌, ◌<◌, ℕ, Bool, true, false, cond, ltb, List, length, get_or, refl, sym, arith, Some, None}
+use Rattle.std.proofs.Common.{◌≡◌, ◌<◌, ℕ, Bool, Option, true, false, cond, ltb, List, length, get_or, refl, sym, arith, Some, None}
 use Rattle.std.specs.Prelude.{position}
 use Rattle.std.specs.List.{position_or_len, All}
-use Rattle.std.proofs.lemmas.Bool.{ltb-true, ltb-false}
+use Rattle.std.proofs.lemmas.Bool.{ltb-true, ltb-false, lt-ltb, le-ltb, false_from_ne_true}
 use Rattle.std.proofs.lemmas.Option.{cond_some}
-use Rattle.std.proofs.lemmas.List.Sums.{passes_at_first, fails_before_first}
+use Rattle.std.proofs.lemmas.List.Sums.{passes_at_first, fails_before_first, position_or_len_is}
 use Rattle.std.proofs.lemmas.List.Elements.{All-from_get_or}
+use Rattle.memchr.specs.Find.{IsFirstByte}
 
 -- n is the place of the first element that passes
 pub record IsFirst {X : Type 0} (p : X → Bool) (xs : List X) (n : ℕ) : Type 0 where
@@ -38,3 +39,19 @@ position_none p xs k d e lt =
 
 pub none_passes : (p : ℕ → Bool) (xs : List ℕ) → position p xs ≡ None → All (λ x. p x ≡ false) xs
 none_passes p xs e = All-from_get_or (λ x. p x ≡ false) xs 0 (λ k lt. position_none p xs k 0 e lt)
+
+-- ---- the answer of a search for a byte
+
+is_position : (p : ℕ → Bool) (xs : List ℕ) (n : ℕ) → position_or_len p xs ≡ n → n < length xs → Some n ≡ position p xs
+is_position p xs n e lt = rw (e, lt-ltb n (length xs) lt) refl
+
+is_no_position : (p : ℕ → Bool) (xs : List ℕ) → position_or_len p xs ≡ length xs → None ≡ position p xs
+is_no_position p xs e = rw (e, le-ltb (length xs) (length xs) (omega arith)) refl
+
+pub first_byte : (p : ℕ → Bool) (xs : List ℕ) (r : Option ℕ) → IsFirstByte p xs r → r ≡ position p xs
+first_byte p xs None h =
+    is_no_position p xs (position_or_len_is p xs (length xs) 0 (omega arith)
+    (λ k lt. false_from_ne_true (p (get_or xs k 0)) (h k (omega arith) lt)) (λ lt. absurd (omega arith)))
+first_byte p xs (Some n) h =
+    is_position p xs n (position_or_len_is p xs n 0 (omega (arith, h.0.high))
+    (λ k lt. false_from_ne_true (p (get_or xs k 0)) (h.0.before k (omega arith) lt)) (λ lt. h.1)) h.0.high

@@ -2,6 +2,7 @@
 ghost use Rattle.std.specs.Prelude.{position, count_by, ◌≡◌, ◌≤◌, ◌<◌, ◌+◌, ◌^◌, [], ◌∷◌, length, MatchOption};
 ghost use Rattle.poly_reader.specs.Lines.{is_newline, is_blank, is_word_byte, is_same, word, words_on, lines_of, last_line};
 
+use memchr::memchr;
 use std::marker::Model;
 
 /// A word of a text, and the number of its line.
@@ -71,17 +72,27 @@ fn blank_at(line: &[u8]) -> Option<usize>
     line.iter().position(|b| is_blank_byte(*b))
 }
 
+fn is_newline_byte(b: u8) -> bool
+    ensures { result ≡ is_newline b }
+{
+    b == b'\n'
+}
+
 fn newline_at(text: &[u8]) -> Option<usize>
     ensures { result ≡ position is_newline text.now }
 {
-    text.iter().position(|b| *b == b'\n')
+    memchr(b'\n', text)
 }
 
 fn newlines(text: &[u8]) -> usize
     ensures count { result ≡ count_by is_newline text.now }
     ensures within { result ≤ length text.now }
 {
-    text.iter().filter(|b| **b == b'\n').count()
+    let mut count = 0;
+    'text: for b in text {
+        count += usize::from(is_newline_byte(*b));
+    }
+    count
 }
 
 /// The number of the line on which a text ends.

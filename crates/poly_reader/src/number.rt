@@ -139,6 +139,7 @@ fn short_parts(word: &[u8]) -> Option<(u64, u64)>
 }
 
 // The sizes above and below the slash of any word.
+#[cold]
 fn long_parts(word: &[u8]) -> (Option<u128>, Option<u128>)
     ensures above { result.0 ≡ option_map capped (numerator_of word.now) }
     ensures below { result.1 ≡ option_map capped (denominator_of word.now) }
@@ -150,6 +151,7 @@ fn long_parts(word: &[u8]) -> (Option<u128>, Option<u128>)
 }
 
 // The sizes above and below the slash.
+#[inline(always)]
 fn parts(word: &[u8]) -> (Option<u128>, Option<u128>)
     ensures above { result.0 ≡ option_map capped (numerator_of word.now) }
     ensures below { result.1 ≡ option_map capped (denominator_of word.now) }

@@ -106,26 +106,13 @@ fn common_numerator(row: &[Frac]) -> u128
     p
 }
 
-// Most often the divisor is 1.
-fn over(num: Num, p: u128) -> Num
-    requires divisor { p < 2 ^ 127 }
-    requires some { 0 < p }
-    ensures { result ≡ int_div num (pos p) }
-{
-    if p == 1 {
-        num
-    } else {
-        quotient(num, Num::from_parts(false, p))
-    }
-}
-
 fn entry(p: u128, q: u128, f: Frac) -> Option<Num>
     requires fits { q < 2 ^ 127 }
     requires divisor { p < 2 ^ 127 }
     requires some { 0 < p }
     ensures { SomeIff result (IsNum (entry_of p q f)) (entry_of p q f) }
 {
-    let top = over(f.num(), p);
+    let top = quotient(f.num(), Num::from_parts(false, p));
     mul(top, Num::from_parts(false, over_size(q, size_of_den(f))))
 }
 
