@@ -78,10 +78,24 @@ fn is_newline_byte(b: u8) -> bool
     b == b'\n'
 }
 
+fn near_newline_at(text: &[u8]) -> Option<usize>
+    ensures { result ≡ position is_newline text.now }
+{
+    text.iter().position(|b| *b == b'\n')
+}
+
+// A short line ends before a search by vectors pays.
 fn newline_at(text: &[u8]) -> Option<usize>
     ensures { result ≡ position is_newline text.now }
 {
-    memchr(b'\n', text)
+    let near = text.len().min(16);
+    match near_newline_at(&text[..near]) {
+        Some(at) => Some(at),
+        None => {
+            let found = memchr(b'\n', &text[near..])?;
+            Some(near + found)
+        }
+    }
 }
 
 fn newlines(text: &[u8]) -> usize
