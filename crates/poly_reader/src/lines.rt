@@ -1,5 +1,6 @@
 //! The lines of a text, each as its words: two cursors, above which nothing speaks of bytes.
 ghost use Rattle.std.specs.Prelude.{position, count_by, ◌≡◌, ◌≤◌, ◌<◌, ◌+◌, ◌^◌, [], ◌∷◌, length, MatchOption};
+ghost use Rattle.memchr.specs.Find.{IsFirstByte};
 ghost use Rattle.poly_reader.specs.Lines.{is_newline, is_blank, is_word_byte, is_same, word, words_on, lines_of, last_line};
 
 use memchr::memchr;
@@ -84,6 +85,14 @@ fn near_newline_at(text: &[u8]) -> Option<usize>
     text.iter().position(|b| *b == b'\n')
 }
 
+// The same by vectors, for what may be long; a call, so that the code around it stays small.
+#[inline(never)]
+fn far_newline_at(text: &[u8]) -> Option<usize>
+    ensures { IsFirstByte is_newline text.now result }
+{
+    memchr(b'\n', text)
+}
+
 // A short line ends before a search by vectors pays.
 fn newline_at(text: &[u8]) -> Option<usize>
     ensures { result ≡ position is_newline text.now }
@@ -92,7 +101,7 @@ fn newline_at(text: &[u8]) -> Option<usize>
     match near_newline_at(&text[..near]) {
         Some(at) => Some(at),
         None => {
-            let found = memchr(b'\n', &text[near..])?;
+            let found = far_newline_at(&text[near..])?;
             Some(near + found)
         }
     }
@@ -200,6 +209,7 @@ impl<'a> Lines<'a> {
     }
 
     /// The first line, and the lines after it; none where no line is left.
+    #[inline(always)]
     pub fn next(&self) -> Option<(LineWords<'a>, Lines<'a>)>
         ensures { MatchOption result (self.now ≡ []) (λ r. self.now ≡ r.0 ∷ r.1) }
     {

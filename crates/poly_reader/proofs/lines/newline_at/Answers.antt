@@ -12,10 +12,10 @@ returns-in-Some c =
 pub returns-in_ok-found-in-None : goal.returns-in_ok-found-in-None
 returns-in_ok-found-in-None c =
     far_position is_newline c.args.text.now c.min-near.result c.in_ok-found-in-None.found (sym c.in-None.ensures)
-    (omega (arith, c.min-near.ensures)) (rw (c.in_ok-found-in-None.was, take_rest) at c.memchr.ensures)
+    (omega (arith, c.min-near.ensures)) (rw (c.in_ok-found-in-None.was, take_rest) at c.far_newline_at.ensures)
 
 pub returns-in_err-found-in-None : goal.returns-in_err-found-in-None
 returns-in_err-found-in-None c =
     rw c.from_residual.ensures
     (no_position is_newline c.args.text.now c.min-near.result (sym c.in-None.ensures)
-    (omega (arith, c.min-near.ensures)) (rw (c.in_err-found-in-None.was, take_rest) at c.memchr.ensures))
+    (omega (arith, c.min-near.ensures)) (rw (c.in_err-found-in-None.was, take_rest) at c.far_newline_at.ensures))
