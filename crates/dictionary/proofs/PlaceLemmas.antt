@@ -27,6 +27,16 @@ place_within (x ∷ ks) k c =
     (λ (n : x ≢ k). rw (place_later x ks k n) (let l = place_within ks k (later_member x ks k n c) in omega arith))
     (cases_eq x k)
 
+pub place_has : (ks : List ℕ) (k : ℕ) → place_in ks k < length ks → Contains ks k
+place_has [] k l = absurd (omega arith)
+place_has (x ∷ ks) k l =
+    ⊎_elim
+    (λ (e : x ≡ k). subst (λ (i : ℕ). Contains (x ∷ ks) i) e (Contains-first x ks))
+    (λ (n : x ≢ k).
+        let h = place_later x ks k n in
+        Contains-later k x ks (place_has ks k (omega (arith, h))))
+    (cases_eq x k)
+
 pub at_place : (ks : List ℕ) (k z : ℕ) → Contains ks k → get_or ks (place_in ks k) z ≡ k
 at_place [] k z c = absurd (Contains-nil k c)
 at_place (x ∷ ks) k z c =

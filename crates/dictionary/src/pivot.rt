@@ -1,5 +1,5 @@
 //! The pivot: a label enters the cobasis in the place of another.
-ghost use Rattle.std.specs.Prelude.{◌≡◌, ◌<◌, suc, length, IfOk, IfErr};
+ghost use Rattle.std.specs.Prelude.{◌≡◌, ◌<◌, ◌↔◌, IsTrue, suc, length, IfOk, IfErr};
 ghost use Rattle.std.specs.Result.{IsOk};
 ghost use Rattle.std.specs.List.{Contains};
 ghost use Rattle.dictionary.specs.Cells.{Fits, PassesAt};
@@ -11,8 +11,20 @@ use crate::exchange::{Exchange, exchange_in_place};
 use crate::passing::{Spot, passing};
 use crate::places::place_of;
 use poly_model::{Label, Overflow, Place};
+use poly_num::Num;
 
 impl Dict {
+    /// Whether `row` can take the place of `col`: it is a label outside the cobasis, `col` is in it, and
+    /// the entry of the two is not 0.
+    pub fn can_pivot(&self, row: Label, col: Label) -> bool
+        ensures { IsTrue result ↔ CanPivot self.now row.0 col.0 }
+    {
+        self.has_label(row)
+            && !self.in_cobasis(row)
+            && self.in_cobasis(col)
+            && self.entry(row, col) != Num::ZERO
+    }
+
     /// Exchanges `row`, which is outside the cobasis, for `col`, which is in it. Takes no memory.
     ///
     /// Every product and every difference of two is tested before the first number is written. Where one
