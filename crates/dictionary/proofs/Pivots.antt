@@ -352,6 +352,7 @@ module _ (old : Dictionary) (r s : ℕ) (whole : IsWhole old) (can : CanPivot ol
     pivot_is = record {
       phase = refl;
       labels = refl;
+      width = length-set old.columns c r;
       key = exchanges;
       dictionary = λ space points d. dictionary_new space points d;
     }

@@ -8,5 +8,7 @@ mod dict;
 mod passing;
 mod pivot;
 mod places;
+#[cfg(test)]
+mod tests;
 
 pub use dict::Dict;
