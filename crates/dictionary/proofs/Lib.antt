@@ -4,3 +4,6 @@ pub mod PlaceLemmas
 pub mod Pivots
 pub mod CarriedOut
 pub mod OverflowLemmas
+pub mod KeptPlaces
+pub mod DividedOut
+pub mod KeptNumbers

@@ -4,6 +4,7 @@
 mod cells;
 mod exchange;
 mod dict;
+mod main_phase;
 mod passing;
 mod pivot;
 mod places;
