@@ -1,7 +1,7 @@
 -- Places of the labels that pass a test, and rows of cells at such places.
 use Rattle.std.proofs.Common.{◌≡◌, ◌≢◌, ℕ, zero, suc, ◌+◌, ◌-◌, ◌*◌, ◌<◌, ◌≤◌, Bool, true, false, cond, List, [], ◌∷◌, ◌++◌, ℤ, pos, length, get_or, arith, refl, sym, ap, subst, ◌∙◌, ⊎_elim, length-append}
 use Rattle.std.specs.Prelude.{◌==◌}
-use Rattle.std.specs.List.{AllByRecursion, Contains, filter, flat_map}
+use Rattle.std.specs.List.{All, AllByRecursion, Contains, filter, flat_map}
 use Rattle.std.proofs.lemmas.Bool.{eqb-true, eqb-false, ne_eqb, cond_both}
 use Rattle.std.proofs.lemmas.List.{get_or_append_left, get_or-append_right}
 use Rattle.std.proofs.lemmas.List.Elements.{All-filter, All-from_recursion, recursion_from_All}
@@ -20,13 +20,20 @@ length_places i test (k ∷ ks) =
         ≡ length (cond b (k ∷ filter test ks) (filter test ks)))
     [ true ↦ ap suc rest | false ↦ rest ]
 
-pub places_within : (i n : ℕ) (test : ℕ → Bool) (ks : List ℕ) → i + length ks ≤ n →
+places_within : (i n : ℕ) (test : ℕ → Bool) (ks : List ℕ) → i + length ks ≤ n →
     AllByRecursion (λ j. j < n) (places_from i test ks)
 places_within i n test [] l = tt
 places_within i n test (k ∷ ks) l =
     let rest = places_within (i + 1) n test ks (omega arith) in
     cond_both (test k) (i ∷ places_from (i + 1) test ks) (places_from (i + 1) test ks) (AllByRecursion (λ j. j < n))
     (λ e. (omega arith, rest)) (λ e. rest)
+
+-- the same of what the code has
+pub kept_within : (test : ℕ → Bool) (ks ls places : List ℕ) → places ≡ places_from 0 test ks → ks ≡ ls →
+    All (λ j. j < length ls) places
+kept_within test ks ls places e same =
+    rw (e, same) (All-from_recursion (λ j. j < length ls) (places_from 0 test ls)
+    (places_within 0 (length ls) test ls (omega arith)))
 
 -- the first place, where the first label is the one that is looked for, or one of the others
 first_or_later : (i q r z : ℕ) (ps : List ℕ) (b : Bool) → (b ≡ false → get_or ps q z ≡ i + 1 + r) →

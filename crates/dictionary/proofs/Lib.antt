@@ -7,3 +7,4 @@ pub mod OverflowLemmas
 pub mod KeptPlaces
 pub mod DividedOut
 pub mod KeptNumbers
+pub mod EnteringMain
