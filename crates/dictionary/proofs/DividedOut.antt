@@ -1,5 +1,5 @@
 -- The common divisor of all cells and the denominator is divided out of them.
-use Rattle.std.proofs.Common.{◌≡◌, ◌≢◌, ℕ, zero, suc, ◌+◌, ◌-◌, ◌*◌, ◌/◌, ◌%◌, ◌<◌, ℤ, pos, ◌*ℤ◌, List, [], ◌∷◌, ◌++◌, map, length, get_or, take, arith, refl, sym, ap, subst, ◌∙◌, length-append, mul_comm}
+use Rattle.std.proofs.Common.{◌≡◌, ℕ, zero, suc, ◌+◌, ◌-◌, ◌*◌, ◌/◌, ◌%◌, ◌<◌, ℤ, pos, ◌*ℤ◌, List, [], ◌∷◌, ◌++◌, length, get_or, take, arith, sym, ap, subst, ◌∙◌, length-append, mul_comm}
 use Rattle.std.specs.Prelude.{◌<ℤ◌}
 use Rattle.std.specs.List.{AllByRecursion, Contains}
 use Rattle.std.proofs.lemmas.Int.{ints}
@@ -9,7 +9,6 @@ use Rattle.std.proofs.Math.Nat.{div-add-mod, div-lt_iff_lt-mul, mod-lt}
 use Rattle.poly_num.specs.Vectors.{scale, IsZero, IsPrimitive}
 use Rattle.poly_num.specs.Divisors.{MakesPrimitive}
 use Rattle.poly_num.proofs.Order.{positive_factor, positive_nonzero, cancel, zero_factor}
-use Rattle.poly_num.proofs.Ring.{mul_zero}
 use Rattle.poly_num.proofs.VectorLemmas.{length-scale}
 use Rattle.linear_laws.proofs.AllLemmas.{all_right}
 use Rattle.dictionary_laws.specs.Keys.{place_in}

@@ -1,20 +1,21 @@
 -- What stays of a dictionary of the file's rows, without its common divisor, is the dictionary of the
 -- main space.
-use Rattle.std.proofs.Common.{◌≡◌, ℕ, zero, suc, ◌+◌, ◌-◌, ◌<◌, ◌≤◌, Bool, true, false, List, [], ◌∷◌, ◌++◌, ℤ, pos, ◌*ℤ◌, map, length, arith, refl, sym, ap, subst, ◌∙◌, inl, ⊎_elim, length-append}
+use Rattle.std.proofs.Common.{◌≡◌, ℕ, suc, ◌-◌, ◌<◌, ◌≤◌, true, false, List, [], ◌∷◌, ℤ, pos, length, arith, refl, sym, ap, subst, ◌∙◌, inl, ⊎_elim, length-append}
 use Prim.Native.Nat.{◌∣◌}
 use Rattle.std.specs.Prelude.{not, unsigned_abs, ◌<ℤ◌}
 use Rattle.std.specs.List.{Contains, filter}
 use Rattle.std.proofs.lemmas.Bool.{cases_Bool, cond-true, cond-false}
 use Rattle.std.proofs.lemmas.Int.{ints}
 use Rattle.std.proofs.Math.Nat.{pos_of_dvd_of_pos}
-use Rattle.poly_num.specs.Vectors.{Vector}
+use Rattle.poly_num.proofs.Order.{positive_nonzero}
+use Rattle.poly_num.proofs.FractionLemmas.{size_positive}
 use Rattle.linear_laws.proofs.AllLemmas.{all_both}
 use Rattle.poly_model.specs.declared.kind.Kind.{Kind}
 use Rattle.poly_model.specs.declared.kind.Kind.TheVariants.{H, V}
 use Rattle.poly_model.specs.declared.overflow.Phase.TheVariants.{Main}
 use Rattle.poly_model.specs.Systems.{Row, row_of, Polyhedron, System, file_rows, added_row, cone_of}
 use Rattle.poly_model.specs.Spaces.{Space, is_row, is_member, is_left, cut_space, prepare_space, main_space}
-use Rattle.poly_model.specs.Dictionaries.{IsCobasis, IsDictionary, Writes}
+use Rattle.poly_model.specs.Dictionaries.{IsCobasis, Writes}
 use Rattle.dictionary_laws.specs.Keys.{place_in}
 use Rattle.dictionary_laws.specs.Numbers.{ArePrimitive}
 use Rattle.dictionary_laws.specs.MainSpace.{stays, CanEnterMain, EntersMain}
@@ -22,9 +23,8 @@ use Rattle.dictionary_laws.proofs.Multiples.{AreTimes, divisors_write}
 use Rattle.dictionary_laws.proofs.Least.{least_where_primitive}
 use Rattle.dictionary_laws.proofs.MainRows.{count_of_rows, fixed_rows}
 use Rattle.dictionary_laws.proofs.MainSpace.{main_dictionary}
-use Rattle.dictionary.specs.Views.{Dictionary, number, table_of, IsDictionaryIn, IsWhole}
+use Rattle.dictionary.specs.Views.{Dictionary, table_of, IsDictionaryIn, IsWhole}
 use Rattle.dictionary.specs.MainPhase.{stays_in, kept, IsDividedOut, IsMainOf, EntersMainPhase}
-use Rattle.dictionary.proofs.KeptPlaces.{same_filter}
 use Rattle.dictionary.proofs.KeptNumbers.{constant_kept, entry_kept, whole_kept}
 use Rattle.dictionary.proofs.DividedOut.{divided_of, positive_divisor, times_left, whole_divided, each_number}
 
@@ -34,8 +34,8 @@ pub left_if_stays : (rows : List Row) (free : List ℕ) (k : ℕ) → stays_in r
 left_if_stays rows free k e =
     ⊎_elim
     (λ (b : is_row k ≡ true).
-        cond-true (is_row k) (not (row_of rows k).linear) true b
-        ∙ sym (cond-true (is_row k) (not (row_of rows k).linear) (not (is_member (k - 8192) free)) b) ∙ e)
+    cond-true (is_row k) (not (row_of rows k).linear) true b
+    ∙ sym (cond-true (is_row k) (not (row_of rows k).linear) (not (is_member (k - 8192) free)) b) ∙ e)
     (λ (b : is_row k ≡ false). cond-false (is_row k) (not (row_of rows k).linear) true b)
     (cases_Bool (is_row k))
 
@@ -48,9 +48,6 @@ main_labels p free = ap (λ ls. filter (is_left (cone_of p).rows) ls) (by p.kind
     by H = refl
     by V = refl
 
-size_positive : (x : ℤ) → pos 0 <ℤ x → 0 < unsigned_abs x
-size_positive x h = omega (arith, ints)
-
 few_rows : (p : Polyhedron) (sys : System) → sys ≡ cone_of p → length sys.rows ≤ 4097 → length p.rows < 8192
 few_rows p sys e l =
     let same : length sys.rows ≡ length (cone_of p).rows = ap (λ (s : System). length s.rows) e in
@@ -61,7 +58,6 @@ abbrev pub staying : Dictionary → List Row → List ℕ → Dictionary
 staying old rows free = kept old (stays_in rows []) (stays_in rows free)
 
 module _ (old : Dictionary) (whole : IsWhole old) (rows : List Row) (free : List ℕ) where
-
   module _ (least : ℤ) (cells : List ℤ) (h : IsDividedOut (staying old rows free).cells (staying old rows free).denominator cells least) where
     abbrev pub new : Dictionary
     new = divided_of (staying old rows free) least cells h
@@ -115,7 +111,7 @@ module _ (old : Dictionary) (whole : IsWhole old) (rows : List Row) (free : List
 
       primitive : ArePrimitive space new.key (table_of new)
       primitive e divides =
-          h.primitive.1 e (pos_of_dvd_of_pos divides.denominator (size_positive least whole_new.positive))
+          h.primitive.1 e (pos_of_dvd_of_pos divides.denominator (size_positive least (positive_nonzero least whole_new.positive)))
           (all_both (λ z. e ∣ unsigned_abs z) cells (least ∷ [])
           (each_number (λ z. e ∣ unsigned_abs z) new whole_new
           (λ i c. divides.constants i (label_back i c))
@@ -156,6 +152,7 @@ made_main old sys free labels key columns denominator least mid cells whole few 
     let left : IsDividedOut (staying old sys.rows free).cells old.denominator cells least =
     subst (λ (z : ℤ). IsDividedOut (staying old sys.rows free).cells z cells least) ed
     (subst (λ (v : List ℤ). IsDividedOut v denominator cells least) em h) in
-    rw (el, ek, ec)
-    (whole_new old whole sys.rows free least cells left,
-    enters_main old whole sys.rows free least cells left sys refl few)
+    rw (el, ek, ec) (
+      whole_new old whole sys.rows free least cells left,
+      enters_main old whole sys.rows free least cells left sys refl few,
+    )

@@ -1,5 +1,5 @@
 -- What stays of a dictionary has its old numbers, by labels, and is whole again.
-use Rattle.std.proofs.Common.{◌≡◌, ◌≢◌, ℕ, zero, suc, ◌+◌, ◌*◌, ◌<◌, ◌≤◌, Bool, true, List, ◌∷◌, ℤ, pos, map, length, get_or, arith, refl, sym, ap, subst, ◌∙◌}
+use Rattle.std.proofs.Common.{◌≡◌, ◌≢◌, ℕ, zero, suc, ◌*◌, ◌<◌, Bool, true, List, ℤ, pos, length, get_or, arith, sym, ap, ◌∙◌}
 use Rattle.std.specs.List.{Contains, filter}
 use Rattle.std.proofs.lemmas.List.{length-map, get_or-map}
 use Rattle.std.proofs.lemmas.List.Elements.{Contains-get_or}
@@ -77,9 +77,9 @@ module _ (d : Dictionary) (left stays : ℕ → Bool) where
         ∙ entry_kept k other (kept_label k c) stands
         ∙ (whole.units k here).others (suc (place_in d.columns other)) (omega arith)
         (λ e.
-            let same : place_in d.columns other ≡ place_in d.columns k = omega arith in
-            let one = one_at_place d.columns other k there here same in
-            n (ap suc (sym place ∙ ap (λ q. place_in (filter stays d.columns) q) one)))
+        let same : place_in d.columns other ≡ place_in d.columns k = omega arith in
+        let one = one_at_place d.columns other k there here same in
+        n (ap suc (sym place ∙ ap (λ q. place_in (filter stays d.columns) q) one)))
 
     kept_unit : (k : ℕ) → Contains (filter stays d.columns) k → IsUnitRow (kept d left stays) k
     kept_unit k c = record {

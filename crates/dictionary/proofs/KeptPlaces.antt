@@ -1,8 +1,8 @@
 -- Places of the labels that pass a test, and rows of cells at such places.
-use Rattle.std.proofs.Common.{◌≡◌, ◌≢◌, ℕ, zero, suc, ◌+◌, ◌-◌, ◌*◌, ◌<◌, ◌≤◌, Bool, true, false, cond, List, [], ◌∷◌, ◌++◌, ℤ, pos, length, get_or, arith, refl, sym, ap, subst, ◌∙◌, ⊎_elim, length-append}
+use Rattle.std.proofs.Common.{◌≡◌, ℕ, zero, suc, ◌+◌, ◌-◌, ◌*◌, ◌<◌, ◌≤◌, Bool, true, false, cond, List, [], ◌∷◌, ℤ, pos, length, get_or, arith, refl, sym, ap, ◌∙◌, length-append}
 use Rattle.std.specs.Prelude.{◌==◌}
 use Rattle.std.specs.List.{All, AllByRecursion, Contains, filter, flat_map}
-use Rattle.std.proofs.lemmas.Bool.{eqb-true, eqb-false, ne_eqb, cond_both}
+use Rattle.std.proofs.lemmas.Bool.{eqb-false, ne_eqb, cond_both}
 use Rattle.std.proofs.lemmas.List.{get_or_append_left, get_or-append_right}
 use Rattle.std.proofs.lemmas.List.Elements.{All-filter, All-from_recursion, recursion_from_All}
 use Rattle.linear_laws.proofs.Members.{Contains-nil}
@@ -17,7 +17,7 @@ length_places i test [] = refl
 length_places i test (k ∷ ks) =
     let rest = length_places (i + 1) test ks in
     elim (test k) as (λ b. length (cond b (i ∷ places_from (i + 1) test ks) (places_from (i + 1) test ks))
-        ≡ length (cond b (k ∷ filter test ks) (filter test ks)))
+    ≡ length (cond b (k ∷ filter test ks) (filter test ks)))
     [ true ↦ ap suc rest | false ↦ rest ]
 
 places_within : (i n : ℕ) (test : ℕ → Bool) (ks : List ℕ) → i + length ks ≤ n →
@@ -70,8 +70,11 @@ ascending_filter test [] h = tt
 ascending_filter test (k ∷ ks) h =
     let rest = ascending_filter test ks h.1 in
     cond_both (test k) (k ∷ filter test ks) (filter test ks) IsAscending
-    (λ e. (recursion_from_All (λ j. k < j) (filter test ks)
-        (All-filter test (λ j. k < j) ks (All-from_recursion (λ j. k < j) ks h.0)), rest))
+    (λ e. (
+      recursion_from_All (λ j. k < j) (filter test ks)
+          (All-filter test (λ j. k < j) ks (All-from_recursion (λ j. k < j) ks h.0)),
+      rest,
+    ))
     (λ e. rest)
 
 pub filter_length : (test : ℕ → Bool) (ks : List ℕ) → length (filter test ks) ≤ length ks

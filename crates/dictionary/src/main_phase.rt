@@ -131,7 +131,14 @@ impl Dict {
     {
         let mut kept = Vec::new(*self.cells.allocator());
         'rows: for i in rows {
-            keep_row(&mut kept, &self.cells, self.labels.len(), self.pivot_row.len(), columns, *i)?;
+            keep_row(
+                &mut kept,
+                &self.cells,
+                self.labels.len(),
+                self.pivot_row.len(),
+                columns,
+                *i,
+            )?;
         }
         Ok(kept)
     }

@@ -1,4 +1,4 @@
-use Rattle.std.proofs.Common.{◌≡◌, ◌≤◌, suc, List, [], length, arith, sym, ap, subst, ◌∙◌}
+use Rattle.std.proofs.Common.{◌≤◌, suc, [], length, arith, sym, ap, subst, ◌∙◌}
 use Rattle.std.specs.List.{filter}
 use Rattle.poly_model.specs.Keys.{IsKey}
 use Rattle.poly_model.specs.declared.overflow.Phase.TheVariants.{Main}
@@ -39,9 +39,9 @@ made c =
     let labels = ap (λ (d : Dictionary). d.labels) view in
     let columns = ap (λ (d : Dictionary). d.columns) view in
     let places = c.deref-3.ensures.value ∙ c.in_ok-rows.ensures
-        ∙ ap (λ ks. places_from 0 (stays_in rows []) ks) (c.deref.ensures.value ∙ labels) in
+    ∙ ap (λ ks. places_from 0 (stays_in rows []) ks) (c.deref.ensures.value ∙ labels) in
     let column_places = c.deref-4.ensures.value ∙ c.in_ok-places.ensures
-        ∙ ap (λ ks. places_from 0 (stays_in rows free) ks) (c.deref-2.ensures.value ∙ columns) in
+    ∙ ap (λ ks. places_from 0 (stays_in rows free) ks) (c.deref-2.ensures.value ∙ columns) in
     let width = suc (length old.columns) in
     made_main old c.args.sys.now free c.in_ok-labels.labels.items c.key_of-key.result c.in_ok-columns.columns.items
     c.self.inside.denominator c.in_ok-denominator.denominator c.in_ok-cells.cells.items c.divide_out.new.cells.items
@@ -58,9 +58,10 @@ made c =
     c.in_ok-denominator.ensures
 
 pub invariant_of-result : goal.invariant_of-result
-invariant_of-result c =
-    (omega (arith, c.in_ok-resize.ensures.len, c.len.ensures, c.in_ok-columns.columns.ok.0, c.resize.new.self.ok.0),
-    (made c).0)
+invariant_of-result c = (
+  omega (arith, c.in_ok-resize.ensures.len, c.len.ensures, c.in_ok-columns.columns.ok.0, c.resize.new.self.ok.0),
+  (made c).0,
+)
 
 pub returns : goal.returns
 returns c = (made (goal.at.returns c).In_ok-resize).1
