@@ -1,10 +1,10 @@
 pub mod Written
+pub mod KeptPlaces
+pub mod KeptNumbers
+pub mod DividedOut
+pub mod EnteringMain
 pub mod Reduced
 pub mod PlaceLemmas
 pub mod Pivots
 pub mod CarriedOut
 pub mod OverflowLemmas
-pub mod KeptPlaces
-pub mod DividedOut
-pub mod KeptNumbers
-pub mod EnteringMain

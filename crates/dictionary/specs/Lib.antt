@@ -1,3 +1,3 @@
+pub mod MainPhase
 pub mod Cells
 pub mod Views
-pub mod MainPhase
