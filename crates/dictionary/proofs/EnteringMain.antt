@@ -2,10 +2,9 @@
 -- main space.
 use Rattle.std.proofs.Common.{◌≡◌, ℕ, suc, ◌-◌, ◌<◌, ◌≤◌, true, false, List, [], ◌∷◌, ℤ, pos, length, arith, refl, sym, ap, subst, ◌∙◌, inl, ⊎_elim, length-append}
 use Prim.Native.Nat.{◌∣◌}
-use Rattle.std.specs.Prelude.{not, unsigned_abs, ◌<ℤ◌}
+use Rattle.std.specs.Prelude.{not, unsigned_abs}
 use Rattle.std.specs.List.{Contains, filter}
 use Rattle.std.proofs.lemmas.Bool.{cases_Bool, cond-true, cond-false}
-use Rattle.std.proofs.lemmas.Int.{ints}
 use Rattle.std.proofs.Math.Nat.{pos_of_dvd_of_pos}
 use Rattle.poly_num.proofs.Order.{positive_nonzero}
 use Rattle.poly_num.proofs.FractionLemmas.{size_positive}
