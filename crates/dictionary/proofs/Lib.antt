@@ -1,4 +1,8 @@
 pub mod Written
+pub mod KeptPlaces
+pub mod KeptNumbers
+pub mod DividedOut
+pub mod EnteringMain
 pub mod Reduced
 pub mod PlaceLemmas
 pub mod Pivots

@@ -1,3 +1,4 @@
+pub mod MainPhase
 pub mod Cells
 pub mod Views
 pub mod New

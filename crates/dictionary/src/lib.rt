@@ -5,6 +5,7 @@ mod cells;
 mod exchange;
 mod new;
 mod dict;
+mod main_phase;
 mod passing;
 mod pivot;
 mod places;
