@@ -12,3 +12,8 @@ pub mod RangeLemmas
 pub mod FirstNumbers
 pub mod Beginnings
 pub mod BeginSpaces
+pub mod CommonLemmas
+pub mod LeftLemmas
+pub mod WrittenOver
+pub mod UndividedLemmas
+pub mod LeastOver

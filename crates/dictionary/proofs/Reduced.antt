@@ -20,7 +20,7 @@ get_or-neg [] k = refl
 get_or-neg (x ∷ v) zero = refl
 get_or-neg (x ∷ v) (suc k) = get_or-neg v k
 
-get_or-zero : (v : List ℤ) (k : ℕ) → IsZero v → get_or v k (pos 0) ≡ pos 0
+pub get_or-zero : (v : List ℤ) (k : ℕ) → IsZero v → get_or v k (pos 0) ≡ pos 0
 get_or-zero [] k h = refl
 get_or-zero (x ∷ v) zero h = h.0
 get_or-zero (x ∷ v) (suc k) h = get_or-zero v k h.1

@@ -11,5 +11,6 @@ mod pivot;
 mod places;
 #[cfg(test)]
 mod tests;
+mod words;
 
 pub use dict::Dict;

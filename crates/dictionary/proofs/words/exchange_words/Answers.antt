@@ -1,0 +1,156 @@
+use Rattle.std.proofs.Common.{◌≡◌, ℕ, ℤ, ◌+◌, ◌*◌, ◌*ℤ◌, sym, ap, subst, arith, ◌∙◌, mul_comm}
+use Prim.Native.Nat.{◌∣◌}
+use Rattle.std.specs.Prelude.{unsigned_abs}
+use Rattle.std.proofs.lemmas.Nat.{mul-add-lt}
+use Rattle.poly_num.specs.Numbers.{IsWord}
+use Rattle.dictionary.specs.Cells.{cell, pivot_cell}
+use Rattle.dictionary.specs.WordExchange.{IsSignOf}
+use Rattle.dictionary.proofs.LeftLemmas.{quotient_word, divisor_word}
+use Rattle.dictionary.proofs.WrittenOver.{IsWrittenOver, over_start, over_along, over_more, over_fits, word_at}
+use Rattle.dictionary.proofs.UndividedLemmas.{turned_word, turned_divides, factor_nonzero, undivided_is}
+use Rattle.dictionary.proofs.LeastOver.{least_exchanged}
+use Rattle.dictionary.proofs.words.exchange_words.Goals as goal
+
+pub over_common-p-requires-clause-divides : goal.over_common-p-requires-clause-divides
+over_common-p-requires-clause-divides c =
+    let x = c.args.x.now in
+    let h = c.common_factor-common in
+    subst (λ (z : ℤ). unsigned_abs h.result ∣ unsigned_abs z)
+    (sym (c.at_place.ensures ∙ c.copy_turned.ensures.same x.column c.requires.column))
+    (turned_divides h.result c.sign_number-sign.result (pivot_cell x c.args.cells.now) c.sign_number-sign.ensures.size
+    (h.ensures.row x.column c.requires.column))
+
+pub rows-init : goal.rows-init
+rows-init c =
+    let x = c.args.x.now in
+    let old = c.args.cells.now in
+    let f = c.sign_number-sign.result *ℤ c.common_factor-common.result in
+    subst (λ (g : ℤ). IsWrittenOver x old f (0 * x.width) g old) (sym c.new-divisor.ensures)
+    (over_along x old f 0 (0 * x.width) x.denominator old (omega arith) (over_start x old f c.requires.denominator))
+
+pub over_common-c-requires-clause-divides : goal.over_common-c-requires-clause-divides
+over_common-c-requires-clause-divides c =
+    let h = c.common_factor-common in
+    let same = c.cell_at-in-rows.ensures
+    ∙ c.rows.invariant.rest c.rows.i c.args.x.now.column c.rows-test.true c.requires.column (omega arith) in
+    subst (λ (z : ℤ). unsigned_abs h.result ∣ unsigned_abs z) (sym same) (h.ensures.column c.rows.i c.rows-test.true)
+
+pub word_product-own-requires-clause-right : goal.word_product-own-requires-clause-right
+word_product-own-requires-clause-right c =
+    let x = c.args.x.now in
+    let same = c.cell_at-in-rows.ensures
+    ∙ c.rows.invariant.rest c.rows.i x.column c.rows-test.true c.requires.column (omega arith) in
+    quotient_word c.over_common-c.result c.common_factor-common.result c.cell_at-in-rows.result
+    c.common_factor-common.ensures.positive c.over_common-c.ensures
+    (subst IsWord (sym same)
+    (word_at x c.args.cells.now c.requires.size c.requires.words c.rows.i x.column c.rows-test.true c.requires.column))
+
+pub columns-init : goal.columns-init
+columns-init c = over_along c.args.x.now c.args.cells.now _ _ _ _ _ (omega arith) c.rows.invariant
+
+pub undivided-n-requires-clause-p : goal.undivided-n-requires-clause-p
+undivided-n-requires-clause-p c =
+    let x = c.args.x.now in
+    let t = c.sign_number-sign in
+    quotient_word c.over_common-p.result c.common_factor-common.result c.at_place.result
+    c.common_factor-common.ensures.positive c.over_common-p.ensures
+    (subst IsWord (sym (c.at_place.ensures ∙ c.copy_turned.ensures.same x.column c.requires.column))
+    (turned_word t.result (pivot_cell x c.args.cells.now) t.ensures.size
+    (word_at x c.args.cells.now c.requires.size c.requires.words x.row x.column c.requires.row c.requires.column)))
+
+pub undivided-n-requires-clause-c : goal.undivided-n-requires-clause-c
+undivided-n-requires-clause-c c =
+    let x = c.args.x.now in
+    let same = c.cell_at-in-rows.ensures
+    ∙ c.rows.invariant.rest c.rows.i x.column c.rows-test.true c.requires.column (omega arith) in
+    quotient_word c.over_common-c.result c.common_factor-common.result c.cell_at-in-rows.result
+    c.common_factor-common.ensures.positive c.over_common-c.ensures
+    (subst IsWord (sym same)
+    (word_at x c.args.cells.now c.requires.size c.requires.words c.rows.i x.column c.rows-test.true c.requires.column))
+
+pub undivided-n-requires-clause-own : goal.undivided-n-requires-clause-own
+undivided-n-requires-clause-own c =
+    let x = c.args.x.now in
+    let t = c.sign_number-sign in
+    let same = c.cell_at-in-rows.ensures
+    ∙ c.rows.invariant.rest c.rows.i x.column c.rows-test.true c.requires.column (omega arith) in
+    subst IsWord (sym c.word_product-own.ensures)
+    (turned_word t.result c.over_common-c.result t.ensures.size
+    (quotient_word c.over_common-c.result c.common_factor-common.result c.cell_at-in-rows.result
+    c.common_factor-common.ensures.positive c.over_common-c.ensures
+    (subst IsWord (sym same)
+    (word_at x c.args.cells.now c.requires.size c.requires.words c.rows.i x.column c.rows-test.true c.requires.column))))
+
+pub undivided-n-requires-clause-cell : goal.undivided-n-requires-clause-cell
+undivided-n-requires-clause-cell c =
+    let x = c.args.x.now in
+    subst IsWord
+    (sym (c.columns.invariant.rest c.rows.i c.columns.j c.rows-test.true c.columns-test.true (omega arith)))
+    (word_at x c.args.cells.now c.requires.size c.requires.words c.rows.i c.columns.j c.rows-test.true c.columns-test.true)
+
+pub undivided-n-requires-clause-above : goal.undivided-n-requires-clause-above
+undivided-n-requires-clause-above c =
+    let x = c.args.x.now in
+    let t = c.sign_number-sign in
+    subst IsWord (sym (c.copy_turned.ensures.same c.columns.j c.columns-test.true))
+    (turned_word t.result (cell x.width c.args.cells.now x.row c.columns.j) t.ensures.size
+    (word_at x c.args.cells.now c.requires.size c.requires.words x.row c.columns.j c.requires.row c.columns-test.true))
+
+pub over-z-requires-clause-word : goal.over-z-requires-clause-word
+over-z-requires-clause-word c =
+    divisor_word c.args.x.now.denominator c.columns.divisor c.requires.denominator c.columns.invariant.divides c.requires.word
+
+pub over-z-requires-clause-fits : goal.over-z-requires-clause-fits
+over-z-requires-clause-fits c =
+    let x = c.args.x.now in
+    let q = c.requires in
+    let t = c.sign_number-sign in
+    let h = c.common_factor-common in
+    let nonzero = factor_nonzero (pivot_cell x c.args.cells.now) t.result h.result q.nonzero
+    (subst (λ (z : ℤ). IsSignOf z t.result) c.cell_at.ensures t.ensures) h.ensures.positive in
+    let l = mul-add-lt c.rows.i x.width c.columns.j x.height c.rows-test.true c.columns-test.true in
+    over_fits x c.args.cells.now (t.result *ℤ h.result) q.size q.row q.column q.words q.word nonzero
+    (c.rows.i * x.width + c.columns.j) c.columns.divisor c.columns.cells (omega (arith, mul_comm x.height x.width))
+    c.columns.invariant
+
+pub columns-preserved : goal.columns-preserved
+columns-preserved c =
+    let x = c.args.x.now in
+    let old = c.args.cells.now in
+    let q = c.requires in
+    let i = c.rows.i in
+    let j = c.columns.j in
+    let t = c.sign_number-sign in
+    let h = c.common_factor-common in
+    let f = t.result *ℤ h.result in
+    let sign = subst (λ (z : ℤ). IsSignOf z t.result) c.cell_at.ensures t.ensures in
+    let nonzero = factor_nonzero (pivot_cell x old) t.result h.result q.nonzero sign h.ensures.positive in
+    let ep = c.over_common-p.ensures ∙ c.at_place.ensures in
+    let ec = c.over_common-c.ensures ∙ c.cell_at-in-rows.ensures
+    ∙ c.rows.invariant.rest i x.column c.rows-test.true q.column (omega arith) in
+    let same = c.columns.invariant.rest i j c.rows-test.true c.columns-test.true (omega arith) in
+    let is = undivided_is x old c.copy_turned.new.row h.result t.result c.over_common-p.result q.column sign
+    c.copy_turned.ensures ep i j c.columns-test.true c.columns.cells c.over_common-c.result c.word_product-own.result
+    c.undivided-n.result ec c.word_product-own.ensures same c.undivided-n.ensures.column c.undivided-n.ensures.inside in
+    let e = c.over-z.ensures in
+    over_along x old f (i * x.width + j + 1) (i * x.width + (j + 1)) _ _ (omega arith)
+    (over_more x old f nonzero q.size i j c.rows-test.true c.columns-test.true c.columns.divisor c.over-z.new.divisor
+    c.columns.cells c.over-z.new.cells c.undivided-n.result c.over-z.result is e.quotient e.left e.rescaled
+    c.columns.invariant)
+
+pub rows-preserved : goal.rows-preserved
+rows-preserved c =
+    let e : c.columns.j ≡ c.args.x.now.width = omega arith in
+    over_along c.args.x.now c.args.cells.now _ _ _ _ _ (omega arith) c.columns.invariant
+
+pub returns-clause-exchanged : goal.returns-clause-exchanged
+returns-clause-exchanged c =
+    let x = c.args.x.now in
+    let q = c.requires in
+    let t = c.sign_number-sign in
+    let h = c.common_factor-common in
+    let e : c.rows.i ≡ x.height = omega arith in
+    least_exchanged x c.args.cells.now c.rows.cells h.result t.result c.rows.divisor q.row q.column q.denominator
+    q.nonzero h.ensures (subst (λ (z : ℤ). IsSignOf z t.result) c.cell_at.ensures t.ensures) q.unit
+    (over_along x c.args.cells.now (t.result *ℤ h.result) (c.rows.i * x.width) (x.height * x.width) c.rows.divisor
+    c.rows.cells (ap (λ (n : ℕ). n * x.width) e) c.rows.invariant)
