@@ -17,3 +17,4 @@ pub mod LeftLemmas
 pub mod WrittenOver
 pub mod UndividedLemmas
 pub mod LeastOver
+pub mod NarrowCells
