@@ -28,9 +28,11 @@ use Rattle.dictionary.proofs.FirstNumbers.{first_cells, first_labels, first_leng
 -- ---- labels
 ascending_range : (a n : ℕ) → IsAscending (range_with_len a n)
 ascending_range a zero = tt
-ascending_range a (suc n) =
-    (all_from (λ k. a < k) (range_with_len (a + 1) n)
-    (λ k c. let l = (range_only (a + 1) n k c).0 in omega arith), ascending_range (a + 1) n)
+ascending_range a (suc n) = (
+  all_from (λ k. a < k) (range_with_len (a + 1) n)
+      (λ k c. let l = (range_only (a + 1) n k c).0 in omega arith),
+  ascending_range (a + 1) n,
+)
 
 members : (ks ls : List ℕ) (k : ℕ) → Contains (ks ++ ls) k → Contains ks k ⊎ Contains ls k
 members [] ls k c = inr c
@@ -38,19 +40,20 @@ members (x ∷ ks) ls k c =
     ⊎_elim
     (λ (e : k ≡ x). inl (subst (λ (i : ℕ). Contains (x ∷ ks) i) (sym e) (Contains-first x ks)))
     (λ (d : Contains (ks ++ ls) k).
-        ⊎_elim (λ (h : Contains ks k). inl (Contains-later k x ks h)) (λ (h : Contains ls k). inr h) (members ks ls k d))
+    ⊎_elim (λ (h : Contains ks k). inl (Contains-later k x ks h)) (λ (h : Contains ls k). inr h) (members ks ls k d))
     (contains_cases x (ks ++ ls) k c)
 
 ascending_joined : (ks ls : List ℕ) → IsAscending ks → IsAscending ls →
     ((k l : ℕ) → Contains ks k → Contains ls l → k < l) → IsAscending (ks ++ ls)
 ascending_joined [] ls h g below = g
-ascending_joined (x ∷ ks) ls h g below =
-    (all_from (λ k. x < k) (ks ++ ls)
-    (λ k c. ⊎_elim
-        (λ (d : Contains ks k). all_at (λ i. x < i) ks h.0 k d)
-        (λ (d : Contains ls k). below x k (Contains-first x ks) d)
-        (members ks ls k c)),
-    ascending_joined ks ls h.1 g (λ k l c d. below k l (Contains-later k x ks c) d))
+ascending_joined (x ∷ ks) ls h g below = (
+  all_from (λ k. x < k) (ks ++ ls)
+      (λ k c. ⊎_elim
+      (λ (d : Contains ks k). all_at (λ i. x < i) ks h.0 k d)
+      (λ (d : Contains ls k). below x k (Contains-first x ks) d)
+      (members ks ls k c)),
+  ascending_joined ks ls h.1 g (λ k l c d. below k l (Contains-later k x ks c) d),
+)
 
 key_upper : (j m k : ℕ) → Contains (map coordinate_label (range_with_len j m)) k → k < 8192 + (j + m)
 key_upper j zero k c = absurd (Contains-nil k c)
@@ -58,7 +61,7 @@ key_upper j (suc m) k c =
     ⊎_elim
     (λ (e : k ≡ coordinate_label j). omega (arith, e))
     (λ (d : Contains (map coordinate_label (range_with_len (j + 1) m)) k).
-        let l = key_upper (j + 1) m k d in omega (arith, l))
+    let l = key_upper (j + 1) m k d in omega (arith, l))
     (contains_cases (coordinate_label j) (map coordinate_label (range_with_len (j + 1) m)) k c)
 
 -- ---- the form of a coordinate
@@ -155,13 +158,13 @@ module _ (phase : Phase) (rows : List Row) (b : Bool) (n m : ℕ) (some : 0 < n)
     number_is i j l hj =
         ⊎_elim
         (λ (d : Contains (range_with_len 1 m) i).
-            let r = range_only 1 m i d in
-            forms i j r.0 (let u = r.1 in omega (arith, u)) hj
-            ∙ sym (row_number cells_of m columns labels_apart cell_widths i j r.0 (let u = r.1 in omega (arith, u)) hj))
+        let r = range_only 1 m i d in
+        forms i j r.0 (let u = r.1 in omega (arith, u)) hj
+        ∙ sym (row_number cells_of m columns labels_apart cell_widths i j r.0 (let u = r.1 in omega (arith, u)) hj))
         (λ (d : Contains columns i).
-            ap (λ v. at j v) (form_at space.form columns 1 h.forms i d (suc (place_in columns i)) (omega arith))
-            ∙ coordinate_at (suc (place_in columns i)) j
-            ∙ sym (unit_number cells_of m columns labels_apart cell_widths i j d hj))
+        ap (λ v. at j v) (form_at space.form columns 1 h.forms i d (suc (place_in columns i)) (omega arith))
+        ∙ coordinate_at (suc (place_in columns i)) j
+        ∙ sym (unit_number cells_of m columns labels_apart cell_widths i j d hj))
         (members (range_with_len 1 m) columns i (subst (λ (ks : List ℕ). Contains ks i) (sym same) l))
 
     agrees : Agree space columns (coordinate_table space columns) (table_of first)

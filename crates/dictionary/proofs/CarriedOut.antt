@@ -46,6 +46,7 @@ module _ (d : Dictionary) (r s : ℕ) (whole : IsWhole d) (can : CanPivot d r s)
   carried_out key columns denominator written ekey ecolumns edenominator ewritten =
       let column = ap (λ (y : Exchange). y.column) at in
       let place : x.column - 1 ≡ place_in d.columns s = omega arith in
-      rw (edenominator, ewritten, ecolumns, place, ekey, at)
-      (pivot_is d r s whole can news ex_at (with_label r (remove d.key (place_in d.key s))) (new_key d r s whole can),
-      whole_new d r s whole can news ex_at (with_label r (remove d.key (place_in d.key s))) (new_key d r s whole can))
+      rw (edenominator, ewritten, ecolumns, place, ekey, at) (
+        pivot_is d r s whole can news ex_at (with_label r (remove d.key (place_in d.key s))) (new_key d r s whole can),
+        whole_new d r s whole can news ex_at (with_label r (remove d.key (place_in d.key s))) (new_key d r s whole can),
+      )

@@ -25,7 +25,8 @@ use Rattle.dictionary_laws.proofs.MainSpace.{main_dictionary}
 use Rattle.dictionary.specs.Views.{Dictionary, table_of, IsDictionaryIn, IsWhole}
 use Rattle.dictionary.specs.MainPhase.{stays_in, kept, IsDividedOut, IsMainOf, EntersMainPhase}
 use Rattle.dictionary.proofs.KeptNumbers.{constant_kept, entry_kept, whole_kept}
-use Rattle.dictionary.proofs.DividedOut.{divided_of, positive_divisor, times_left, whole_divided, each_number}
+use Rattle.dictionary.proofs.DividedOut.{divided_of, positive_divisor, times_left, whole_divided}
+use Rattle.dictionary.proofs.EachNumber.{each_number}
 
 -- a label that stays is left
 pub left_if_stays : (rows : List Row) (free : List ℕ) (k : ℕ) → stays_in rows free k ≡ true →

@@ -22,9 +22,9 @@ place_left (x ∷ ks) ls k c =
     ⊎_elim
     (λ (e : x ≡ k). rw e (place_first k (ks ++ ls) ∙ sym (place_first k ks)))
     (λ (n : x ≢ k).
-        place_later x k (ks ++ ls) n
-        ∙ ap suc (place_left ks ls k (contains_other x ks k c (λ e. n (sym e))))
-        ∙ sym (place_later x k ks n))
+    place_later x k (ks ++ ls) n
+    ∙ ap suc (place_left ks ls k (contains_other x ks k c (λ e. n (sym e))))
+    ∙ sym (place_later x k ks n))
     (cases_eq x k)
 
 pub place_right : (ks ls : List ℕ) (k : ℕ) → (Contains ks k → ⊥) → place_in (ks ++ ls) k ≡ length ks + place_in ls k
@@ -39,7 +39,7 @@ place_in_range a (suc n) k l h =
     ⊎_elim
     (λ (e : a ≡ k). rw e (place_first k (range_with_len (k + 1) n) ∙ omega arith))
     (λ (q : a ≢ k). place_later a k (range_with_len (a + 1) n) q
-        ∙ ap suc (place_in_range (a + 1) n k (omega arith) (omega arith)) ∙ omega arith)
+    ∙ ap suc (place_in_range (a + 1) n k (omega arith) (omega arith)) ∙ omega arith)
     (cases_eq a k)
 
 -- ---- rows of one width, one after the other

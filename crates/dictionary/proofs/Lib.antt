@@ -5,6 +5,7 @@ pub mod DividedOut
 pub mod EnteringMain
 pub mod Reduced
 pub mod PlaceLemmas
+pub mod EachNumber
 pub mod Pivots
 pub mod CarriedOut
 pub mod OverflowLemmas

@@ -1,6 +1,5 @@
 -- Where all cells fit a machine word, nothing passes; the exchange's column has a unit row.
-use Rattle.std.proofs.Common.{◌≡◌, ℕ, suc, ◌+◌, ◌*◌, ◌<◌, ℤ, pos, List, length, get_or, arith, mul_comm, refl}
-use Rattle.std.specs.List.{All}
+use Rattle.std.proofs.Common.{◌≡◌, ℕ, ◌+◌, ◌*◌, ◌<◌, ℤ, pos, List, length, arith, mul_comm}
 use Rattle.std.proofs.lemmas.List.Elements.{All-get_or}
 use Rattle.std.proofs.lemmas.Nat.{mul-add-lt}
 use Rattle.poly_num.specs.Numbers.{IsWord}
@@ -30,9 +29,11 @@ narrow_fit x cells size hr hs narrow i hi = record {
 pub has_unit_row : (d : Dictionary) (r s : ℕ) → IsWhole d → CanPivot d r s → HasUnitRow (exchange_at d r s) d.cells
 has_unit_row d r s whole can =
     let inside = whole.same.there s can.inside in
-    let unit = whole.units s inside in
-    (place_in d.labels s, record {
-      row = place_within d.labels s (whole.inside s inside);
-      own = unit.own;
-      others = unit.others;
-    })
+    let unit = whole.units s inside in (
+      place_in d.labels s,
+      record {
+        row = place_within d.labels s (whole.inside s inside);
+        own = unit.own;
+        others = unit.others;
+      },
+    )

@@ -36,8 +36,8 @@ pub struct Dict {
 impl Model for Dict {
     ghost use Rattle.std.specs.Prelude.{◌≡◌, suc, length};
     ghost use Rattle.dictionary_laws.specs.Keys.{place_in};
-ghost use Rattle.dictionary.specs.Cells.{cell};
-ghost use Rattle.dictionary.specs.Views.{Dictionary, IsWhole};
+    ghost use Rattle.dictionary.specs.Cells.{cell};
+    ghost use Rattle.dictionary.specs.Views.{Dictionary, IsWhole};
 
     ghost Value = { Dictionary };
 

@@ -2,10 +2,10 @@
 #![tactic(auto)]
 
 mod cells;
-mod exchange;
-mod new;
 mod dict;
+mod exchange;
 mod main_phase;
+mod new;
 mod passing;
 mod pivot;
 mod places;

@@ -4,12 +4,12 @@ ghost use Rattle.std.specs.Result.{OnOk};
 ghost use Rattle.std.specs.List.{All, filter};
 ghost use Rattle.poly_model.specs.Systems.{row_of};
 ghost use Rattle.poly_model.specs.Spaces.{is_member};
-ghost use Rattle.poly_model.specs.Keys.{IsKey};
 ghost use Rattle.dictionary.specs.MainPhase.{stays_in, places_from, kept_row, kept_cells, IsDividedOut, EntersMainPhase};
 
 use crate::Dict;
 use crate::cells::{at_place, cell_at};
-use poly_model::{Key, Phase, System};
+use crate::places::key_of;
+use poly_model::{Phase, System};
 use poly_num::{Num, primitive};
 use std::alloc::{AllocError, Global};
 
@@ -74,17 +74,6 @@ fn kept_labels(
         }
     }
     Ok(kept)
-}
-
-// The key of ascending labels.
-fn key_of(labels: &[u16]) -> Key
-    requires { IsKey labels.now }
-    ensures { result ≡ labels.now }
-{
-    match Key::from_ascending(labels) {
-        Some(key) => key,
-        None => Key::empty(),
-    }
 }
 
 // Puts the constant of row i and its entries at these places behind what is kept.

@@ -8,7 +8,8 @@ ghost use Rattle.dictionary_laws.specs.Coordinates.{coordinate_key};
 ghost use Rattle.dictionary.specs.New.{first_label, has_constants, row_count, row_cells, unit_row, HasWidths, IsNew};
 
 use crate::Dict;
-use poly_model::{Key, Kind, Phase, System};
+use crate::places::key_of;
+use poly_model::{Kind, Phase, System};
 use poly_num::Num;
 use std::alloc::{AllocError, Global};
 
@@ -87,13 +88,6 @@ fn all_labels(alloc: Global, rows: u32, columns: &[u16]) -> Result<Vec<u16>, All
     }
     labels.extend_from_slice(columns)?;
     Ok(labels)
-}
-
-fn key_of(labels: &[u16]) -> Key
-    requires { IsKey labels.now }
-    ensures { result ≡ labels.now }
-{
-    Key::from_ascending(labels).unwrap_or(Key::empty())
 }
 
 // The cells of the rows and then of the coordinates, `width` to a row, in one block of memory.

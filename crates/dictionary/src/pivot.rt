@@ -91,7 +91,10 @@ impl Dict {
         } else {
             let other = self.column_label(spot.column);
             let pivot = Place { row, col };
-            let inside = Place { row: label, col: other };
+            let inside = Place {
+                row: label,
+                col: other,
+            };
             self.overflow(pivot, inside, at, Place { row, col: other })
         }
     }

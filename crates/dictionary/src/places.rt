@@ -1,7 +1,10 @@
 //! Places of labels in lists of labels.
 ghost use Rattle.std.specs.Prelude.{◌≡◌, ◌<◌, ◌↔◌, IsTrue, length};
 ghost use Rattle.std.specs.List.{Contains};
+ghost use Rattle.poly_model.specs.Keys.{IsKey};
 ghost use Rattle.dictionary_laws.specs.Keys.{place_in};
+
+use poly_model::Key;
 
 /// How many labels stand before the first that is `label`.
 #[tactic(auto, using(crate::proofs::PlaceLemmas::place_within, crate::proofs::PlaceLemmas::place_has))]
@@ -23,4 +26,12 @@ pub fn has(labels: &[u16], label: u16) -> bool
     ensures { IsTrue result ↔ Contains labels.now label }
 {
     place_of(labels, label) < labels.len()
+}
+
+/// The key of ascending labels.
+pub fn key_of(labels: &[u16]) -> Key
+    requires { IsKey labels.now }
+    ensures { result ≡ labels.now }
+{
+    Key::from_ascending(labels).unwrap_or(Key::empty())
 }

@@ -8,7 +8,9 @@ use std::alloc::{AllocError, Global};
 use std::test::Fail;
 
 const X0: Label = Label(8192);
+
 const X1: Label = Label(8193);
+
 const X2: Label = Label(8194);
 
 /// Two rows of three numbers, an exchange, and the dictionary after it: its key, its denominator, and
@@ -135,17 +137,42 @@ fn pivots_worked_out_by_hand(rt: HostRuntime) -> Result<(), Fail> {
         let mut dict = Dict::new(alloc, &sys, Phase::Prepare)?;
         let mut copy = dict.copy()?;
         assert_eq!(rt; dict.key().labels(), [8193, 8194].as_slice());
-        assert_eq!(rt; pivot(&mut dict, case.row, case.col), Some(Ok(())), "{}", case.name);
+        assert_eq!(rt;
+            pivot(&mut dict, case.row, case.col),
+            Some(Ok(())),
+            "{}",
+            case.name
+        );
         assert_eq!(rt; dict.key().labels(), case.key.as_slice(), "{}", case.name);
         assert_eq!(rt; dict.denominator().get(), case.denominator, "{}", case.name);
         let labels = [Label(1), Label(2), X1, X2];
         for (label, want) in labels.into_iter().zip(case.numbers) {
-            assert_eq!(rt; numbers(&dict, label, case.key), known(want), "{}", case.name);
+            assert_eq!(rt;
+                numbers(&dict, label, case.key),
+                known(want),
+                "{}",
+                case.name
+            );
         }
-        assert_eq!(rt; pivot(&mut copy, case.row, case.col), Some(Ok(())), "{}", case.name);
-        assert_eq!(rt; pivot(&mut dict, case.col, case.row), Some(Ok(())), "{}", case.name);
+        assert_eq!(rt;
+            pivot(&mut copy, case.row, case.col),
+            Some(Ok(())),
+            "{}",
+            case.name
+        );
+        assert_eq!(rt;
+            pivot(&mut dict, case.col, case.row),
+            Some(Ok(())),
+            "{}",
+            case.name
+        );
         assert_eq!(rt; dict.denominator(), Num::ONE, "{}", case.name);
-        assert_eq!(rt; numbers(&dict, Label(1), [8193, 8194]), known(case.first), "{}", case.name);
+        assert_eq!(rt;
+            numbers(&dict, Label(1), [8193, 8194]),
+            known(case.first),
+            "{}",
+            case.name
+        );
         assert_eq!(rt; copy.key().labels(), case.key.as_slice(), "{}", case.name);
     }
     Ok(())

@@ -16,8 +16,8 @@ loop-i-preserved c =
       widths = λ i l m.
           ⊎_elim
           (λ (e : i ≡ c.loop-i.i + 1).
-              ap (λ k. length (row_of c.args.sys.now.rows k).entries) e
-              ∙ ap length (sym c.row.ensures.value) ∙ c.row.ensures.width)
+          ap (λ k. length (row_of c.args.sys.now.rows k).entries) e
+          ∙ ap length (sym c.row.ensures.value) ∙ c.row.ensures.width)
           (λ (n : i ≡ c.loop-i.i + 1 → ⊥). h.widths i l (omega arith))
           (cases_eq i (c.loop-i.i + 1));
     }

@@ -31,9 +31,10 @@ invariant_of-result-2 c =
     ∙ ap (λ w. flat_map (λ i. row_cells (has_constants phase sys.kind) (row_of sys.rows i).entries) (range_with_len 1 m) ++ flat_map (unit_row w) (range_with_len 1 (c.len-width.result + 1 - 1))) wide
     ∙ ap (λ q. flat_map (λ i. row_cells (has_constants phase sys.kind) (row_of sys.rows i).entries) (range_with_len 1 m) ++ flat_map (unit_row (suc (length c.in_ok-columns.columns.items))) (range_with_len 1 q)) count in
     let same = same_view phase sys.rows (has_constants phase sys.kind) sys.n m some narrow few widths
-    c.in_ok-labels.labels.items c.key_of.result c.in_ok-columns.columns.items c.in_ok-cells.cells.items columns labels key cells in
-    (sym c.in_ok-from_elem.field-0.ok.0 ∙ c.in_ok-from_elem.ensures.len ∙ wide,
-    subst (λ (d : Dictionary). IsWhole d) same (new_whole sys phase c.requires m em few some narrow widths))
+    c.in_ok-labels.labels.items c.key_of.result c.in_ok-columns.columns.items c.in_ok-cells.cells.items columns labels key cells in (
+      sym c.in_ok-from_elem.field-0.ok.0 ∙ c.in_ok-from_elem.ensures.len ∙ wide,
+      subst (λ (d : Dictionary). IsWhole d) same (new_whole sys phase c.requires m em few some narrow widths),
+    )
 
 pub returns : goal.returns
 returns c =
