@@ -28,6 +28,17 @@ place_within (x ∷ ks) k c =
     (λ (n : x ≢ k). rw (place_later x ks k n) (let l = place_within ks k (later_member x ks k n c) in omega arith))
     (cases_eq x k)
 
+-- and a label whose place is within the list is a member
+pub place_member : (ks : List ℕ) (k : ℕ) → place_in ks k < length ks → Contains ks k
+place_member [] k l = absurd (omega arith)
+place_member (x ∷ ks) k l =
+    ⊎_elim
+    (λ (e : x ≡ k). rw e (Contains-first k ks))
+    (λ (n : x ≢ k).
+        let p : suc (place_in ks k) < suc (length ks) = subst (λ (i : ℕ). i < suc (length ks)) (place_later x ks k n) l in
+        Contains-later k x ks (place_member ks k (omega arith)))
+    (cases_eq x k)
+
 pub at_place : (ks : List ℕ) (k z : ℕ) → Contains ks k → get_or ks (place_in ks k) z ≡ k
 at_place [] k z c = absurd (Contains-nil k c)
 at_place (x ∷ ks) k z c =

@@ -1,5 +1,5 @@
 //! The dictionary of a cobasis in one table, with pivots in place.
-ghost use Rattle.std.specs.Prelude.{◌≡◌, ◌<◌, ◌<ℤ◌, suc, pos, IfOk, IfErr, length};
+ghost use Rattle.std.specs.Prelude.{◌≡◌, ◌<◌, ◌<ℤ◌, ◌↔◌, suc, pos, IfOk, IfErr, IsTrue, length};
 ghost use Rattle.std.specs.List.{Contains};
 ghost use Rattle.std.specs.Result.{IsOk};
 ghost use Rattle.poly_model.specs.Dictionaries.{Table};
@@ -68,6 +68,14 @@ impl Dict {
         ensures positive { pos 0 <ℤ result }
     {
         self.denominator
+    }
+
+    /// Whether a label is one of the phase, and so has a row.
+    #[tactic(auto, using(crate::proofs::PlaceLemmas::place_member))]
+    pub fn has_label(&self, label: Label) -> bool
+        ensures { IsTrue result ↔ Contains self.now.labels label.0 }
+    {
+        place_of(&self.labels, label.0) < self.labels.len()
     }
 
     /// The constant of a label.
