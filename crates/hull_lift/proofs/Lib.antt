@@ -1,1 +1,4 @@
 pub mod CellLemmas
+pub mod ColumnNumbers
+pub mod SpaceVectors
+pub mod ColumnVectors

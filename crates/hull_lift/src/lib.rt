@@ -3,8 +3,10 @@
 
 mod cone;
 mod facet;
+mod laws;
 #[cfg(test)]
 mod tests;
 
 pub use cone::system_of;
 pub use facet::{facet_row, is_shown};
+pub use laws::column_vectors;
