@@ -2,3 +2,4 @@ pub mod CellLemmas
 pub mod ColumnNumbers
 pub mod SpaceVectors
 pub mod ColumnVectors
+pub mod ShownColumns

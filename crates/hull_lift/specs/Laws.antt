@@ -1,13 +1,15 @@
 -- What the column of a dictionary says of the vectors of its space.
-use Rattle.std.specs.Prelude.{◌≡◌, ◌≢◌, ℕ, ℤ, pos, length}
+use Rattle.std.specs.Prelude.{◌≡◌, ◌≢◌, ◌↔◌, ℕ, ◌<◌, ℤ, pos, length}
 use Rattle.std.specs.List.{Contains}
 use Rattle.poly_num.specs.Vectors.{Vector, ◌·◌, scale}
+use Rattle.poly_model.specs.declared.kind.Kind.TheVariants.{V}
 use Rattle.poly_model.specs.declared.overflow.Phase.{Phase}
 use Rattle.poly_model.specs.declared.overflow.Phase.TheVariants.{First}
 use Rattle.poly_model.specs.Systems.{Polyhedron, cone_of}
 use Rattle.poly_model.specs.Spaces.{Space, IsInside, IsDirection, IsSpaceOf, label_form}
+use Rattle.poly_model.specs.Extreme.{IsShown}
 use Rattle.dictionary.specs.Views.{Dictionary, IsDictionaryIn}
-use Rattle.hull_lift.specs.Facets.{constant_label, column_of}
+use Rattle.hull_lift.specs.Facets.{constant_label, column_of, HasPointRows, IsShownAt}
 
 -- z is a direction at which all labels of the cobasis but col are 0
 pub record IsAlong (space : Space) (d : Dictionary) (col : ℕ) (z : Vector) : Type 0 where
@@ -39,3 +41,12 @@ abbrev pub ColumnVectors : Type 0
 ColumnVectors =
     (p : Polyhedron) (phase : Phase) (space : Space) → phase ≢ First → IsSpaceOf p phase space →
     (d : Dictionary) → IsDictionaryIn space d → HasColumns p space d
+
+-- a column is shown exactly where its vector is
+abbrev pub ShownColumns : Type 0
+ShownColumns =
+    (p : Polyhedron) (space : Space) (d : Dictionary) → IsDictionaryIn space d →
+    length (cone_of p).rows < 8192 → (p.kind ≡ V → HasPointRows (cone_of p) d) →
+    (col : ℕ) → Contains d.key col → (z : Vector) → IsAlong space d col z → space.form col · z ≢ pos 0 →
+    (c : IsInColumn p space d col z (space.form col · z)) →
+    IsShownAt (cone_of p) d col ↔ IsShown p.kind (cone_of p) c.vector

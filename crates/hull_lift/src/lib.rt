@@ -9,4 +9,4 @@ mod tests;
 
 pub use cone::system_of;
 pub use facet::{facet_row, is_shown};
-pub use laws::column_vectors;
+pub use laws::{column_vectors, shown_columns};
