@@ -3,3 +3,4 @@ pub mod ColumnNumbers
 pub mod SpaceVectors
 pub mod ColumnVectors
 pub mod ShownColumns
+mod FacetKnownValues
