@@ -1,8 +1,12 @@
-//! What a hull is found by: the cone of a polyhedron.
+//! What a hull is found by: the cone of a polyhedron, and the vectors of a dictionary's columns.
 #![tactic(auto)]
 
 mod cone;
+mod facet;
+mod laws;
 #[cfg(test)]
 mod tests;
 
 pub use cone::system_of;
+pub use facet::{facet_row, is_shown};
+pub use laws::{column_vectors, shown_columns};
