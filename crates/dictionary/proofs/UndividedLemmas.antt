@@ -5,7 +5,7 @@ use Prim.Native.Nat.{◌∣◌}
 use Rattle.std.specs.Prelude.{◌<ℤ◌, unsigned_abs}
 use Rattle.std.proofs.lemmas.Int.{unsigned_abs-mul}
 use Rattle.poly_num.specs.Numbers.{IsWord}
-use Rattle.poly_num.proofs.Ring.{expand, one_mul}
+use Rattle.poly_num.proofs.Ring.{expand, lin, one_mul, zero_mul, mul_zero, mul_comm}
 use Rattle.poly_num.proofs.Order.{mul_nonzero, positive_nonzero}
 use Rattle.dictionary.specs.declared.exchange.Exchange.{Exchange}
 use Rattle.dictionary.specs.Cells.{cell, pivot_cell, IsExchangedCell}
@@ -45,6 +45,14 @@ pub factor_nonzero : (v t h : ℤ) → v ≢ pos 0 → IsSignOf v t → pos 0 <�
 factor_nonzero v t h nonzero sign lt =
     mul_nonzero t h (λ e. let f = sym sign.size ∙ ap unsigned_abs e in absurd (omega arith)) (positive_nonzero h lt)
 
+zero_column : (g z t c h d : ℤ) → c *ℤ h ≡ z → c ≡ pos 0 → g *ℤ z ≡ (t *ℤ c) *ℤ d
+zero_column g z t c h d e zero = rw (← e, zero, zero_mul h, mul_zero g, mul_zero t, zero_mul d) refl
+
+zero_inside : (g e p c y : ℤ) → c ≡ pos 0 → p ≡ g → g *ℤ e ≡ e *ℤ p -ℤ c *ℤ y
+zero_inside g e p c y zero same =
+    rw (zero, same)
+    (let k = zero_mul y in let l = mul_comm g e in omega (arith, lin))
+
 module _ (x : Exchange) (old row : List ℤ) (h t p : ℤ) (hs : x.column < x.width) (sign : IsSignOf (pivot_cell x old) t)
     (turned : IsTurnedRow x old t row) (ep : p *ℤ h ≡ get_or row x.column (pos 0)) where
   pub undivided_is : (i j : ℕ) → j < x.width → (now : List ℤ) (c own n : ℤ) → c *ℤ h ≡ cell x.width old i x.column →
@@ -60,3 +68,11 @@ module _ (x : Exchange) (old row : List ℤ) (h t p : ℤ) (hs : x.column < x.wi
         (inside_cell t h p c (cell x.width old i j) (get_or row j (pos 0)) (cell x.width old i x.column)
         (cell x.width old x.row j) (pivot_cell x old) sign.square ec (ep ∙ turned.same x.column hs) (turned.same j hj));
   }
+
+  -- a row of which the exchange takes nothing, where the divisor is what it is multiplied by
+  pub stays_is : (i j : ℕ) → j < x.width → (c g : ℤ) → c *ℤ h ≡ cell x.width old i x.column → c ≡ pos 0 → p ≡ g →
+      IsExchangedCell x old i j ((t *ℤ h) *ℤ (g *ℤ cell x.width old i j))
+  stays_is i j hj c g ec zero same =
+      undivided_is i j hj old c (t *ℤ c) (g *ℤ cell x.width old i j) ec refl refl
+      (λ e. rw e (zero_column g (cell x.width old i x.column) t c h x.denominator ec zero))
+      (λ _. zero_inside g (cell x.width old i j) p c (get_or row j (pos 0)) zero same)

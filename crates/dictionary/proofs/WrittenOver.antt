@@ -5,9 +5,9 @@ use Rattle.std.specs.Prelude.{◌<ℤ◌, unsigned_abs}
 use Rattle.std.specs.List.{All}
 use Rattle.std.proofs.lemmas.List.{length-set}
 use Rattle.std.proofs.lemmas.List.Elements.{All-get_or}
-use Rattle.std.proofs.lemmas.Nat.{same_from_place, mul-add-lt, div-add-mod'}
+use Rattle.std.proofs.lemmas.Nat.{same_from_place, mul-add-lt, mul-le, div-add-mod'}
 use Rattle.std.proofs.lemmas.Nat.Gcd.{dvd_refl, dvd_trans}
-use Rattle.std.proofs.lemmas.Bool.{cases_eq}
+use Rattle.std.proofs.lemmas.Bool.{cases_eq, cases_lt}
 use Rattle.std.proofs.lemmas.Int.{unsigned_abs-mul}
 use Rattle.std.proofs.Math.Nat.{div-lt_iff_lt-mul}
 use Rattle.poly_num.specs.Numbers.{IsNum, IsWord}
@@ -64,6 +64,31 @@ module _ (x : Exchange) (old : List ℤ) (f : ℤ) where
 
   pub over_along : (p q : ℕ) (g : ℤ) (now : List ℤ) → p ≡ q → IsWrittenOver p g now → IsWrittenOver q g now
   over_along p q g now e u = subst (λ (n : ℕ). IsWrittenOver n g now) e u
+
+  -- row i as it is serves as the new one
+  pub over_stays : (i : ℕ) (g : ℤ) (now : List ℤ) → i < x.height →
+      ((j : ℕ) → j < x.width → IsExchangedCell x old i j (f *ℤ (g *ℤ cell x.width old i j))) →
+      IsWrittenOver (i * x.width) g now → IsWrittenOver ((i + 1) * x.width) g now
+  over_stays i g now hi row u = record {
+    same_length = u.same_length;
+    positive = u.positive;
+    divides = u.divides;
+    done = λ a b ha hb l.
+        ⊎_elim
+        (λ (e : a ≡ i).
+            rw e
+            (subst (λ (z : ℤ). IsExchangedCell x old i b (f *ℤ (g *ℤ z)))
+            (sym (u.rest i b hi hb (omega arith))) (row b hb)))
+        (λ (n : a ≢ i).
+            ⊎_elim
+            (λ (lt : a < i). u.done a b ha hb (let k = mul-add-lt a x.width b i lt hb in omega (arith, mul_comm i x.width)))
+            (λ (le : i ≤ a).
+                let k = mul-le (i + 1) x.width a x.width (omega arith) (omega arith) in absurd (omega arith))
+            (cases_lt a i))
+        (cases_eq a i);
+    rest = λ a b ha hb l. u.rest a b ha hb (omega arith);
+    greatest = λ k d all. u.greatest k d (λ a b ha hb l. all a b ha hb (omega arith));
+  }
 
   module _ (nonzero : f ≢ pos 0) (size : length old ≡ x.height * x.width) (i j : ℕ) (hi : i < x.height)
       (hj : j < x.width) (g h : ℤ) (now mid : List ℤ) (n z : ℤ) (is : IsExchangedCell x old i j (f *ℤ n))

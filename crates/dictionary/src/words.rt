@@ -96,6 +96,8 @@ fn scale_cells(cells: &mut [Num], place: usize, factor: Num)
 
 // `n` over the divisor, where that does not divide it: over what they have in common, and so the cells
 // before the place.
+#[cold]
+#[inline(never)]
 fn over_less(cells: &mut [Num], place: usize, n: Num, divisor: &mut Divisor) -> Num
     requires place { place ≤ length cells.old }
     requires word { IsWord divisor.old }
@@ -114,6 +116,7 @@ fn over_less(cells: &mut [Num], place: usize, n: Num, divisor: &mut Divisor) -> 
 
 // `n` over the divisor. Where that does not divide it, the divisor shrinks, and the cells before the place
 // grow.
+#[inline(never)]
 fn over(cells: &mut [Num], place: usize, n: Num, divisor: &mut Divisor) -> Num
     requires place { place ≤ length cells.old }
     requires positive { pos 0 <ℤ divisor.old }
@@ -129,19 +132,37 @@ fn over(cells: &mut [Num], place: usize, n: Num, divisor: &mut Divisor) -> Num
     }
 }
 
-// The new cell in row i and column j before it is divided. `c` is the old one in the row and the exchange's
+// The new cell in row i and a column j that is not the exchange's, over the divisor. `c` is the old cell in
+// the row and the exchange's column.
+fn inside_cell(cells: &mut [Num], row: &[Num], x: &Exchange, i: usize, j: usize, p: Num, c: Num, divisor: &mut Divisor) -> Num
+    requires size { length cells.old ≡ x.now.height * x.now.width }
+    requires width { length row.now ≡ x.now.width }
+    requires i { i < x.now.height }
+    requires j { j < x.now.width }
+    requires p { IsWord p }
+    requires c { IsWord c }
+    requires cell { IsWord (cell x.now.width cells.old i j) }
+    requires above { IsWord (slice_index_or row.now j (pos 0)) }
+    requires positive { pos 0 <ℤ divisor.old }
+    requires word { IsWord divisor.old }
+    requires fits { (k : ℕ) → k < i * x.now.width + j → IsNum (slice_index_or cells.old k (pos 0) *ℤ divisor.old) }
+    ensures quotient { result *ℤ divisor.new ≡ cell x.now.width cells.old i j *ℤ p -ℤ c *ℤ slice_index_or row.now j (pos 0) }
+    ensures left { IsLeftOf divisor.old (result *ℤ divisor.new) divisor.new }
+    ensures rescaled { IsRescaled (i * x.now.width + j) divisor.old divisor.new cells.old cells.new }
+{
+    let place = i * x.width + j;
+    let e = cells[place];
+    let above = row[j];
+    match divisor.exact_cross(e, p, c, above) {
+        Some(q) => q,
+        None => over(cells, place, word_cross(e, p, c, above), divisor),
+    }
+}
+
+// The new cell in row i and column j, over the divisor. `c` is the old one in the row and the exchange's
 // column, `own` is that with the sign of the pivot's cell.
-fn undivided(
-    cells: &[Num],
-    row: &[Num],
-    x: &Exchange,
-    i: usize,
-    j: usize,
-    p: Num,
-    c: Num,
-    own: Num,
-) -> Num
-    requires size { length cells.now ≡ x.now.height * x.now.width }
+fn new_cell(cells: &mut [Num], row: &[Num], x: &Exchange, i: usize, j: usize, p: Num, c: Num, own: Num, divisor: &mut Divisor) -> Num
+    requires size { length cells.old ≡ x.now.height * x.now.width }
     requires width { length row.now ≡ x.now.width }
     requires i { i < x.now.height }
     requires j { j < x.now.width }
@@ -149,16 +170,28 @@ fn undivided(
     requires c { IsWord c }
     requires own { IsWord own }
     requires denominator { IsWord x.now.denominator }
-    requires cell { IsWord (cell x.now.width cells.now i j) }
+    requires cell { IsWord (cell x.now.width cells.old i j) }
     requires above { IsWord (slice_index_or row.now j (pos 0)) }
-    ensures column { j ≡ x.now.column → result ≡ own *ℤ x.now.denominator }
-    ensures inside { j ≢ x.now.column → result ≡ cell x.now.width cells.now i j *ℤ p -ℤ c *ℤ slice_index_or row.now j (pos 0) }
+    requires positive { pos 0 <ℤ divisor.old }
+    requires word { IsWord divisor.old }
+    requires fits { (k : ℕ) → k < i * x.now.width + j → IsNum (slice_index_or cells.old k (pos 0) *ℤ divisor.old) }
+    ensures column { j ≡ x.now.column → result *ℤ divisor.new ≡ own *ℤ x.now.denominator }
+    ensures inside { j ≢ x.now.column → result *ℤ divisor.new ≡ cell x.now.width cells.old i j *ℤ p -ℤ c *ℤ slice_index_or row.now j (pos 0) }
+    ensures left { IsLeftOf divisor.old (result *ℤ divisor.new) divisor.new }
+    ensures rescaled { IsRescaled (i * x.now.width + j) divisor.old divisor.new cells.old cells.new }
 {
     if j == x.column {
-        word_product(own, x.denominator)
+        over(cells, i * x.width + j, word_product(own, x.denominator), divisor)
     } else {
-        word_cross(cells[i * x.width + j], p, c, row[j])
+        inside_cell(cells, row, x, i, j, p, c, divisor)
     }
+}
+
+// Whether the row stays as it is: the exchange takes nothing of it, and divides what it is multiplied by.
+fn stays(p: Num, c: Num, divisor: &Divisor) -> bool
+    ensures { IsTrue result → (c ≡ pos 0) × (p ≡ divisor.now) }
+{
+    c == Num::ZERO && p == divisor.value()
 }
 
 /// Exchanges the row and the column where all cells and the denominator fit a machine word: no product can
@@ -184,9 +217,11 @@ pub fn exchange_words(cells: &mut [Num], pivot_row: &mut [Num], x: &Exchange)
     'rows: for i in 0..x.height {
         let c = over_common(cell_at(cells, x.height, x.width, i, x.column), common);
         let own = word_product(sign, c);
+        if stays(p, c, &divisor) {
+            continue;
+        }
         'columns: for j in 0..x.width {
-            let n = undivided(cells, pivot_row, x, i, j, p, c, own);
-            let z = over(cells, i * x.width + j, n, &mut divisor);
+            let z = new_cell(cells, pivot_row, x, i, j, p, c, own, &mut divisor);
             cells[i * x.width + j] = z;
         }
     }

@@ -1,6 +1,6 @@
 // Exact division by one number again and again.
 ghost use Rattle.std.specs.Option.{SomeIff, IfSome};
-ghost use Rattle.std.specs.Prelude.{◌≡◌, ◌*ℤ◌, ◌<ℤ◌, pos, unsigned_abs, int_div};
+ghost use Rattle.std.specs.Prelude.{◌≡◌, ◌*ℤ◌, ◌-ℤ◌, ◌<ℤ◌, pos, unsigned_abs, int_div};
 ghost use Rattle.poly_num.specs.Numbers.{IsWord};
 ghost use Prim.Native.Nat.{◌∣◌};
 
@@ -67,6 +67,33 @@ impl Divisor {
         }
     }
 
+    /// `a b - c d` over the divisor, where the products, their difference and the quotient times the
+    /// divisor have 64 bits; `None` says nothing. Each step is one machine product of 64 bits.
+    pub fn exact_cross(&self, a: Num, b: Num, c: Num, d: Num) -> Option<Num>
+        requires a { IsWord a }
+        requires b { IsWord b }
+        requires c { IsWord c }
+        requires d { IsWord d }
+        ensures { IfSome result (λ q. q *ℤ self.now ≡ a *ℤ b -ℤ c *ℤ d) }
+    {
+        let n = narrow_cross(narrow(a), narrow(b), narrow(c), narrow(d))?;
+        let q = self.narrow_guess(n)?;
+        Some(Num { value: q as i128 })
+    }
+
+    // A quotient of a number of one word, where that is right.
+    fn narrow_guess(&self, n: i64) -> Option<i64>
+        ensures { IfSome result (λ q. q *ℤ self.now ≡ n) }
+    {
+        let without_twos = (n >> (self.twos % 64)).cast_unsigned();
+        let q = without_twos.wrapping_mul(self.inverse).cast_signed();
+        if q.checked_mul(self.value)? == n {
+            Some(q)
+        } else {
+            None
+        }
+    }
+
     // A quotient of one word, where that is right.
     fn guess(&self, n: Num) -> Option<Num>
         ensures { IfSome result (λ q. q *ℤ self.now ≡ n) }
@@ -80,6 +107,13 @@ impl Divisor {
             None
         }
     }
+}
+
+// `a b - c d`, where both products and the difference have 64 bits.
+fn narrow_cross(a: i64, b: i64, c: i64, d: i64) -> Option<i64>
+    ensures { IfSome result (λ n. n ≡ a *ℤ b -ℤ c *ℤ d) }
+{
+    a.checked_mul(b)?.checked_sub(c.checked_mul(d)?)
 }
 
 // `n / d`, where that is a whole number.

@@ -1,4 +1,4 @@
-use Rattle.std.proofs.Common.{◌≡◌, ℕ, ℤ, ◌+◌, ◌*◌, ◌*ℤ◌, sym, ap, subst, arith, ◌∙◌, mul_comm}
+use Rattle.std.proofs.Common.{◌≡◌, ℕ, ℤ, ◌+◌, ◌*◌, ◌*ℤ◌, sym, ap, subst, arith, ◌∙◌, mul_comm, refl}
 use Prim.Native.Nat.{◌∣◌}
 use Rattle.std.specs.Prelude.{unsigned_abs}
 use Rattle.std.proofs.lemmas.Nat.{mul-add-lt}
@@ -6,8 +6,8 @@ use Rattle.poly_num.specs.Numbers.{IsWord}
 use Rattle.dictionary.specs.Cells.{cell, pivot_cell}
 use Rattle.dictionary.specs.WordExchange.{IsSignOf}
 use Rattle.dictionary.proofs.LeftLemmas.{quotient_word, divisor_word}
-use Rattle.dictionary.proofs.WrittenOver.{IsWrittenOver, over_start, over_along, over_more, over_fits, word_at}
-use Rattle.dictionary.proofs.UndividedLemmas.{turned_word, turned_divides, factor_nonzero, undivided_is}
+use Rattle.dictionary.proofs.WrittenOver.{IsWrittenOver, over_start, over_along, over_more, over_stays, over_fits, word_at}
+use Rattle.dictionary.proofs.UndividedLemmas.{turned_word, turned_divides, factor_nonzero, undivided_is, stays_is}
 use Rattle.dictionary.proofs.LeastOver.{least_exchanged}
 use Rattle.dictionary.proofs.words.exchange_words.Goals as goal
 
@@ -48,8 +48,8 @@ word_product-own-requires-clause-right c =
 pub columns-init : goal.columns-init
 columns-init c = over_along c.args.x.now c.args.cells.now _ _ _ _ _ (omega arith) c.rows.invariant
 
-pub undivided-n-requires-clause-p : goal.undivided-n-requires-clause-p
-undivided-n-requires-clause-p c =
+pub new_cell-z-requires-clause-p : goal.new_cell-z-requires-clause-p
+new_cell-z-requires-clause-p c =
     let x = c.args.x.now in
     let t = c.sign_number-sign in
     quotient_word c.over_common-p.result c.common_factor-common.result c.at_place.result
@@ -58,8 +58,8 @@ undivided-n-requires-clause-p c =
     (turned_word t.result (pivot_cell x c.args.cells.now) t.ensures.size
     (word_at x c.args.cells.now c.requires.size c.requires.words x.row x.column c.requires.row c.requires.column)))
 
-pub undivided-n-requires-clause-c : goal.undivided-n-requires-clause-c
-undivided-n-requires-clause-c c =
+pub new_cell-z-requires-clause-c : goal.new_cell-z-requires-clause-c
+new_cell-z-requires-clause-c c =
     let x = c.args.x.now in
     let same = c.cell_at-in-rows.ensures
     ∙ c.rows.invariant.rest c.rows.i x.column c.rows-test.true c.requires.column (omega arith) in
@@ -68,8 +68,8 @@ undivided-n-requires-clause-c c =
     (subst IsWord (sym same)
     (word_at x c.args.cells.now c.requires.size c.requires.words c.rows.i x.column c.rows-test.true c.requires.column))
 
-pub undivided-n-requires-clause-own : goal.undivided-n-requires-clause-own
-undivided-n-requires-clause-own c =
+pub new_cell-z-requires-clause-own : goal.new_cell-z-requires-clause-own
+new_cell-z-requires-clause-own c =
     let x = c.args.x.now in
     let t = c.sign_number-sign in
     let same = c.cell_at-in-rows.ensures
@@ -81,27 +81,27 @@ undivided-n-requires-clause-own c =
     (subst IsWord (sym same)
     (word_at x c.args.cells.now c.requires.size c.requires.words c.rows.i x.column c.rows-test.true c.requires.column))))
 
-pub undivided-n-requires-clause-cell : goal.undivided-n-requires-clause-cell
-undivided-n-requires-clause-cell c =
+pub new_cell-z-requires-clause-cell : goal.new_cell-z-requires-clause-cell
+new_cell-z-requires-clause-cell c =
     let x = c.args.x.now in
     subst IsWord
     (sym (c.columns.invariant.rest c.rows.i c.columns.j c.rows-test.true c.columns-test.true (omega arith)))
     (word_at x c.args.cells.now c.requires.size c.requires.words c.rows.i c.columns.j c.rows-test.true c.columns-test.true)
 
-pub undivided-n-requires-clause-above : goal.undivided-n-requires-clause-above
-undivided-n-requires-clause-above c =
+pub new_cell-z-requires-clause-above : goal.new_cell-z-requires-clause-above
+new_cell-z-requires-clause-above c =
     let x = c.args.x.now in
     let t = c.sign_number-sign in
     subst IsWord (sym (c.copy_turned.ensures.same c.columns.j c.columns-test.true))
     (turned_word t.result (cell x.width c.args.cells.now x.row c.columns.j) t.ensures.size
     (word_at x c.args.cells.now c.requires.size c.requires.words x.row c.columns.j c.requires.row c.columns-test.true))
 
-pub over-z-requires-clause-word : goal.over-z-requires-clause-word
-over-z-requires-clause-word c =
+pub new_cell-z-requires-clause-word : goal.new_cell-z-requires-clause-word
+new_cell-z-requires-clause-word c =
     divisor_word c.args.x.now.denominator c.columns.divisor c.requires.denominator c.columns.invariant.divides c.requires.word
 
-pub over-z-requires-clause-fits : goal.over-z-requires-clause-fits
-over-z-requires-clause-fits c =
+pub new_cell-z-requires-clause-fits : goal.new_cell-z-requires-clause-fits
+new_cell-z-requires-clause-fits c =
     let x = c.args.x.now in
     let q = c.requires in
     let t = c.sign_number-sign in
@@ -131,12 +131,31 @@ columns-preserved c =
     let same = c.columns.invariant.rest i j c.rows-test.true c.columns-test.true (omega arith) in
     let is = undivided_is x old c.copy_turned.new.row h.result t.result c.over_common-p.result q.column sign
     c.copy_turned.ensures ep i j c.columns-test.true c.columns.cells c.over_common-c.result c.word_product-own.result
-    c.undivided-n.result ec c.word_product-own.ensures same c.undivided-n.ensures.column c.undivided-n.ensures.inside in
-    let e = c.over-z.ensures in
+    (c.new_cell-z.result *ℤ c.new_cell-z.new.divisor) ec c.word_product-own.ensures same c.new_cell-z.ensures.column c.new_cell-z.ensures.inside in
+    let e = c.new_cell-z.ensures in
     over_along x old f (i * x.width + j + 1) (i * x.width + (j + 1)) _ _ (omega arith)
-    (over_more x old f nonzero q.size i j c.rows-test.true c.columns-test.true c.columns.divisor c.over-z.new.divisor
-    c.columns.cells c.over-z.new.cells c.undivided-n.result c.over-z.result is e.quotient e.left e.rescaled
+    (over_more x old f nonzero q.size i j c.rows-test.true c.columns-test.true c.columns.divisor c.new_cell-z.new.divisor
+    c.columns.cells c.new_cell-z.new.cells (c.new_cell-z.result *ℤ c.new_cell-z.new.divisor) c.new_cell-z.result is refl e.left e.rescaled
     c.columns.invariant)
+
+pub rows-preserved-then-stays : goal.rows-preserved-then-stays
+rows-preserved-then-stays c =
+    let x = c.args.x.now in
+    let old = c.args.cells.now in
+    let q = c.requires in
+    let i = c.rows.i in
+    let t = c.sign_number-sign in
+    let h = c.common_factor-common in
+    let sign = subst (λ (z : ℤ). IsSignOf z t.result) c.cell_at.ensures t.ensures in
+    let ep = c.over_common-p.ensures ∙ c.at_place.ensures in
+    let ec = c.over_common-c.ensures ∙ c.cell_at-in-rows.ensures
+        ∙ c.rows.invariant.rest i x.column c.rows-test.true q.column (omega arith) in
+    let same = c.stays.ensures c.if-stays.true in
+    over_stays x old (t.result *ℤ h.result) i c.rows.divisor c.rows.cells c.rows-test.true
+    (λ j hj.
+        stays_is x old c.copy_turned.new.row h.result t.result c.over_common-p.result q.column sign
+        c.copy_turned.ensures ep i j hj c.over_common-c.result c.rows.divisor ec same.0 same.1)
+    c.rows.invariant
 
 pub rows-preserved : goal.rows-preserved
 rows-preserved c =
