@@ -134,7 +134,16 @@ fn over(cells: &mut [Num], place: usize, n: Num, divisor: &mut Divisor) -> Num
 
 // The new cell in row i and a column j that is not the exchange's, over the divisor. `c` is the old cell in
 // the row and the exchange's column.
-fn inside_cell(cells: &mut [Num], row: &[Num], x: &Exchange, i: usize, j: usize, p: Num, c: Num, divisor: &mut Divisor) -> Num
+fn inside_cell(
+    cells: &mut [Num],
+    row: &[Num],
+    x: &Exchange,
+    i: usize,
+    j: usize,
+    p: Num,
+    c: Num,
+    divisor: &mut Divisor,
+) -> Num
     requires size { length cells.old ≡ x.now.height * x.now.width }
     requires width { length row.now ≡ x.now.width }
     requires i { i < x.now.height }
@@ -161,7 +170,17 @@ fn inside_cell(cells: &mut [Num], row: &[Num], x: &Exchange, i: usize, j: usize,
 
 // The new cell in row i and column j, over the divisor. `c` is the old one in the row and the exchange's
 // column, `own` is that with the sign of the pivot's cell.
-fn new_cell(cells: &mut [Num], row: &[Num], x: &Exchange, i: usize, j: usize, p: Num, c: Num, own: Num, divisor: &mut Divisor) -> Num
+fn new_cell(
+    cells: &mut [Num],
+    row: &[Num],
+    x: &Exchange,
+    i: usize,
+    j: usize,
+    p: Num,
+    c: Num,
+    own: Num,
+    divisor: &mut Divisor,
+) -> Num
     requires size { length cells.old ≡ x.now.height * x.now.width }
     requires width { length row.now ≡ x.now.width }
     requires i { i < x.now.height }
@@ -181,7 +200,12 @@ fn new_cell(cells: &mut [Num], row: &[Num], x: &Exchange, i: usize, j: usize, p:
     ensures rescaled { IsRescaled (i * x.now.width + j) divisor.old divisor.new cells.old cells.new }
 {
     if j == x.column {
-        over(cells, i * x.width + j, word_product(own, x.denominator), divisor)
+        over(
+            cells,
+            i * x.width + j,
+            word_product(own, x.denominator),
+            divisor,
+        )
     } else {
         inside_cell(cells, row, x, i, j, p, c, divisor)
     }

@@ -149,12 +149,12 @@ rows-preserved-then-stays c =
     let sign = subst (λ (z : ℤ). IsSignOf z t.result) c.cell_at.ensures t.ensures in
     let ep = c.over_common-p.ensures ∙ c.at_place.ensures in
     let ec = c.over_common-c.ensures ∙ c.cell_at-in-rows.ensures
-        ∙ c.rows.invariant.rest i x.column c.rows-test.true q.column (omega arith) in
+    ∙ c.rows.invariant.rest i x.column c.rows-test.true q.column (omega arith) in
     let same = c.stays.ensures c.if-stays.true in
     over_stays x old (t.result *ℤ h.result) i c.rows.divisor c.rows.cells c.rows-test.true
     (λ j hj.
-        stays_is x old c.copy_turned.new.row h.result t.result c.over_common-p.result q.column sign
-        c.copy_turned.ensures ep i j hj c.over_common-c.result c.rows.divisor ec same.0 same.1)
+    stays_is x old c.copy_turned.new.row h.result t.result c.over_common-p.result q.column sign
+    c.copy_turned.ensures ep i j hj c.over_common-c.result c.rows.divisor ec same.0 same.1)
     c.rows.invariant
 
 pub rows-preserved : goal.rows-preserved
