@@ -15,7 +15,7 @@ product_size a b h k =
     rw unsigned_abs-mul
     (mul-le (unsigned_abs a) (unsigned_abs b) (2 ^ 63 - 1) (2 ^ 63 - 1) (omega arith) (omega arith))
 
-difference_size : (x y : ℤ) → unsigned_abs (x -ℤ y) ≤ unsigned_abs x + unsigned_abs y
+pub difference_size : (x y : ℤ) → unsigned_abs (x -ℤ y) ≤ unsigned_abs x + unsigned_abs y
 difference_size (pos m) (pos n) = omega (arith, ints)
 difference_size (pos m) (negsuc n) = omega (arith, ints)
 difference_size (negsuc m) (pos n) = omega (arith, ints)
