@@ -12,7 +12,9 @@ ghost use Rattle.dictionary.specs.WordExchange.{HasUnitRow, IsCommonTo, IsSignOf
 
 use crate::cells::{at_place, cell_at};
 use crate::exchange::Exchange;
-use poly_num::{Divisor, Num, are_halves, gcd, is_half, known_product, neg, quotient, word_cross, word_product};
+use poly_num::{
+    Divisor, Num, are_halves, gcd, is_half, known_product, neg, quotient, word_cross, word_product,
+};
 
 // Whether the number is 1.
 #[tactic(auto, using(std::proofs::lemmas::Bool::Decides::nat_tests))]
@@ -173,7 +175,16 @@ fn quick(half: bool, e: Num, p: Num, c: Num, a: Num, divisor: &Divisor) -> Optio
 
 // `e p - c a` over the divisor. Where that does not divide it, the divisor shrinks, and the cells before the
 // place grow.
-fn over_cross(cells: &mut [Num], place: usize, e: Num, p: Num, c: Num, a: Num, half: bool, divisor: &mut Divisor) -> Num
+fn over_cross(
+    cells: &mut [Num],
+    place: usize,
+    e: Num,
+    p: Num,
+    c: Num,
+    a: Num,
+    half: bool,
+    divisor: &mut Divisor,
+) -> Num
     requires place { place ≤ length cells.old }
     requires e { IsWord e }
     requires p { IsWord p }
@@ -195,7 +206,18 @@ fn over_cross(cells: &mut [Num], place: usize, e: Num, p: Num, c: Num, a: Num, h
 
 // The new cell in row i and column j, over the divisor. `c` is the old one in the row and the exchange's
 // column, `own` is that with the sign of the pivot's cell.
-fn new_cell(cells: &mut [Num], row: &[Num], x: &Exchange, i: usize, j: usize, p: Num, c: Num, own: Num, half: bool, divisor: &mut Divisor) -> Num
+fn new_cell(
+    cells: &mut [Num],
+    row: &[Num],
+    x: &Exchange,
+    i: usize,
+    j: usize,
+    p: Num,
+    c: Num,
+    own: Num,
+    half: bool,
+    divisor: &mut Divisor,
+) -> Num
     requires size { length cells.old ≡ x.now.height * x.now.width }
     requires width { length row.now ≡ x.now.width }
     requires i { i < x.now.height }
@@ -218,7 +240,16 @@ fn new_cell(cells: &mut [Num], row: &[Num], x: &Exchange, i: usize, j: usize, p:
 {
     let place = i * x.width + j;
     if j == x.column {
-        over_cross(cells, place, own, x.denominator, Num::ZERO, Num::ZERO, half, divisor)
+        over_cross(
+            cells,
+            place,
+            own,
+            x.denominator,
+            Num::ZERO,
+            Num::ZERO,
+            half,
+            divisor,
+        )
     } else {
         let e = cells[place];
         over_cross(cells, place, e, p, c, row[j], half, divisor)

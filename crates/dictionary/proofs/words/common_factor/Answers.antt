@@ -1,4 +1,4 @@
-use Rattle.std.proofs.Common.{◌≡◌, ◌≤◌, ℕ, ℤ, arith, subst, sym, ◌∙◌}
+use Rattle.std.proofs.Common.{◌≡◌, ℕ, ℤ, arith, subst, sym, ◌∙◌}
 use Rattle.poly_num.specs.Divisors.{IsGcdOf}
 use Rattle.poly_num.specs.Numbers.{IsWord}
 use Rattle.dictionary.specs.WordExchange.{IsCommonTo}

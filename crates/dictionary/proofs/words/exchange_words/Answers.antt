@@ -1,4 +1,4 @@
-use Rattle.std.proofs.Common.{◌<◌, pos, length, ◌≡◌, ℕ, ℤ, ◌+◌, ◌*◌, ◌*ℤ◌, sym, ap, subst, arith, ◌∙◌, mul_comm, refl}
+use Rattle.std.proofs.Common.{◌<◌, pos, ◌≡◌, ℕ, ℤ, ◌+◌, ◌*◌, ◌*ℤ◌, sym, ap, subst, arith, ◌∙◌, mul_comm, refl}
 use Prim.Native.Nat.{◌∣◌}
 use Rattle.std.specs.Prelude.{unsigned_abs}
 use Rattle.std.specs.List.{All}
@@ -69,10 +69,10 @@ new_cell-z-requires-clause-half c t =
     let f = c.fits_half-half.ensures t in
     let all : All IsHalf row = (c.fit_half-half_row.ensures f.0).0 in
     let at = λ (j : ℕ) (l : j < x.width).
-        All-get_or IsHalf row j (pos 0) (omega (arith, c.copy_turned.ensures.width)) all in
+    All-get_or IsHalf row j (pos 0) (omega (arith, c.copy_turned.ensures.width)) all in
     let p = quotient_half c.over_common-p.result c.common_factor-common.result c.at_place.result
-        c.common_factor-common.ensures.positive c.over_common-p.ensures
-        (subst IsHalf (sym c.at_place.ensures) (at x.column c.requires.column)) in
+    c.common_factor-common.ensures.positive c.over_common-p.ensures
+    (subst IsHalf (sym c.at_place.ensures) (at x.column c.requires.column)) in
     (p, f.1, at c.columns.j c.columns-test.true, c.columns.invariant.half t)
 
 pub new_cell-z-requires-clause-p : goal.new_cell-z-requires-clause-p

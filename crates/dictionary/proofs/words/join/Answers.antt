@@ -1,6 +1,4 @@
-use Rattle.std.proofs.Common.{ℤ, ◌∙◌, subst, sym}
-use Prim.Native.Nat.{◌∣◌}
-use Rattle.std.specs.Prelude.{unsigned_abs}
+use Rattle.std.proofs.Common.{ℤ, subst, sym}
 use Rattle.poly_num.specs.Divisors.{IsGcdOf}
 use Rattle.dictionary.proofs.CommonLemmas.{positive_gcd, gcd_divides}
 use Rattle.dictionary.proofs.LeftLemmas.{divisor_word}
