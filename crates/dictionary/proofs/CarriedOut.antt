@@ -1,12 +1,12 @@
 -- What the fields of a `Dict` hold after a pivot is the pivot of what they held.
-use Rattle.std.proofs.Common.{◌≡◌, ◌≢◌, ℕ, zero, suc, ◌+◌, ◌-◌, ◌*◌, ◌<◌, ℤ, pos, List, length, get_or, set, remove, slice_index, arith, refl, sym, ap, subst, ◌∙◌}
+use Rattle.std.proofs.Common.{◌≡◌, ℕ, suc, ◌-◌, ◌<◌, ℤ, List, length, set, remove, arith, refl, ap, subst}
 use Rattle.std.proofs.lemmas.List.{length-set}
-use Rattle.poly_model.specs.Keys.{IsKey, with_label}
+use Rattle.poly_model.specs.Keys.{with_label}
 use Rattle.dictionary_laws.specs.Keys.{place_in}
 use Rattle.dictionary_laws.specs.Laws.{IsExchangedKey}
 use Rattle.dictionary_laws.proofs.KeyExchange.{exchanged_key}
 use Rattle.dictionary.specs.declared.exchange.Exchange.{Exchange}
-use Rattle.dictionary.specs.Cells.{cell, pivot_cell, IsExchanged}
+use Rattle.dictionary.specs.Cells.{pivot_cell, IsExchanged}
 use Rattle.dictionary.specs.Views.{Dictionary, exchange_at, CanPivot, IsPivot, IsWhole}
 use Rattle.dictionary.proofs.PlaceLemmas.{place_within, at_place}
 use Rattle.dictionary.proofs.Pivots.{pivot_is, whole_new}
@@ -46,6 +46,7 @@ module _ (d : Dictionary) (r s : ℕ) (whole : IsWhole d) (can : CanPivot d r s)
   carried_out key columns denominator written ekey ecolumns edenominator ewritten =
       let column = ap (λ (y : Exchange). y.column) at in
       let place : x.column - 1 ≡ place_in d.columns s = omega arith in
-      rw (edenominator, ewritten, ecolumns, place, ekey, at)
-      (pivot_is d r s whole can news ex_at (with_label r (remove d.key (place_in d.key s))) (new_key d r s whole can),
-      whole_new d r s whole can news ex_at (with_label r (remove d.key (place_in d.key s))) (new_key d r s whole can))
+      rw (edenominator, ewritten, ecolumns, place, ekey, at) (
+        pivot_is d r s whole can news ex_at (with_label r (remove d.key (place_in d.key s))) (new_key d r s whole can),
+        whole_new d r s whole can news ex_at (with_label r (remove d.key (place_in d.key s))) (new_key d r s whole can),
+      )

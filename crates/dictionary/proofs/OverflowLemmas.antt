@@ -1,8 +1,8 @@
 -- A product that passes at a place of the cells is one that the pivot needs at the labels of the place.
-use Rattle.std.proofs.Common.{◌≡◌, ◌≢◌, ◌⊎◌, ℕ, zero, suc, ◌+◌, ◌<◌, ℤ, pos, cond, List, length, get_or, arith, refl, sym, ap, subst, ◌∙◌, inl, inr, ⊎_elim}
+use Rattle.std.proofs.Common.{◌≡◌, ◌≢◌, ◌⊎◌, ℕ, zero, suc, ◌<◌, ℤ, cond, List, length, get_or, arith, refl, sym, ap, subst, ◌∙◌, inl, inr}
 use Rattle.std.specs.List.{Contains}
 use Rattle.std.specs.Prelude.{◌*ℤ◌, ◌-ℤ◌}
-use Rattle.std.proofs.lemmas.Bool.{eq-eqb, ne_eqb, cases_eq}
+use Rattle.std.proofs.lemmas.Bool.{eq-eqb, ne_eqb}
 use Rattle.std.proofs.lemmas.List.{get_or_read_under}
 use Rattle.std.proofs.lemmas.List.Elements.{Contains-get_or}
 use Rattle.poly_num.specs.Numbers.{IsNum, Crosses}
@@ -13,8 +13,7 @@ use Rattle.poly_model.specs.Dictionaries.{Table}
 use Rattle.poly_model.specs.Overflows.{IsPlace, number_at}
 use Rattle.dictionary_laws.specs.Keys.{place_in}
 use Rattle.dictionary_laws.proofs.KeyExchange.{ascending_distinct}
-use Rattle.dictionary.specs.declared.exchange.Exchange.{Exchange}
-use Rattle.dictionary.specs.Cells.{cell, pivot_cell, PassesAt}
+use Rattle.dictionary.specs.Cells.{cell, PassesAt}
 use Rattle.dictionary.specs.Views.{Dictionary, number, table_of, exchange_at, column_label, CanPivot, IsWhole, IsOverflow}
 use Rattle.dictionary.proofs.PlaceLemmas.{place_within, place_at, at_place}
 

@@ -1,32 +1,29 @@
 -- The exchange of cells is the pivot of a dictionary.
-use Rattle.std.proofs.Common.{mul_comm as mul_comm_nat, Bool, cond, ◌≡◌, ◌≢◌, ◌⊎◌, ℕ, zero, suc, ◌+◌, ◌*◌, ◌/◌, ◌%◌, ◌<◌, ℤ, pos, negsuc, neg_ℤ, ◌*ℤ◌, ◌-ℤ◌, List, ◌∷◌, length, get_or, set, remove, slice_index, arith, refl, sym, ap, subst, ◌∙◌, inl, inr, ⊎_elim}
+use Rattle.std.proofs.Common.{Bool, cond, ◌≡◌, ◌≢◌, ℕ, zero, suc, ◌*◌, ◌<◌, ℤ, pos, negsuc, neg_ℤ, ◌*ℤ◌, ◌-ℤ◌, List, length, set, arith, refl, sym, ap, subst, ◌∙◌, inl, ⊎_elim}
 use Prim.Native.Nat.{◌∣◌}
 use Rattle.std.specs.Prelude.{◌<ℤ◌, unsigned_abs}
-use Rattle.std.specs.List.{Contains, AllByRecursion}
+use Rattle.std.specs.List.{Contains}
 use Rattle.std.proofs.lemmas.Int.{ints}
 use Rattle.std.proofs.lemmas.List.{length-set}
-use Rattle.std.proofs.lemmas.List.Elements.{All-from_get_or, Contains-get_or, recursion_from_All}
-use Rattle.std.proofs.Math.Nat.{div-add-mod, div-lt_iff_lt-mul, eq-zero_of_zero-dvd, mod-lt}
+use Rattle.std.proofs.Math.Nat.{eq-zero_of_zero-dvd}
 use Rattle.std.proofs.lemmas.Bool.{cases_eq, eq-eqb, ne_eqb}
 use Rattle.poly_num.specs.Fractions.{turned_by}
-use Rattle.poly_num.specs.Vectors.{DividesEach}
 use Rattle.poly_num.proofs.Ring.{lin, neg-mul, mul_comm, mul_zero, zero_mul}
 use Rattle.poly_num.proofs.Order.{cancel, zero_factor, mul_nonzero, positive_nonzero, positive_factor, positive_product}
-use Rattle.poly_model.specs.Keys.{IsKey, with_label}
 use Rattle.poly_model.specs.Spaces.{Space, HasPoints}
-use Rattle.poly_model.specs.Dictionaries.{Table, IsCobasis, Writes, IsDictionary}
-use Rattle.dictionary_laws.specs.Keys.{place_in, AreDistinct, HaveSameLabels, Exchanges}
+use Rattle.poly_model.specs.Dictionaries.{Table, IsCobasis, Writes}
+use Rattle.dictionary_laws.specs.Keys.{place_in, HaveSameLabels}
 use Rattle.dictionary_laws.specs.Laws.{IsExchangedKey}
-use Rattle.dictionary_laws.specs.Numbers.{ArePrimitive, DividesNumbers}
+use Rattle.dictionary_laws.specs.Numbers.{ArePrimitive}
 use Rattle.dictionary_laws.specs.Exchange.{CanExchange, exchanged}
-use Rattle.dictionary_laws.proofs.KeyExchange.{ascending_distinct}
 use Rattle.dictionary_laws.proofs.Multiples.{AreTimes, divisors_write}
 use Rattle.dictionary_laws.proofs.NewCobasis.{exchanged_cobasis}
 use Rattle.dictionary_laws.proofs.NewNumbers.{exchanged_writes}
 use Rattle.dictionary_laws.proofs.Least.{least_where_primitive}
 use Rattle.dictionary.specs.Cells.{cell, pivot_cell, IsExchanged}
 use Rattle.dictionary.specs.Views.{Dictionary, number, table_of, exchange_at, IsDictionaryIn, CanPivot, IsPivot, IsUnitRow, IsWhole}
-use Rattle.dictionary.proofs.PlaceLemmas.{place_within, place_at, one_at_place, set_distinct, set_members, place_entering, place_staying, exchanged_same}
+use Rattle.dictionary.proofs.EachNumber.{each_number}
+use Rattle.dictionary.proofs.PlaceLemmas.{place_within, one_at_place, set_distinct, set_members, place_entering, place_staying, exchanged_same}
 
 turned_times : (p a b : ℤ) → turned_by p (a *ℤ b) ≡ turned_by p a *ℤ b
 turned_times (pos n) a b = refl
@@ -63,21 +60,6 @@ divisor_positive : (d : ℕ) (x : ℤ) → pos 0 <ℤ x → d ∣ unsigned_abs x
 divisor_positive zero (pos n) h k = absurd (let e = eq-zero_of_zero-dvd k in omega (arith, ints))
 divisor_positive zero (negsuc n) h k = absurd (omega (arith, ints))
 divisor_positive (suc d) x h k = omega arith
-
--- a fact of the cells of all rows and columns is one of the whole list
-each_cell : (P : ℤ → Type 0) (height width : ℕ) (cells : List ℤ) → length cells ≡ height * width → 0 < width →
-    ((i j : ℕ) → i < height → j < width → P (cell width cells i j)) → AllByRecursion P cells
-each_cell P height width cells size lt each =
-    recursion_from_All P cells (All-from_get_or P cells (pos 0) at)
-  where
-    at : (k : ℕ) → k < length cells → P (get_or cells k (pos 0))
-    at k l =
-        let e : k / width * width + k % width ≡ k =
-        ap (λ n. n + k % width) (mul_comm_nat (k / width) width) ∙ div-add-mod k width in
-        subst (λ (i : ℕ). P (get_or cells i (pos 0))) e
-        (each (k / width) (k % width)
-        ((div-lt_iff_lt-mul lt).1 (omega (arith, size)))
-        (mod-lt k lt))
 
 module _ (old : Dictionary) (r s : ℕ) (whole : IsWhole old) (can : CanPivot old r s) (cells : List ℤ)
     (x : IsExchanged (exchange_at old r s) old.cells cells) where
@@ -191,14 +173,14 @@ module _ (old : Dictionary) (r s : ℕ) (whole : IsWhole old) (can : CanPivot ol
               ∙ zero_factor factor (cell width cells (place_in old.labels k) j)
               (⊎_elim
               (λ (e : j ≡ suc c).
-                  ap (λ i. factor *ℤ cell width cells (place_in old.labels k) i) e
-                  ∙ entering k label ∙ ap (λ z. z *ℤ old.denominator) zero_s ∙ zero_mul old.denominator)
+              ap (λ i. factor *ℤ cell width cells (place_in old.labels k) i) e
+              ∙ entering k label ∙ ap (λ z. z *ℤ old.denominator) zero_s ∙ zero_mul old.denominator)
               (λ (a : j ≢ suc c).
-                  staying k j label (omega (arith, same_width)) a
-                  ∙ own_product (number old k j) pivot (Table.entry (table_of old) k s) (number old r j) zero_s
-                  ∙ ap (λ z. pivot *ℤ z)
-                  (unit.others j (omega (arith, same_width)) (λ e. q (e ∙ ap suc (sym place))))
-                  ∙ mul_zero pivot)
+              staying k j label (omega (arith, same_width)) a
+              ∙ own_product (number old k j) pivot (Table.entry (table_of old) k s) (number old r j) zero_s
+              ∙ ap (λ z. pivot *ℤ z)
+              (unit.others j (omega (arith, same_width)) (λ e. q (e ∙ ap suc (sym place))))
+              ∙ mul_zero pivot)
               (cases_eq j (suc c)))
               factor_nonzero;
         }
@@ -241,31 +223,31 @@ module _ (old : Dictionary) (r s : ℕ) (whole : IsWhole old) (can : CanPivot ol
     entry_times i k l m =
         ⊎_elim
         (λ (e : k ≡ r).
-            ap (λ (b : Bool). turned_by pivot (cond b (Table.entry (table_of old) i s *ℤ old.denominator)
-                (Table.entry (table_of old) i k *ℤ pivot -ℤ Table.entry (table_of old) i s *ℤ Table.entry (table_of old) r k)))
-            (eq-eqb k r e)
-            ∙ turned_product pivot factor (cell width cells (place_in old.labels i) (suc c))
-            (Table.entry (table_of old) i s *ℤ old.denominator) (entering i l)
-            ∙ ap (λ z. sign_factor *ℤ z)
-            (sym (new_number i (suc (place_in columns k))
-            ∙ ap (λ j. cell width cells (place_in old.labels i) (suc j))
-            (ap (λ q. place_in columns q) e ∙ place_entering r s old.columns inside outside))))
+        ap (λ (b : Bool). turned_by pivot (cond b (Table.entry (table_of old) i s *ℤ old.denominator)
+        (Table.entry (table_of old) i k *ℤ pivot -ℤ Table.entry (table_of old) i s *ℤ Table.entry (table_of old) r k)))
+        (eq-eqb k r e)
+        ∙ turned_product pivot factor (cell width cells (place_in old.labels i) (suc c))
+        (Table.entry (table_of old) i s *ℤ old.denominator) (entering i l)
+        ∙ ap (λ z. sign_factor *ℤ z)
+        (sym (new_number i (suc (place_in columns k))
+        ∙ ap (λ j. cell width cells (place_in old.labels i) (suc j))
+        (ap (λ q. place_in columns q) e ∙ place_entering r s old.columns inside outside))))
         (λ (n : k ≢ r).
-            let old_member : Contains old.key k × (k ≢ s) =
-            ⊎_elim (λ (e : k ≡ r). absurd (n e)) (λ (p : Contains old.key k × (k ≢ s)). p)
-            (exchanges.exchanges.only k m) in
-            let member = whole.same.there k old_member.0 in
-            ap (λ (b : Bool). turned_by pivot (cond b (Table.entry (table_of old) i s *ℤ old.denominator)
-                (Table.entry (table_of old) i k *ℤ pivot -ℤ Table.entry (table_of old) i s *ℤ Table.entry (table_of old) r k)))
-            (ne_eqb k r n)
-            ∙ turned_product pivot factor (cell width cells (place_in old.labels i) (suc (place_in old.columns k)))
-            (Table.entry (table_of old) i k *ℤ pivot -ℤ Table.entry (table_of old) i s *ℤ Table.entry (table_of old) r k)
-            (staying i (suc (place_in old.columns k)) l (column_within k member)
-            (λ e. old_member.1 (one_at_place old.columns k s member inside (omega arith))))
-            ∙ ap (λ z. sign_factor *ℤ z)
-            (sym (new_number i (suc (place_in columns k))
-            ∙ ap (λ j. cell width cells (place_in old.labels i) (suc j))
-            (place_staying r s old.columns inside k n old_member.1))))
+        let old_member : Contains old.key k × (k ≢ s) =
+        ⊎_elim (λ (e : k ≡ r). absurd (n e)) (λ (p : Contains old.key k × (k ≢ s)). p)
+        (exchanges.exchanges.only k m) in
+        let member = whole.same.there k old_member.0 in
+        ap (λ (b : Bool). turned_by pivot (cond b (Table.entry (table_of old) i s *ℤ old.denominator)
+        (Table.entry (table_of old) i k *ℤ pivot -ℤ Table.entry (table_of old) i s *ℤ Table.entry (table_of old) r k)))
+        (ne_eqb k r n)
+        ∙ turned_product pivot factor (cell width cells (place_in old.labels i) (suc (place_in old.columns k)))
+        (Table.entry (table_of old) i k *ℤ pivot -ℤ Table.entry (table_of old) i s *ℤ Table.entry (table_of old) r k)
+        (staying i (suc (place_in old.columns k)) l (column_within k member)
+        (λ e. old_member.1 (one_at_place old.columns k s member inside (omega arith))))
+        ∙ ap (λ z. sign_factor *ℤ z)
+        (sym (new_number i (suc (place_in columns k))
+        ∙ ap (λ j. cell width cells (place_in old.labels i) (suc j))
+        (place_staying r s old.columns inside k n old_member.1))))
         (cases_eq k r)
 
     constant_times : (i : ℕ) → Contains old.labels i →
@@ -275,17 +257,6 @@ module _ (old : Dictionary) (r s : ℕ) (whole : IsWhole old) (can : CanPivot ol
         (number old i 0 *ℤ pivot -ℤ Table.entry (table_of old) i s *ℤ number old r 0)
         (staying i 0 l (omega arith) (λ e. omega arith))
         ∙ ap (λ z. sign_factor *ℤ z) (sym (new_number i 0))
-
-    -- the label of row i
-    abbrev label : ℕ → ℕ
-    label i = get_or old.labels i 0
-
-    is_label : (i : ℕ) → i < length old.labels → Contains old.labels (label i)
-    is_label i hi = Contains-get_or old.labels i 0 hi
-
-    in_row : (i j : ℕ) → i < length old.labels → cell width cells (place_in old.labels (label i)) j ≡ cell width cells i j
-    in_row i j hi =
-        ap (λ a. cell width cells a j) (place_at old.labels i 0 (ascending_distinct old.labels whole.labels) hi)
 
     module _ (space : Space) (points : HasPoints space) (d : IsDictionaryIn space old) where
       label_there : (i : ℕ) → Contains space.labels i → Contains old.labels i
@@ -324,21 +295,9 @@ module _ (old : Dictionary) (r s : ℕ) (whole : IsWhole old) (can : CanPivot ol
       primitive : ArePrimitive space key (table_of new)
       primitive e h =
           x.least.1 e (divisor_positive e denominator x.positive h.denominator)
-          (each_cell (λ z. e ∣ unsigned_abs z) (length old.labels) width cells (x.same_length ∙ whole.size)
-          (omega arith) at)
-        where
-          at : (i j : ℕ) → i < length old.labels → j < width → e ∣ unsigned_abs (cell width cells i j)
-          at i zero hi hj =
-              subst (λ (z : ℤ). e ∣ unsigned_abs z) (new_number (label i) 0 ∙ in_row i zero hi)
-              (h.constants (label i) (label_back (label i) (is_label i hi)))
-          at i (suc j) hi hj =
-              let lt : j < length columns = omega (arith, same_width) in
-              let k = get_or columns j 0 in
-              subst (λ (z : ℤ). e ∣ unsigned_abs z)
-              (new_number (label i) (suc (place_in columns k)) ∙ in_row i (suc (place_in columns k)) hi
-              ∙ ap (λ q. cell width cells i (suc q)) (place_at columns j 0 whole_new.distinct lt))
-              (h.entries (label i) k (label_back (label i) (is_label i hi))
-              (same_new.back k (Contains-get_or columns j 0 lt)))
+          (each_number (λ z. e ∣ unsigned_abs z) new whole_new
+          (λ i l. h.constants i (label_back i l))
+          (λ i k l c. h.entries i k (label_back i l) (same_new.back k c)))
 
       pub dictionary_new : IsDictionaryIn space new
       dictionary_new = record {
@@ -354,6 +313,7 @@ module _ (old : Dictionary) (r s : ℕ) (whole : IsWhole old) (can : CanPivot ol
     pivot_is = record {
       phase = refl;
       labels = refl;
+      width = length-set old.columns c r;
       key = exchanges;
       dictionary = λ space points d. dictionary_new space points d;
     }

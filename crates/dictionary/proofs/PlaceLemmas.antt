@@ -1,8 +1,7 @@
 -- Places of labels in lists of labels, each once, and a label put in the place of another.
-use Rattle.std.proofs.Common.{◌≡◌, ◌≢◌, ◌⊎◌, ℕ, zero, suc, ◌<◌, Bool, true, false, cond, List, [], ◌∷◌, length, get_or, set, arith, refl, sym, ap, subst, ◌∙◌, inl, inr, ⊎_elim}
-use Rattle.std.specs.Prelude.{◌==◌}
+use Rattle.std.proofs.Common.{◌≡◌, ◌≢◌, ◌⊎◌, ℕ, zero, suc, ◌<◌, cond, List, [], ◌∷◌, length, get_or, set, arith, refl, sym, ap, subst, ◌∙◌, inl, inr, ⊎_elim}
 use Rattle.std.specs.List.{Contains}
-use Rattle.std.proofs.lemmas.Bool.{eqb-true, eqb-false, eq-eqb, ne_eqb, cases_eq}
+use Rattle.std.proofs.lemmas.Bool.{eq-eqb, ne_eqb, cases_eq}
 use Rattle.std.proofs.lemmas.List.Elements.{Contains-get_or}
 use Rattle.linear_laws.proofs.Members.{Contains-first, Contains-later, Contains-nil}
 use Rattle.dictionary_laws.specs.Keys.{place_in, AreDistinct, HaveSameLabels, Exchanges}
@@ -26,6 +25,16 @@ place_within (x ∷ ks) k c =
     ⊎_elim
     (λ (e : x ≡ k). rw (place_here x ks k e) (omega arith))
     (λ (n : x ≢ k). rw (place_later x ks k n) (let l = place_within ks k (later_member x ks k n c) in omega arith))
+    (cases_eq x k)
+
+pub place_has : (ks : List ℕ) (k : ℕ) → place_in ks k < length ks → Contains ks k
+place_has [] k l = absurd (omega arith)
+place_has (x ∷ ks) k l =
+    ⊎_elim
+    (λ (e : x ≡ k). subst (λ (i : ℕ). Contains (x ∷ ks) i) e (Contains-first x ks))
+    (λ (n : x ≢ k).
+    let h = place_later x ks k n in
+    Contains-later k x ks (place_has ks k (omega (arith, h))))
     (cases_eq x k)
 
 pub at_place : (ks : List ℕ) (k z : ℕ) → Contains ks k → get_or ks (place_in ks k) z ≡ k
@@ -59,22 +68,24 @@ module _ (r s : ℕ) where
   set_members (x ∷ ks) d c k h =
       ⊎_elim
       (λ (e : x ≡ s).
-          let g : Contains (r ∷ ks) k =
-          subst (λ (i : ℕ). Contains (set (x ∷ ks) i r) k) (place_here x ks s e) h in
-          ⊎_elim (λ (f : k ≡ r). inl f)
-          (λ (m : Contains ks k). inr (Contains-later k x ks m,
-              λ q. d.0 (subst (λ (i : ℕ). Contains ks i) (q ∙ sym e) m)))
-          (contains_cases r ks k g))
+      let g : Contains (r ∷ ks) k =
+      subst (λ (i : ℕ). Contains (set (x ∷ ks) i r) k) (place_here x ks s e) h in
+      ⊎_elim (λ (f : k ≡ r). inl f)
+      (λ (m : Contains ks k). inr (
+        Contains-later k x ks m,
+        λ q. d.0 (subst (λ (i : ℕ). Contains ks i) (q ∙ sym e) m),
+      ))
+      (contains_cases r ks k g))
       (λ (n : x ≢ s).
-          let g : Contains (x ∷ set ks (place_in ks s) r) k =
-          subst (λ (i : ℕ). Contains (set (x ∷ ks) i r) k) (place_later x ks s n) h in
-          ⊎_elim
-          (λ (f : k ≡ x). inr (subst (λ (i : ℕ). Contains (x ∷ ks) i) (sym f) (Contains-first x ks), λ q. n (sym f ∙ q)))
-          (λ (m : Contains (set ks (place_in ks s) r) k).
-              ⊎_elim (λ (f : k ≡ r). inl f)
-              (λ (p : Contains ks k × (k ≢ s)). inr (Contains-later k x ks p.0, p.1))
-              (set_members ks d.1 (later_member x ks s n c) k m))
-          (contains_cases x (set ks (place_in ks s) r) k g))
+      let g : Contains (x ∷ set ks (place_in ks s) r) k =
+      subst (λ (i : ℕ). Contains (set (x ∷ ks) i r) k) (place_later x ks s n) h in
+      ⊎_elim
+      (λ (f : k ≡ x). inr (subst (λ (i : ℕ). Contains (x ∷ ks) i) (sym f) (Contains-first x ks), λ q. n (sym f ∙ q)))
+      (λ (m : Contains (set ks (place_in ks s) r) k).
+      ⊎_elim (λ (f : k ≡ r). inl f)
+      (λ (p : Contains ks k × (k ≢ s)). inr (Contains-later k x ks p.0, p.1))
+      (set_members ks d.1 (later_member x ks s n c) k m))
+      (contains_cases x (set ks (place_in ks s) r) k g))
       (cases_eq x s)
 
   pub set_entering : (ks : List ℕ) → Contains ks s → Contains (set ks (place_in ks s) r) r
@@ -83,7 +94,7 @@ module _ (r s : ℕ) where
       ⊎_elim
       (λ (e : x ≡ s). rw (place_here x ks s e) (Contains-first r ks))
       (λ (n : x ≢ s). rw (place_later x ks s n)
-          (Contains-later r x (set ks (place_in ks s) r) (set_entering ks (later_member x ks s n c))))
+      (Contains-later r x (set ks (place_in ks s) r) (set_entering ks (later_member x ks s n c))))
       (cases_eq x s)
 
   pub set_kept : (ks : List ℕ) → Contains ks s → (k : ℕ) → Contains ks k → k ≢ s →
@@ -92,13 +103,13 @@ module _ (r s : ℕ) where
   set_kept (x ∷ ks) c k m n =
       ⊎_elim
       (λ (e : x ≡ s). rw (place_here x ks s e)
-          (Contains-later k r ks (later_member x ks k (λ f. n (sym f ∙ e)) m)))
+      (Contains-later k r ks (later_member x ks k (λ f. n (sym f ∙ e)) m)))
       (λ (q : x ≢ s). rw (place_later x ks s q)
-          (⊎_elim
-          (λ (f : k ≡ x). rw f (Contains-first x (set ks (place_in ks s) r)))
-          (λ (h : Contains ks k). Contains-later k x (set ks (place_in ks s) r)
-              (set_kept ks (later_member x ks s q c) k h n))
-          (contains_cases x ks k m)))
+      (⊎_elim
+      (λ (f : k ≡ x). rw f (Contains-first x (set ks (place_in ks s) r)))
+      (λ (h : Contains ks k). Contains-later k x (set ks (place_in ks s) r)
+      (set_kept ks (later_member x ks s q c) k h n))
+      (contains_cases x ks k m)))
       (cases_eq x s)
 
   pub set_distinct : (ks : List ℕ) → AreDistinct ks → Contains ks s → (Contains ks r → ⊥) →
@@ -107,12 +118,13 @@ module _ (r s : ℕ) where
   set_distinct (x ∷ ks) d c n =
       ⊎_elim
       (λ (e : x ≡ s). rw (place_here x ks s e) (λ h. n (Contains-later r x ks h), d.1))
-      (λ (q : x ≢ s). rw (place_later x ks s q)
-          (λ h. ⊎_elim
-              (λ (f : x ≡ r). n (subst (λ (i : ℕ). Contains (x ∷ ks) i) f (Contains-first x ks)))
-              (λ (p : Contains ks x × (x ≢ s)). d.0 p.0)
-              (set_members ks d.1 (later_member x ks s q c) x h),
-          set_distinct ks d.1 (later_member x ks s q c) (λ h. n (Contains-later r x ks h))))
+      (λ (q : x ≢ s). rw (place_later x ks s q) (
+        λ h. ⊎_elim
+            (λ (f : x ≡ r). n (subst (λ (i : ℕ). Contains (x ∷ ks) i) f (Contains-first x ks)))
+            (λ (p : Contains ks x × (x ≢ s)). d.0 p.0)
+            (set_members ks d.1 (later_member x ks s q c) x h),
+        set_distinct ks d.1 (later_member x ks s q c) (λ h. n (Contains-later r x ks h)),
+      ))
       (cases_eq x s)
 
   pub place_entering : (ks : List ℕ) → Contains ks s → (Contains ks r → ⊥) →
@@ -122,9 +134,9 @@ module _ (r s : ℕ) where
       ⊎_elim
       (λ (e : x ≡ s). rw (place_here x ks s e) (place_here r ks r refl))
       (λ (q : x ≢ s). rw (place_later x ks s q)
-          (place_later x (set ks (place_in ks s) r) r
-          (λ f. n (subst (λ (i : ℕ). Contains (x ∷ ks) i) f (Contains-first x ks)))
-          ∙ ap suc (place_entering ks (later_member x ks s q c) (λ h. n (Contains-later r x ks h)))))
+      (place_later x (set ks (place_in ks s) r) r
+      (λ f. n (subst (λ (i : ℕ). Contains (x ∷ ks) i) f (Contains-first x ks)))
+      ∙ ap suc (place_entering ks (later_member x ks s q c) (λ h. n (Contains-later r x ks h)))))
       (cases_eq x s)
 
   pub place_staying : (ks : List ℕ) → Contains ks s → (k : ℕ) → k ≢ r → k ≢ s →
@@ -133,17 +145,17 @@ module _ (r s : ℕ) where
   place_staying (x ∷ ks) c k n q =
       ⊎_elim
       (λ (e : x ≡ s).
-          ap (λ i. place_in (set (x ∷ ks) i r) k) (place_here x ks s e)
-          ∙ place_later r ks k (λ f. n (sym f))
-          ∙ sym (place_later x ks k (λ f. q (sym f ∙ e))))
+      ap (λ i. place_in (set (x ∷ ks) i r) k) (place_here x ks s e)
+      ∙ place_later r ks k (λ f. n (sym f))
+      ∙ sym (place_later x ks k (λ f. q (sym f ∙ e))))
       (λ (m : x ≢ s).
-          ap (λ i. place_in (set (x ∷ ks) i r) k) (place_later x ks s m)
-          ∙ ⊎_elim
-          (λ (f : x ≡ k). place_here x (set ks (place_in ks s) r) k f ∙ sym (place_here x ks k f))
-          (λ (g : x ≢ k). place_later x (set ks (place_in ks s) r) k g
-              ∙ ap suc (place_staying ks (later_member x ks s m c) k n q)
-              ∙ sym (place_later x ks k g))
-          (cases_eq x k))
+      ap (λ i. place_in (set (x ∷ ks) i r) k) (place_later x ks s m)
+      ∙ ⊎_elim
+      (λ (f : x ≡ k). place_here x (set ks (place_in ks s) r) k f ∙ sym (place_here x ks k f))
+      (λ (g : x ≢ k). place_later x (set ks (place_in ks s) r) k g
+      ∙ ap suc (place_staying ks (later_member x ks s m c) k n q)
+      ∙ sym (place_later x ks k g))
+      (cases_eq x k))
       (cases_eq x s)
 
   -- lists with the same labels have them still where r takes the place of s in both

@@ -66,10 +66,13 @@ module _ (x : Exchange) (old mid : List ℤ) (cells : AreExchangedCells x old mi
       let g = h.multiple.0 in
       record {
         same_length = sym (length-scale g new) ∙ ap length (sym h.multiple.1) ∙ cells.same_length;
-        cells = (g, λ i j hi hj.
-            subst (IsExchangedCell x old i j)
-            (ap (λ v. get_or v (i * x.width + j) (pos 0)) h.multiple.1 ∙ get_or-scale g new (i * x.width + j))
-            (cells.cells i j hi hj));
+        cells = (
+          g,
+          λ i j hi hj.
+              subst (IsExchangedCell x old i j)
+              (ap (λ v. get_or v (i * x.width + j) (pos 0)) h.multiple.1 ∙ get_or-scale g new (i * x.width + j))
+              (cells.cells i j hi hj),
+        );
         positive = h.positive;
         least = h.least;
       }

@@ -7,7 +7,7 @@ use Rattle.poly_num.proofs.Ring.{lin}
 use Rattle.poly_num.proofs.Ring as ring
 use Rattle.poly_num.specs.Numbers.{Crosses}
 use Rattle.dictionary.specs.declared.exchange.Exchange.{Exchange}
-use Rattle.dictionary.specs.Cells.{cell, pivot_cell, IsExchangedCell, IsPivotRow, AreExchangedCells, RowFits}
+use Rattle.dictionary.specs.Cells.{cell, IsExchangedCell, IsPivotRow, AreExchangedCells, RowFits}
 
 module _ (x : Exchange) (old : List ℤ) where
   -- the places before p hold the new cells, the others the old ones
@@ -33,16 +33,16 @@ module _ (x : Exchange) (old : List ℤ) where
     done = λ a b ha hb h.
         ⊎_elim
         (λ (e : a * x.width + b ≡ i * x.width + j).
-            let p = same_from_place a b i j x.width hb hj e in
-            let l : i * x.width + j < length now =
-            omega (arith, u.same_length, mul-add-lt i x.width j x.height hi hj) in
-            rw (p.0, p.1)
-            (subst (IsExchangedCell x old i j)
-            (sym (get_or-set_same now (i * x.width + j) z (pos 0) l)) new))
+        let p = same_from_place a b i j x.width hb hj e in
+        let l : i * x.width + j < length now =
+        omega (arith, u.same_length, mul-add-lt i x.width j x.height hi hj) in
+        rw (p.0, p.1)
+        (subst (IsExchangedCell x old i j)
+        (sym (get_or-set_same now (i * x.width + j) z (pos 0) l)) new))
         (λ (n : a * x.width + b ≢ i * x.width + j).
-            subst (IsExchangedCell x old a b)
-            (sym (get_or-set_other now (i * x.width + j) (a * x.width + b) z (pos 0) n))
-            (u.done a b ha hb (omega arith)))
+        subst (IsExchangedCell x old a b)
+        (sym (get_or-set_other now (i * x.width + j) (a * x.width + b) z (pos 0) n))
+        (u.done a b ha hb (omega arith)))
         (cases_eq (a * x.width + b) (i * x.width + j));
     rest = λ a b ha hb h.
         get_or-set_other now (i * x.width + j) (a * x.width + b) z (pos 0) (λ e. omega arith)
@@ -82,10 +82,10 @@ module _ (x : Exchange) (old : List ℤ) where
       inside = λ n.
           ⊎_elim
           (λ (e : i ≡ x.row).
-              own n e ∙ rw e (zero_difference (cell x.width old x.row j) (cell x.width old x.row x.column)))
+          own n e ∙ rw e (zero_difference (cell x.width old x.row j) (cell x.width old x.row x.column)))
           (λ (q : i ≢ x.row).
-              inside n q
-              ∙ rw (u.rest i j hi hj (omega arith), copy.same x.column hs, copy.same j hj, same) refl)
+          inside n q
+          ∙ rw (u.rest i j hi hj (omega arith), copy.same x.column hs, copy.same j hj, same) refl)
           (cases_eq i x.row);
     }
 

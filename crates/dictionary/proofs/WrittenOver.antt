@@ -88,15 +88,15 @@ module _ (x : Exchange) (old : List ℤ) (f : ℤ) where
     done = λ a b ha hb l.
         ⊎_elim
         (λ (e : a ≡ i).
-            rw e
-            (subst (λ (z : ℤ). IsExchangedCell x old i b (f *ℤ (g *ℤ z)))
-            (sym (u.rest i b hi hb (omega arith))) (row b hb)))
+        rw e
+        (subst (λ (z : ℤ). IsExchangedCell x old i b (f *ℤ (g *ℤ z)))
+        (sym (u.rest i b hi hb (omega arith))) (row b hb)))
         (λ (n : a ≢ i).
-            ⊎_elim
-            (λ (lt : a < i). u.done a b ha hb (let k = mul-add-lt a x.width b i lt hb in omega (arith, mul_comm i x.width)))
-            (λ (le : i ≤ a).
-                let k = mul-le (i + 1) x.width a x.width (omega arith) (omega arith) in absurd (omega arith))
-            (cases_lt a i))
+        ⊎_elim
+        (λ (lt : a < i). u.done a b ha hb (let k = mul-add-lt a x.width b i lt hb in omega (arith, mul_comm i x.width)))
+        (λ (le : i ≤ a).
+        let k = mul-le (i + 1) x.width a x.width (omega arith) (omega arith) in absurd (omega arith))
+        (cases_lt a i))
         (cases_eq a i);
     rest = λ a b ha hb l. u.rest a b ha hb (omega arith);
     greatest = λ k d all. u.greatest k d (λ a b ha hb l. all a b ha hb (omega arith));

@@ -1,7 +1,7 @@
 -- Rows of cells that lie one after the other in one list, and the exchange of a row and a column.
 use Rattle.std.specs.Prelude.{◌≡◌, ◌≢◌, ℕ, ℤ, ◌<◌, ◌+◌, ◌*◌, ◌*ℤ◌, ◌-ℤ◌, ◌<ℤ◌, pos, List, length}
-use Rattle.std.specs.List.{slice_index_or}
-use Rattle.poly_num.specs.Numbers.{IsNum, Crosses}
+use Rattle.std.specs.List.{slice_index_or, All}
+use Rattle.poly_num.specs.Numbers.{IsNum, IsWord, Crosses}
 use Rattle.poly_num.specs.Vectors.{IsPrimitive, scale}
 use Rattle.dictionary.specs.declared.exchange.Exchange.{Exchange}
 
@@ -18,6 +18,10 @@ pub record IsExchangedCell (x : Exchange) (cells : List ℤ) (i j : ℕ) (z : �
   pub column : j ≡ x.column → z ≡ cell x.width cells i x.column *ℤ x.denominator
   pub inside : j ≢ x.column →
       z ≡ cell x.width cells i j *ℤ pivot_cell x cells -ℤ cell x.width cells i x.column *ℤ cell x.width cells x.row j
+
+-- the denominator and all cells fit a machine word
+abbrev pub AreNarrow : List ℤ → ℤ → Type 0
+AreNarrow cells denominator = IsWord denominator × All IsWord cells
 
 -- no product and no difference that the exchange takes in row i passes
 pub record RowFits (x : Exchange) (cells : List ℤ) (i : ℕ) : Type 0 where

@@ -52,6 +52,7 @@ pub record CanPivot (d : Dictionary) (r s : ℕ) : Type 0 where
 pub record IsPivot (old : Dictionary) (r s : ℕ) (new : Dictionary) : Type 0 where
   pub phase : new.phase ≡ old.phase
   pub labels : new.labels ≡ old.labels
+  pub width : length new.columns ≡ length old.columns
   pub key : IsExchangedKey old.key new.key r s
   pub dictionary : (space : Space) → HasPoints space → IsDictionaryIn space old → IsDictionaryIn space new
 

@@ -1,14 +1,13 @@
 //! The dictionary of a cobasis in one table, with pivots in place.
-ghost use Rattle.std.specs.Prelude.{◌≡◌, ◌<◌, ◌<ℤ◌, suc, pos, IfOk, IfErr, length};
+ghost use Rattle.std.specs.Prelude.{◌≡◌, ◌<◌, ◌<ℤ◌, ◌↔◌, IsTrue, suc, pos, IfOk, length};
 ghost use Rattle.std.specs.List.{Contains};
-ghost use Rattle.std.specs.Result.{IsOk};
 ghost use Rattle.poly_model.specs.Dictionaries.{Table};
 ghost use Rattle.dictionary_laws.specs.Keys.{place_in};
 ghost use Rattle.dictionary.specs.Cells.{cell};
-ghost use Rattle.dictionary.specs.Views.{table_of, IsPivot, CanPivot, IsOverflow, NothingPasses};
+ghost use Rattle.dictionary.specs.Views.{table_of};
 
 use crate::cells::cell_at;
-use crate::places::place_of;
+use crate::places::{has, place_of};
 use poly_model::{Key, Label, Phase};
 use poly_num::Num;
 use std::alloc::AllocError;
@@ -37,8 +36,8 @@ pub struct Dict {
 impl Model for Dict {
     ghost use Rattle.std.specs.Prelude.{◌≡◌, suc, length};
     ghost use Rattle.dictionary_laws.specs.Keys.{place_in};
-ghost use Rattle.dictionary.specs.Cells.{cell};
-ghost use Rattle.dictionary.specs.Views.{Dictionary, IsWhole};
+    ghost use Rattle.dictionary.specs.Cells.{cell};
+    ghost use Rattle.dictionary.specs.Views.{Dictionary, IsWhole};
 
     ghost Value = { Dictionary };
 
@@ -68,6 +67,20 @@ impl Dict {
         ensures positive { pos 0 <ℤ result }
     {
         self.denominator
+    }
+
+    /// Whether it has a row for this label.
+    pub fn has_label(&self, label: Label) -> bool
+        ensures { IsTrue result ↔ Contains self.now.labels label.0 }
+    {
+        has(&self.labels, label.0)
+    }
+
+    /// Whether this label is in the cobasis.
+    pub fn in_cobasis(&self, label: Label) -> bool
+        ensures { IsTrue result ↔ Contains self.now.key label.0 }
+    {
+        has(self.key.labels(), label.0)
     }
 
     /// The constant of a label.
@@ -101,6 +114,20 @@ impl Dict {
             cells: self.cells.clone()?,
             pivot_row: self.pivot_row.clone()?,
         })
+    }
+
+    /// Makes another dictionary of the same shape equal to this one, with no memory taken.
+    pub fn copy_into(&self, to: &mut Dict)
+        requires rows { length to.old.labels ≡ length self.now.labels }
+        requires columns { length to.old.columns ≡ length self.now.columns }
+        ensures { to.new ≡ self.now }
+    {
+        to.phase = self.phase;
+        to.key = self.key;
+        to.labels.copy_from_slice(&self.labels);
+        to.columns.copy_from_slice(&self.columns);
+        to.denominator = self.denominator;
+        to.cells.copy_from_slice(&self.cells);
     }
 
     // The row of cells of a label.

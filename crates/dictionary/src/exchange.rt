@@ -1,10 +1,12 @@
 //! The exchange of a row and a column in a table of cells, in place.
-ghost use Rattle.std.specs.Prelude.{◌≡◌, ◌≢◌, ◌<◌, ◌*◌, ◌*ℤ◌, ◌-ℤ◌, ◌<ℤ◌, length, pos};
+ghost use Rattle.std.specs.Prelude.{◌≡◌, ◌≢◌, ◌<◌, ◌*◌, ◌*ℤ◌, ◌-ℤ◌, ◌<ℤ◌, IsTrue, length, pos};
 ghost use Rattle.std.specs.List.{slice_index_or};
 ghost use Rattle.poly_num.specs.Numbers.{IsNum, Crosses};
-ghost use Rattle.dictionary.specs.Cells.{cell, pivot_cell, Fits, IsPivotRow, AreExchangedCells, IsReduced, IsExchanged};
+ghost use Rattle.dictionary.specs.WordExchange.{HasUnitRow};
+ghost use Rattle.dictionary.specs.Cells.{AreNarrow, cell, pivot_cell, Fits, IsPivotRow, AreExchangedCells, IsReduced, IsExchanged};
 
 use crate::cells::{at_place, cell_at};
+use crate::words::exchange_words;
 use poly_num::{Num, known_cross, known_product, negate, primitive};
 
 /// The exchange of a row and a column, both counted from 0, in a table of so many rows of `width` cells
@@ -100,4 +102,26 @@ pub fn exchange_in_place(cells: &mut [Num], pivot_row: &mut [Num], x: &Exchange)
     copy_row(cells, x, pivot_row);
     write(cells, pivot_row, x);
     reduce(cells, x.row * x.width + x.column);
+}
+
+/// Exchanges the row and the column, where no product passes: in one pass over the table where the cells
+/// are narrow. `pivot_row` has room for a row.
+pub fn exchange_cells(cells: &mut [Num], pivot_row: &mut [Num], x: &Exchange, narrow: bool)
+    requires size { length cells.old ≡ x.now.height * x.now.width }
+    requires room { length pivot_row.old ≡ x.now.width }
+    requires row { x.now.row < x.now.height }
+    requires column { x.now.column < x.now.width }
+    requires denominator { pos 0 <ℤ x.now.denominator }
+    requires nonzero { pivot_cell x.now cells.old ≢ pos 0 }
+    requires fits { Fits x.now cells.old }
+    requires unit { HasUnitRow x.now cells.old }
+    requires narrow { IsTrue narrow → AreNarrow cells.old x.now.denominator }
+    ensures exchanged { IsExchanged x.now cells.old cells.new }
+    ensures room { length pivot_row.new ≡ x.now.width }
+{
+    if narrow {
+        exchange_words(cells, pivot_row, x);
+    } else {
+        exchange_in_place(cells, pivot_row, x);
+    }
 }

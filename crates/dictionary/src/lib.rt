@@ -2,11 +2,15 @@
 #![tactic(auto)]
 
 mod cells;
-mod exchange;
 mod dict;
+mod exchange;
+mod main_phase;
+mod new;
 mod passing;
 mod pivot;
 mod places;
+#[cfg(test)]
+mod tests;
 mod words;
 
 pub use dict::Dict;

@@ -1,12 +1,19 @@
 //! Which product of an exchange passes: each is tested before anything is written.
-ghost use Rattle.std.specs.Prelude.{◌≡◌, ◌<◌, ◌*◌, ◌*ℤ◌, ◌-ℤ◌, length};
+ghost use Rattle.std.specs.Prelude.{◌≡◌, ◌<◌, ◌*◌, ◌*ℤ◌, ◌-ℤ◌, IsTrue, length};
 ghost use Rattle.std.specs.Option.{MatchOption, SomeIff};
 ghost use Rattle.poly_num.specs.Numbers.{Crosses};
-ghost use Rattle.dictionary.specs.Cells.{cell, pivot_cell, RowFits, Fits, PassesAt};
+ghost use Rattle.dictionary.specs.Cells.{cell, pivot_cell, AreNarrow, RowFits, Fits, PassesAt};
 
 use crate::cells::cell_at;
 use crate::exchange::Exchange;
-use poly_num::{Num, cross, mul};
+use poly_num::{Num, are_words, cross, is_word, mul};
+
+/// Whether the denominator and all cells fit a machine word. Then nothing can pass.
+pub fn are_narrow(cells: &[Num], denominator: Num) -> bool
+    ensures { IsTrue result → AreNarrow cells.now denominator }
+{
+    is_word(denominator) && are_words(cells)
+}
 
 /// A place of a table: a row and a column, both counted from 0.
 #[derive(Clone, Copy, PartialEq, Eq, Debug)]
@@ -71,4 +78,15 @@ pub fn passing(cells: &[Num], x: &Exchange) -> Option<Spot>
         }
     }
     None
+}
+
+/// The same; cells that are narrow are not looked at.
+pub fn passing_unless(cells: &[Num], x: &Exchange, narrow: bool) -> Option<Spot>
+    requires size { length cells.now ≡ x.now.height * x.now.width }
+    requires row { x.now.row < x.now.height }
+    requires column { x.now.column < x.now.width }
+    requires narrow { IsTrue narrow → AreNarrow cells.now x.now.denominator }
+    ensures { MatchOption result (Fits x.now cells.now) (λ spot. PassesAt x.now cells.now spot.row spot.column) }
+{
+    if narrow { None } else { passing(cells, x) }
 }

@@ -1,18 +1,30 @@
 //! The pivot: a label enters the cobasis in the place of another.
-ghost use Rattle.std.specs.Prelude.{◌≡◌, ◌<◌, suc, length, IfOk, IfErr};
+ghost use Rattle.std.specs.Prelude.{◌≡◌, ◌<◌, ◌↔◌, IsTrue, suc, length, IfOk, IfErr};
 ghost use Rattle.std.specs.Result.{IsOk};
 ghost use Rattle.std.specs.List.{Contains};
-ghost use Rattle.dictionary.specs.Cells.{Fits, PassesAt};
+ghost use Rattle.dictionary.specs.Cells.{AreNarrow, Fits, PassesAt};
 ghost use Rattle.dictionary.specs.Views.{exchange_at, column_label, CanPivot, IsPivot, IsOverflow, NothingPasses};
 
 use crate::Dict;
 use crate::cells::at_place;
-use crate::exchange::{Exchange, exchange_in_place};
-use crate::passing::{Spot, passing};
+use crate::exchange::{Exchange, exchange_cells};
+use crate::passing::{Spot, are_narrow, passing_unless};
 use crate::places::place_of;
 use poly_model::{Label, Overflow, Place};
+use poly_num::Num;
 
 impl Dict {
+    /// Whether `row` can take the place of `col`: it is a label outside the cobasis, `col` is in it, and
+    /// the entry of the two is not 0.
+    pub fn can_pivot(&self, row: Label, col: Label) -> bool
+        ensures { IsTrue result ↔ CanPivot self.now row.0 col.0 }
+    {
+        self.has_label(row)
+            && !self.in_cobasis(row)
+            && self.in_cobasis(col)
+            && self.entry(row, col) != Num::ZERO
+    }
+
     /// Exchanges `row`, which is outside the cobasis, for `col`, which is in it. Takes no memory.
     ///
     /// Every product and every difference of two is tested before the first number is written. Where one
@@ -25,10 +37,11 @@ impl Dict {
         ensures complete { NothingPasses self.old row.0 col.0 → IsOk result }
     {
         let x = self.exchange_of(row, col);
-        match passing(&self.cells, &x) {
+        let narrow = are_narrow(&self.cells, self.denominator);
+        match passing_unless(&self.cells, &x, narrow) {
             Some(spot) => Err(self.overflow_at(row, col, spot)),
             None => {
-                self.carry_out(row, col, &x);
+                self.carry_out(row, col, &x, narrow);
                 Ok(())
             }
         }
@@ -50,14 +63,15 @@ impl Dict {
     }
 
     // The exchange, where nothing passes.
-    fn carry_out(&mut self, row: Label, col: Label, x: &Exchange)
+    fn carry_out(&mut self, row: Label, col: Label, x: &Exchange, narrow: bool)
         requires can { CanPivot self.old row.0 col.0 }
         requires exchange { x.now ≡ exchange_at self.old row.0 col.0 }
         requires fits { Fits x.now self.old.cells }
+        requires narrow { IsTrue narrow → AreNarrow self.old.cells self.old.denominator }
         ensures { IsPivot self.old row.0 col.0 self.new }
     {
         let at = place_of(self.key.labels(), col.0);
-        exchange_in_place(&mut self.cells, &mut self.pivot_row, x);
+        exchange_cells(&mut self.cells, &mut self.pivot_row, x, narrow);
         self.denominator = at_place(&self.cells, x.row * x.width + x.column);
         self.key = self.key.without_at(at).with(row.0);
         self.columns[x.column - 1] = row.0;
@@ -77,7 +91,10 @@ impl Dict {
         } else {
             let other = self.column_label(spot.column);
             let pivot = Place { row, col };
-            let inside = Place { row: label, col: other };
+            let inside = Place {
+                row: label,
+                col: other,
+            };
             self.overflow(pivot, inside, at, Place { row, col: other })
         }
     }

@@ -1,13 +1,17 @@
 //! Places of labels in lists of labels.
-ghost use Rattle.std.specs.Prelude.{◌≡◌, ◌<◌, length};
+ghost use Rattle.std.specs.Prelude.{◌≡◌, ◌<◌, ◌↔◌, IsTrue, length};
 ghost use Rattle.std.specs.List.{Contains};
+ghost use Rattle.poly_model.specs.Keys.{IsKey};
 ghost use Rattle.dictionary_laws.specs.Keys.{place_in};
 
+use poly_model::Key;
+
 /// How many labels stand before the first that is `label`.
-#[tactic(auto, using(crate::proofs::PlaceLemmas::place_within))]
+#[tactic(auto, using(crate::proofs::PlaceLemmas::place_within, crate::proofs::PlaceLemmas::place_has))]
 pub fn place_of(labels: &[u16], label: u16) -> usize
     ensures value { result ≡ place_in labels.now label }
     ensures within { Contains labels.now label → result < length labels.now }
+    ensures member { result < length labels.now → Contains labels.now label }
 {
     'labels: for (i, l) in labels.iter().enumerate() {
         if *l == label {
@@ -15,4 +19,19 @@ pub fn place_of(labels: &[u16], label: u16) -> usize
         }
     }
     labels.len()
+}
+
+/// Whether `label` is one of them.
+pub fn has(labels: &[u16], label: u16) -> bool
+    ensures { IsTrue result ↔ Contains labels.now label }
+{
+    place_of(labels, label) < labels.len()
+}
+
+/// The key of ascending labels.
+pub fn key_of(labels: &[u16]) -> Key
+    requires { IsKey labels.now }
+    ensures { result ≡ labels.now }
+{
+    Key::from_ascending(labels).unwrap_or(Key::empty())
 }

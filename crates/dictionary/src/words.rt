@@ -184,7 +184,16 @@ fn quick(half: bool, e: Num, p: Num, c: Num, a: Num, divisor: &Divisor) -> Optio
 
 // `e p - c a` over the divisor. Where that does not divide it, the divisor shrinks, and the cells before the
 // place grow.
-fn over_cross(cells: &mut [Num], place: usize, e: Num, p: Num, c: Num, a: Num, half: bool, divisor: &mut Divisor) -> Num
+fn over_cross(
+    cells: &mut [Num],
+    place: usize,
+    e: Num,
+    p: Num,
+    c: Num,
+    a: Num,
+    half: bool,
+    divisor: &mut Divisor,
+) -> Num
     requires place { place ≤ length cells.old }
     requires e { IsWord e }
     requires p { IsWord p }

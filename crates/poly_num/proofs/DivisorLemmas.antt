@@ -25,6 +25,9 @@ gcd_same a b g h = same_from_IsGcd a b g (gcd_of a b) h (gcd_of_is a b)
 pub gcd_of_comm : (a b : ℕ) → gcd_of a b ≡ gcd_of b a
 gcd_of_comm a b = gcd_same b a (gcd_of a b) (IsGcd-swap a b (gcd_of a b) (gcd_of_is a b))
 
+pub IsGcd-one : (a b : ℕ) → b ≡ 1 → IsGcd a b 1
+IsGcd-one a b e = rw e (one-dvd a, one-dvd 1, λ d p q. q)
+
 pub gcd_of-zero : (a : ℕ) → gcd_of a 0 ≡ a
 gcd_of-zero a = sym (gcd_same a 0 a (IsGcd-from_zero a 0 refl))
 

@@ -26,6 +26,7 @@ impl Model for Frac {
 
 impl Frac {
     /// `num / den` in lowest terms; `None` exactly where `den` is 0.
+    #[inline(always)]
     pub fn new(num: Num, den: Num) -> Option<Frac>
         ensures none { IsNone result ↔ (den ≡ pos 0) }
         ensures ratio { IfSome result (λ f. IsRatio f num den) }

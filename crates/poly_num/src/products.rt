@@ -6,8 +6,22 @@ ghost use Rattle.poly_num.specs.Numbers.{IsNum, Crosses};
 
 use crate::{Num, sub};
 
-/// `a b`; `None` exactly where it passes 127 bits.
+/// `a b`; `None` exactly where it passes 127 bits. Numbers of 64 bits take one machine product.
 pub fn mul(a: Num, b: Num) -> Option<Num>
+    ensures { SomeIff result (IsNum (a *ℤ b)) (a *ℤ b) }
+{
+    if let Some(x) = narrowed(a)
+        && let Some(y) = narrowed(b)
+    {
+        Some(narrow_product(x, y))
+    } else {
+        checked_mul(a, b)
+    }
+}
+
+// `a b`, with a test for an overflow.
+#[cold]
+fn checked_mul(a: Num, b: Num) -> Option<Num>
     ensures { SomeIff result (IsNum (a *ℤ b)) (a *ℤ b) }
 {
     match a.value.checked_mul(b.value) {
@@ -56,13 +70,13 @@ pub fn known_cross(a: Num, b: Num, c: Num, d: Num) -> Num
 fn checked_cross(a: Num, b: Num, c: Num, d: Num) -> Option<Num>
     ensures { SomeIff result (Crosses a b c d) (a *ℤ b -ℤ c *ℤ d) }
 {
-    let p = mul(a, b)?;
-    let q = mul(c, d)?;
+    let p = checked_mul(a, b)?;
+    let q = checked_mul(c, d)?;
     sub(p, q)
 }
 
 // The number, where it has 64 bits.
-fn narrowed(a: Num) -> Option<i64>
+pub(crate) fn narrowed(a: Num) -> Option<i64>
     ensures { SomeIff result (FitsSigned w64 a) a }
 {
     i64::try_from(a.value).ok()

@@ -4,6 +4,7 @@ pub mod FirstLine
 pub mod WordsOn
 pub mod WordCounts
 pub mod CappedValues
+pub mod ShortParts
 pub mod NameLemmas
 pub mod HeadLemmas
 pub mod HeaderLemmas

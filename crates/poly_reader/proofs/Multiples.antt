@@ -1,6 +1,7 @@
 -- Euclid's lemma, and the least common multiple: both numbers divide it, and it divides each common multiple.
-use Rattle.std.proofs.Common.{◌≡◌, ◌<◌, ◌≤◌, ◌*◌, ◌/◌, ℕ, zero, suc, sym, ap, subst, ◌∙◌, arith}
+use Rattle.std.proofs.Common.{◌≡◌, ◌<◌, ◌≤◌, ◌*◌, ◌/◌, ◌%◌, ℕ, zero, suc, sym, ap, subst, ◌∙◌, arith}
 use Prim.Native.Nat.{◌∣◌}
+use Rattle.std.proofs.lemmas.Nat.Gcd.{dvd_refl, dvd_of_mod-eq-zero}
 use Rattle.std.proofs.Math.Nat.{dvd-mul_left, one-mul, mul_assoc, mul_comm, div-mul_cancel, mul-dvd-mul_right, dvd_of_mul-dvd-mul_right}
 use Rattle.poly_num.specs.Divisors.{gcd_of}
 use Rattle.poly_num.proofs.DivisorLemmas.{gcd_of_is, gcd_of-times, gcd_same, gcd_positive, coprime_left, left_positive}
@@ -50,6 +51,14 @@ lcm-dvd a b m lt h k =
         let within : x * g ∣ (y * n) * g = subst (λ (z : ℕ). x * g ∣ z) m_is (subst (λ (z : ℕ). z ∣ m) (sym e) h) in
         let left : x ∣ n = dvd_from_coprime x y n one (dvd_of_mul-dvd-mul_right x positive within) in
         subst (λ (z : ℕ). x * b ∣ z) l (mul-dvd-mul_right x left b)
+
+-- what is a multiple already
+pub lcm_of_multiple : (a b : ℕ) → a % b ≡ 0 → a ≡ lcm_of a b
+unfolding lcm_of
+lcm_of_multiple a b e =
+    let h : b ∣ a = dvd_of_mod-eq-zero b e in
+    let g : gcd_of a b ≡ b = sym (gcd_same a b b (h, dvd_refl b, λ d p q. q)) in
+    sym (rw g (div-mul_cancel b h))
 
 times_at_least : (a k : ℕ) → 0 < k → a ≤ k * a
 times_at_least a zero lt = absurd (omega arith)

@@ -1,7 +1,9 @@
 //! The lines of a text, each as its words: two cursors, above which nothing speaks of bytes.
 ghost use Rattle.std.specs.Prelude.{position, count_by, ◌≡◌, ◌≤◌, ◌<◌, ◌+◌, ◌^◌, [], ◌∷◌, length, MatchOption};
+ghost use Rattle.memchr.specs.Find.{IsFirstByte};
 ghost use Rattle.poly_reader.specs.Lines.{is_newline, is_blank, is_word_byte, is_same, word, words_on, lines_of, last_line};
 
+use memchr::memchr;
 use std::marker::Model;
 
 /// A word of a text, and the number of its line.
@@ -71,17 +73,49 @@ fn blank_at(line: &[u8]) -> Option<usize>
     line.iter().position(|b| is_blank_byte(*b))
 }
 
-fn newline_at(text: &[u8]) -> Option<usize>
+fn is_newline_byte(b: u8) -> bool
+    ensures { result ≡ is_newline b }
+{
+    b == b'\n'
+}
+
+fn near_newline_at(text: &[u8]) -> Option<usize>
     ensures { result ≡ position is_newline text.now }
 {
     text.iter().position(|b| *b == b'\n')
+}
+
+// The same by vectors, for what may be long; a call, so that the code around it stays small.
+#[inline(never)]
+fn far_newline_at(text: &[u8]) -> Option<usize>
+    ensures { IsFirstByte is_newline text.now result }
+{
+    memchr(b'\n', text)
+}
+
+// A short line ends before a search by vectors pays.
+fn newline_at(text: &[u8]) -> Option<usize>
+    ensures { result ≡ position is_newline text.now }
+{
+    let near = text.len().min(16);
+    match near_newline_at(&text[..near]) {
+        Some(at) => Some(at),
+        None => {
+            let found = far_newline_at(&text[near..])?;
+            Some(near + found)
+        }
+    }
 }
 
 fn newlines(text: &[u8]) -> usize
     ensures count { result ≡ count_by is_newline text.now }
     ensures within { result ≤ length text.now }
 {
-    text.iter().filter(|b| **b == b'\n').count()
+    let mut count = 0;
+    'text: for b in text {
+        count += usize::from(is_newline_byte(*b));
+    }
+    count
 }
 
 /// The number of the line on which a text ends.
@@ -175,6 +209,7 @@ impl<'a> Lines<'a> {
     }
 
     /// The first line, and the lines after it; none where no line is left.
+    #[inline(always)]
     pub fn next(&self) -> Option<(LineWords<'a>, Lines<'a>)>
         ensures { MatchOption result (self.now ≡ []) (λ r. self.now ≡ r.0 ∷ r.1) }
     {

@@ -1,5 +1,5 @@
 //! Words that are numbers.
-ghost use Rattle.std.specs.Prelude.{◌≡◌, ◌≤◌, ◌^◌, pos, position, option_map, Ok, IfOk};
+ghost use Rattle.std.specs.Prelude.{◌≡◌, ◌≤◌, ◌^◌, true, pos, position, option_map, Some, Ok, IfOk, IfSome, take, length};
 ghost use Rattle.std.specs.List.{list_all};
 ghost use Rattle.poly_reader.specs.Grammar.{is_digit, with_digit_of, value_of, is_count, count_of, is_negative, unsigned, is_slash, numerator_of, denominator_of, signed, capped};
 ghost use Rattle.poly_num.specs.Fractions.{lowest};
@@ -84,14 +84,81 @@ fn slash_at(word: &[u8]) -> Option<usize>
     word.iter().position(|b| *b == b'/')
 }
 
-// The sizes above and below the slash.
-fn parts(word: &[u8]) -> (Option<u128>, Option<u128>)
+// The value with one more digit. None where the byte is no digit; none also where the value before
+// is large, so that the value with one more fits the machine's words.
+fn with_one_more(value: u64, b: u8) -> Option<u64>
+    ensures { IfSome result (λ more. (is_digit b ≡ true) × (more ≡ with_digit_of value b)) }
+{
+    if value < 1 << 59 && is_digit_byte(b) {
+        Some(10 * value + b.saturating_sub(b'0') as u64)
+    } else {
+        None
+    }
+}
+
+// The value of the digits with which a text begins, and how many of them were taken: all, as long as
+// the value is small.
+fn leading_digits(text: &[u8]) -> (u64, usize)
+    ensures value { result.0 ≡ value_of (take result.1 text.now) }
+    ensures digits { list_all is_digit (take result.1 text.now) ≡ true }
+    ensures within { result.1 ≤ length text.now }
+{
+    let mut value = 0;
+    'digits: for (i, b) in text.iter().enumerate() {
+        match with_one_more(value, *b) {
+            Some(more) => value = more,
+            None => return (value, i),
+        }
+    }
+    (value, text.len())
+}
+
+// The sizes above and below the slash of a word whose numbers are small; it is gone through once.
+fn short_parts(word: &[u8]) -> Option<(u64, u64)>
+    ensures { IfSome result (λ r. (numerator_of word.now ≡ Some r.0) × (denominator_of word.now ≡ Some r.1)) }
+{
+    let (above, end) = leading_digits(word);
+    if end == 0 {
+        return None;
+    }
+    if end == word.len() {
+        return Some((above, 1));
+    }
+    if word[end] != b'/' {
+        return None;
+    }
+    let rest = &word[end + 1..];
+    let (below, taken) = leading_digits(rest);
+    if taken == 0 {
+        return None;
+    }
+    if taken < rest.len() {
+        return None;
+    }
+    Some((above, below))
+}
+
+// The sizes above and below the slash of any word.
+#[cold]
+fn long_parts(word: &[u8]) -> (Option<u128>, Option<u128>)
     ensures above { result.0 ≡ option_map capped (numerator_of word.now) }
     ensures below { result.1 ≡ option_map capped (denominator_of word.now) }
 {
     match slash_at(word) {
         Some(at) => (count(&word[..at]), count(&word[at + 1..])),
         None => (count(word), Some(1)),
+    }
+}
+
+// The sizes above and below the slash.
+#[inline(always)]
+fn parts(word: &[u8]) -> (Option<u128>, Option<u128>)
+    ensures above { result.0 ≡ option_map capped (numerator_of word.now) }
+    ensures below { result.1 ≡ option_map capped (denominator_of word.now) }
+{
+    match short_parts(word) {
+        Some((above, below)) => (Some(above as u128), Some(below as u128)),
+        None => long_parts(word),
     }
 }
 

@@ -83,7 +83,7 @@ fn numbers_of<'a>(
     ensures full { IfOk result (λ r. length r.0.items ≡ width) }
     ensures rest { IfOk result (λ r. r.1 ≡ drop width words.entry) }
 {
-    let mut numbers = Vec::new(alloc);
+    let mut numbers = Vec::with_capacity(alloc, width)?;
     let mut words = words;
     let mut left = width;
     'numbers: while left > 0 {

@@ -1,5 +1,5 @@
 //! The whole vector without common divisor in the direction of a row of fractions.
-ghost use Rattle.std.specs.Prelude.{◌≡◌, ℕ, pos, int_div, ◌≤◌, ◌<◌, ◌^◌, IfOk, IfSome, option_map};
+ghost use Rattle.std.specs.Prelude.{◌≡◌, ℕ, pos, int_div, ◌/◌, ◌%◌, ◌==◌, ◌≤◌, ◌<◌, ◌^◌, IfOk, IfSome, option_map};
 ghost use Rattle.std.specs.Option.{SomeIff};
 ghost use Rattle.poly_num.specs.Numbers.{IsNum};
 ghost use Rattle.poly_num.specs.Divisors.{gcd_of, gcd_of_all};
@@ -24,12 +24,40 @@ fn gcd_of_sizes(a: u128, b: u128) -> u128
     gcd(Num::from_parts(false, a), Num::from_parts(false, b)).size()
 }
 
+// Whether b divides a; in 64 bits where both have no more.
+fn is_multiple(a: u128, b: u128) -> bool
+    requires { 0 < b }
+    ensures { result ≡ (a % b == 0) }
+{
+    if a < 1 << 64 && b < 1 << 64 {
+        a as u64 % b as u64 == 0
+    } else {
+        a % b == 0
+    }
+}
+
+// The whole quotient; in 64 bits where both have no more.
+fn over_size(a: u128, b: u128) -> u128
+    requires { 0 < b }
+    ensures { result ≡ a / b }
+{
+    if a < 1 << 64 && b < 1 << 64 {
+        (a as u64 / b as u64) as u128
+    } else {
+        a / b
+    }
+}
+
+// Most often b divides a.
 fn lcm(a: u128, b: u128) -> Option<u128>
     requires left { IsDen a }
     requires right { IsDen b }
     ensures { SomeIff result (lcm_of a b < 2 ^ 127) (lcm_of a b) }
 {
-    let left = a / gcd_of_sizes(a, b);
+    if is_multiple(a, b) {
+        return Some(a);
+    }
+    let left = over_size(a, gcd_of_sizes(a, b));
     match left.checked_mul(b) {
         Some(m) => { if m < 1 << 127 { Some(m) } else { None } }
         None => None,
@@ -78,27 +106,14 @@ fn common_numerator(row: &[Frac]) -> u128
     p
 }
 
-// Most often the divisor is 1.
-fn over(num: Num, p: u128) -> Num
-    requires divisor { p < 2 ^ 127 }
-    requires some { 0 < p }
-    ensures { result ≡ int_div num (pos p) }
-{
-    if p == 1 {
-        num
-    } else {
-        quotient(num, Num::from_parts(false, p))
-    }
-}
-
 fn entry(p: u128, q: u128, f: Frac) -> Option<Num>
     requires fits { q < 2 ^ 127 }
     requires divisor { p < 2 ^ 127 }
     requires some { 0 < p }
     ensures { SomeIff result (IsNum (entry_of p q f)) (entry_of p q f) }
 {
-    let top = over(f.num(), p);
-    mul(top, Num::from_parts(false, q / size_of_den(f)))
+    let top = quotient(f.num(), Num::from_parts(false, p));
+    mul(top, Num::from_parts(false, over_size(q, size_of_den(f))))
 }
 
 fn entries(alloc: Global, row: &[Frac], p: u128, q: u128) -> Result<Option<Vec<Num>>, AllocError>
@@ -107,7 +122,7 @@ fn entries(alloc: Global, row: &[Frac], p: u128, q: u128) -> Result<Option<Vec<N
     requires some { 0 < p }
     ensures { IfOk result (λ o. AreEntries p q row.now (option_map (λ v. v.items) o)) }
 {
-    let mut entries = Vec::new(alloc);
+    let mut entries = Vec::with_capacity(alloc, row.len())?;
     'row: for f in row {
         match entry(p, q, *f) {
             Some(z) => entries.push(z)?,

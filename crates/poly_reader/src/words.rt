@@ -40,6 +40,7 @@ impl<'a> Words<'a> {
     }
 
     /// The first word, and the words after it; none where no word is left.
+    #[inline(always)]
     pub fn next(&self) -> Option<(Token<'a>, Words<'a>)>
         ensures { MatchOption result (self.now ≡ []) (λ r. self.now ≡ word r.0 ∷ r.1) }
     {

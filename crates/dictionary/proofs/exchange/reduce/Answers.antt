@@ -1,4 +1,3 @@
-use Rattle.std.proofs.Common.{◌≡◌}
 use Rattle.dictionary.proofs.Reduced.{kept, turned}
 use Rattle.dictionary.proofs.exchange.reduce.Goals as goal
 
@@ -7,9 +6,9 @@ returns-then-not-is_positive c =
     rw c.negate.ensures
     (turned c.args.place c.args.cells.now c.primitive.new.v c.requires.nonzero c.primitive.ensures.primitive
     (λ p.
-        let t = c.is_positive.ensures.1 (rw c.at_place.ensures p) in
-        let f = c.if-not-is_positive.true in
-        cc))
+    let t = c.is_positive.ensures.1 (rw c.at_place.ensures p) in
+    let f = c.if-not-is_positive.true in
+    cc))
 
 pub returns-else-not-is_positive : goal.returns-else-not-is_positive
 returns-else-not-is_positive c =

@@ -35,14 +35,14 @@ pub over_common-c-requires-clause-divides : goal.over_common-c-requires-clause-d
 over_common-c-requires-clause-divides c =
     let h = c.common_factor-common in
     let same = c.cell_at.ensures
-        ∙ c.rows.invariant.rest c.rows.i c.args.x.now.column c.rows-test.true c.requires.column (omega arith) in
+    ∙ c.rows.invariant.rest c.rows.i c.args.x.now.column c.rows-test.true c.requires.column (omega arith) in
     subst (λ (z : ℤ). unsigned_abs h.result ∣ unsigned_abs z) (sym same) (h.ensures.column c.rows.i c.rows-test.true)
 
 pub word_product-own-requires-clause-right : goal.word_product-own-requires-clause-right
 word_product-own-requires-clause-right c =
     let x = c.args.x.now in
     let same = c.cell_at.ensures
-        ∙ c.rows.invariant.rest c.rows.i x.column c.rows-test.true c.requires.column (omega arith) in
+    ∙ c.rows.invariant.rest c.rows.i x.column c.rows-test.true c.requires.column (omega arith) in
     quotient_word c.over_common-c.result c.common_factor-common.result c.cell_at.result
     c.common_factor-common.ensures.positive c.over_common-c.ensures
     (subst IsWord (sym same)
@@ -71,7 +71,7 @@ over_cross-z-requires-clause-c c =
     let x = c.args.x.now in
     let t = c.sign_number-sign in
     let same = c.cell_at.ensures
-        ∙ c.rows.invariant.rest c.rows.i x.column c.rows-test.true c.requires.column (omega arith) in
+    ∙ c.rows.invariant.rest c.rows.i x.column c.rows-test.true c.requires.column (omega arith) in
     subst IsWord (sym c.word_product-own.ensures)
     (turned_word t.result c.over_common-c.result t.ensures.size
     (quotient_word c.over_common-c.result c.common_factor-common.result c.cell_at.result
@@ -83,7 +83,7 @@ pub over_cross-z-requires-clause-e : goal.over_cross-z-requires-clause-e
 over_cross-z-requires-clause-e c =
     let x = c.args.x.now in
     let same = c.cell_at-e.ensures
-        ∙ c.columns.invariant.rest c.rows.i c.columns.j c.rows-test.true c.columns-test.true (omega arith) in
+    ∙ c.columns.invariant.rest c.rows.i c.columns.j c.rows-test.true c.columns-test.true (omega arith) in
     subst IsWord (sym same)
     (word_at x c.args.cells.now c.requires.size c.requires.words c.rows.i c.columns.j c.rows-test.true c.columns-test.true)
 
@@ -117,7 +117,7 @@ over_cross-z-requires-clause-fits c =
     let t = c.sign_number-sign in
     let h = c.common_factor-common in
     let nonzero = factor_nonzero (pivot_cell x c.args.cells.now) t.result h.result q.nonzero
-        (subst (λ (z : ℤ). IsSignOf z t.result) c.cell_at-pivot.ensures t.ensures) h.ensures.positive in
+    (subst (λ (z : ℤ). IsSignOf z t.result) c.cell_at-pivot.ensures t.ensures) h.ensures.positive in
     let l = mul-add-lt c.rows.i x.width c.columns.j x.height c.rows-test.true c.columns-test.true in
     over_fits x c.args.cells.now (t.result *ℤ h.result) q.size q.row q.column q.words q.word nonzero
     (c.rows.i * x.width + c.columns.j) c.columns.divisor c.columns.cells (omega (arith, mul_comm x.height x.width))
@@ -142,13 +142,13 @@ columns-preserved c =
     let nonzero = factor_nonzero (pivot_cell x old) t.result h.result q.nonzero sign h.ensures.positive in
     let ep = c.over_common-p.ensures ∙ c.word_product.ensures ∙ ap (λ (z : ℤ). t.result *ℤ z) c.cell_at-pivot.ensures in
     let ec = c.over_common-c.ensures ∙ c.cell_at.ensures
-        ∙ c.rows.invariant.rest i x.column c.rows-test.true q.column (omega arith) in
+    ∙ c.rows.invariant.rest i x.column c.rows-test.true q.column (omega arith) in
     let same = c.cell_at-e.ensures
-        ∙ c.columns.invariant.rest i j c.rows-test.true c.columns-test.true (omega arith) in
+    ∙ c.columns.invariant.rest i j c.rows-test.true c.columns-test.true (omega arith) in
     let en : n ≡ cell x.width old i j *ℤ p -ℤ own *ℤ get_or row j (pos 0) =
     g.ensures.quotient ∙ rw (same, c.at_place-a.ensures) refl in
     let is = undivided_is x old row h.result t.result p c.args.shift q.column sign c.copy_shifted.ensures q.shift ep i j
-        c.columns-test.true c.over_common-c.result own n ec c.word_product-own.ensures en in
+    c.columns-test.true c.over_common-c.result own n ec c.word_product-own.ensures en in
     over_along x old f (i * x.width + j + 1) (i * x.width + (j + 1)) _ _ (omega arith)
     (over_more x old f nonzero q.size i j c.rows-test.true c.columns-test.true c.columns.divisor g.new.divisor
     c.columns.cells g.new.cells n g.result is refl g.ensures.left g.ensures.rescaled c.columns.invariant)
@@ -164,13 +164,13 @@ rows-preserved-then-stays c =
     let sign = subst (λ (z : ℤ). IsSignOf z t.result) c.cell_at-pivot.ensures t.ensures in
     let ep = c.over_common-p.ensures ∙ c.word_product.ensures ∙ ap (λ (z : ℤ). t.result *ℤ z) c.cell_at-pivot.ensures in
     let ec = c.over_common-c.ensures ∙ c.cell_at.ensures
-        ∙ c.rows.invariant.rest i x.column c.rows-test.true q.column (omega arith) in
+    ∙ c.rows.invariant.rest i x.column c.rows-test.true q.column (omega arith) in
     let same = c.stays.ensures c.if-stays.true in
     over_stays x old (t.result *ℤ h.result) i c.rows.divisor c.rows.cells c.rows-test.true
     (λ j hj.
-        stays_is x old c.copy_shifted.new.row h.result t.result c.over_common-p.result c.args.shift q.column sign
-        c.copy_shifted.ensures q.shift ep i j hj c.over_common-c.result c.word_product-own.result c.rows.divisor ec
-        c.word_product-own.ensures same.0 same.1)
+    stays_is x old c.copy_shifted.new.row h.result t.result c.over_common-p.result c.args.shift q.column sign
+    c.copy_shifted.ensures q.shift ep i j hj c.over_common-c.result c.word_product-own.result c.rows.divisor ec
+    c.word_product-own.ensures same.0 same.1)
     c.rows.invariant
 
 pub rows-preserved : goal.rows-preserved

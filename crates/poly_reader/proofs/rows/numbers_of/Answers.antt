@@ -5,7 +5,8 @@ use Rattle.poly_reader.proofs.RowLemmas.{row_starts, row_ends, rest_at_end, no_w
 use Rattle.poly_reader.proofs.rows.numbers_of.Goals as goal
 
 pub numbers-init : goal.numbers-init
-numbers-init c = row_starts c.args.last c.args.width c.args.words c.new-numbers.result.items c.new-numbers.ensures.items
+numbers-init c =
+    row_starts c.args.last c.args.width c.args.words c.in_ok-numbers.numbers.items c.in_ok-numbers.ensures.items
 
 pub returns-in-None-clause-numbers : goal.returns-in-None-clause-numbers
 returns-in-None-clause-numbers c =
@@ -14,7 +15,7 @@ returns-in-None-clause-numbers c =
 
 pub returns-in_err-number_at-clause-numbers : goal.returns-in_err-number_at-clause-numbers
 returns-in_err-number_at-clause-numbers c =
-    let p = err_from_is_err_and c.from_residual.result c.from_residual.ensures.1 in
+    let p = err_from_is_err_and c.from_residual-in_err-number_at.result c.from_residual-in_err-number_at.ensures.1 in
     rw (p.1, p.2) (no_number c.args.last c.numbers.left c.args.width c.in_err-number_at.field-0.0 (word c.in-Some.next.0)
     c.numbers.words c.in-Some.next.1 c.args.words c.numbers.numbers.items c.numbers-test.true c.in-Some.ensures
     (sym c.in_err-number_at.ensures) c.numbers.invariant)

@@ -1,4 +1,4 @@
-use Rattle.std.proofs.Common.{◌≡◌, ◌+◌, ◌<◌, length, arith, ap, ◌∙◌, suc}
+use Rattle.std.proofs.Common.{length, arith, ap, ◌∙◌}
 use Rattle.dictionary.specs.Views.{Dictionary}
 use Rattle.dictionary.proofs.PlaceLemmas.{has_column}
 use Rattle.dictionary.proofs.dict.Dict.column_of.Goals as goal

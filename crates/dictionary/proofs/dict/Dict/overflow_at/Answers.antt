@@ -1,7 +1,7 @@
-use Rattle.std.proofs.Common.{◌≡◌, ℕ, suc, List, get_or, refl, sym, ap, subst, ◌∙◌}
+use Rattle.std.proofs.Common.{ℕ, sym, ap, subst, ◌∙◌}
 use Rattle.poly_model.specs.declared.overflow.Overflow.{Overflow}
 use Rattle.dictionary.specs.Cells.{PassesAt}
-use Rattle.dictionary.specs.Views.{Dictionary, exchange_at, column_label, IsWhole}
+use Rattle.dictionary.specs.Views.{Dictionary, exchange_at, IsWhole}
 use Rattle.dictionary.proofs.OverflowLemmas.{row_label, inner, outer}
 use Rattle.dictionary.proofs.dict.Dict.overflow_at.Goals as goal
 

@@ -1,12 +1,11 @@
-use Rattle.std.proofs.Common.{◌≡◌, ℕ, List, ℤ, ◌<◌, sym, ap, subst, ◌∙◌}
-use Rattle.dictionary.specs.declared.exchange.Exchange.{Exchange}
+use Rattle.std.proofs.Common.{List, ℤ, ap, subst, ◌∙◌}
 use Rattle.dictionary.specs.Cells.{Fits}
 use Rattle.dictionary.specs.Views.{Dictionary, IsWhole}
 use Rattle.dictionary.proofs.CarriedOut.{column_bound}
 use Rattle.dictionary.proofs.dict.Dict.pivot.Goals as goal
 
-pub passing-requires-clause-column : goal.passing-requires-clause-column
-passing-requires-clause-column c =
+pub passing_unless-requires-clause-column : goal.passing_unless-requires-clause-column
+passing_unless-requires-clause-column c =
     column_bound c.args.self.now c.args.row.0 c.args.col.0
     (subst (λ (d : Dictionary). IsWhole d) c.self.view_is c.self.invariant.1) c.requires
     c.exchange_of-x.result c.exchange_of-x.ensures
@@ -14,5 +13,5 @@ passing-requires-clause-column c =
 pub carry_out-requires-clause-fits : goal.carry_out-requires-clause-fits
 carry_out-requires-clause-fits c =
     subst (λ (v : List ℤ). Fits c.exchange_of-x.result v)
-    (c.deref.ensures.value ∙ ap (λ (d : Dictionary). d.cells) c.self.view_is)
+    (c.deref-2.ensures.value ∙ ap (λ (d : Dictionary). d.cells) c.self.view_is)
     c.in-None.ensures

@@ -3,7 +3,7 @@ use Rattle.std.specs.Prelude.{option_map}
 use Rattle.std.proofs.lemmas.List.{take_rest}
 use Rattle.poly_reader.specs.Grammar.{capped}
 use Rattle.poly_reader.proofs.CappedValues.{denominator_some, denominator_none}
-use Rattle.poly_reader.proofs.number.parts.Goals as goal
+use Rattle.poly_reader.proofs.number.long_parts.Goals as goal
 
 pub returns-in-Some-clause-below : goal.returns-in-Some-clause-below
 returns-in-Some-clause-below c =

@@ -1,0 +1,10 @@
+use Rattle.std.proofs.Common.{ℕ, List, ap, subst, ◌∙◌}
+use Rattle.std.specs.Prelude.{◌↔◌, IsTrue}
+use Rattle.std.specs.List.{Contains}
+use Rattle.dictionary.specs.Views.{Dictionary}
+use Rattle.dictionary.proofs.dict.Dict.in_cobasis.Goals as goal
+
+pub returns : goal.returns
+returns c =
+    subst (λ (ks : List ℕ). IsTrue c.has.result ↔ Contains ks c.args.label.0)
+    (c.labels.ensures.value ∙ ap (λ (d : Dictionary). d.key) c.self.view_is) c.has.ensures

@@ -1,0 +1,61 @@
+-- From the phase `prepare` to the phase `main`: which labels stay, what stays of a dictionary, and its
+-- common divisor out.
+use Rattle.std.specs.Prelude.{◌≡◌, ℕ, suc, ◌+◌, ◌-◌, ◌<◌, Bool, not, if◌then◌else◌, ℤ, pos, ◌*ℤ◌, List, [], ◌∷◌, ◌++◌, map, length}
+use Rattle.std.specs.List.{filter, flat_map}
+use Rattle.poly_num.specs.Vectors.{scale, IsPrimitive}
+use Rattle.poly_model.specs.declared.overflow.Phase.TheVariants.{Main}
+use Rattle.poly_model.specs.Systems.{Row, row_of, Polyhedron, System, cone_of}
+use Rattle.poly_model.specs.Spaces.{is_row, is_member, prepare_space, main_space}
+use Rattle.dictionary_laws.specs.MainSpace.{stays, CanEnterMain}
+use Rattle.dictionary.specs.Cells.{cell}
+use Rattle.dictionary.specs.Views.{Dictionary, table_of, IsDictionaryIn}
+
+-- a label stays: it is neither that of a linear row nor that of a free coordinate
+abbrev pub stays_in : List Row → List ℕ → ℕ → Bool
+stays_in rows free k =
+    if is_row k then not (row_of rows k).linear else not (is_member (k - 8192) free)
+
+-- the places of the labels that pass a test, where the first label has place i
+abbrev pub places_from : ℕ → (ℕ → Bool) → List ℕ → List ℕ
+places_from i test [] = []
+places_from i test (k ∷ ks) =
+    if test k then i ∷ places_from (i + 1) test ks else places_from (i + 1) test ks
+
+-- the constant in row i of rows of `width` cells, and its entries at these places
+abbrev pub kept_row : ℕ → List ℤ → List ℕ → ℕ → List ℤ
+kept_row width cells columns i = cell width cells i 0 ∷ map (λ j. cell width cells i (suc j)) columns
+
+-- these of the rows
+abbrev pub kept_cells : ℕ → List ℤ → List ℕ → List ℕ → List ℤ
+kept_cells width cells rows columns = flat_map (kept_row width cells columns) rows
+
+-- the rows of the labels that are left, with the columns of those that stay
+abbrev pub kept : Dictionary → (ℕ → Bool) → (ℕ → Bool) → Dictionary
+kept d left stays = record {
+  phase = Main;
+  labels = filter left d.labels;
+  key = filter stays d.key;
+  columns = filter stays d.columns;
+  denominator = d.denominator;
+  cells = kept_cells (suc (length d.columns)) d.cells (places_from 0 left d.labels) (places_from 0 stays d.columns);
+}
+
+-- the common divisor of the cells and the denominator is divided out of all of them
+pub record IsDividedOut (old : List ℤ) (denominator : ℤ) (new : List ℤ) (least : ℤ) : Type 0 where
+  pub factor : ℕ
+  pub some : 0 < factor
+  pub multiple : old ≡ scale (pos factor) new
+  pub over : denominator ≡ pos factor *ℤ least
+  pub primitive : IsPrimitive (new ++ least ∷ [])
+
+-- at a polyhedron: the cobasis without equations and free coordinates, and its dictionary in the main space
+pub record IsMainOf (p : Polyhedron) (free : List ℕ) (old new : Dictionary) : Type 0 where
+  pub key : new.key ≡ filter (stays p free) old.key
+  pub dictionary : IsDictionaryIn (main_space p free) new
+
+-- the new one is of the phase `main`; and where the old one is a dictionary of the file's rows of a
+-- polyhedron at which the main space can be entered, it is that of what stays
+pub record EntersMainPhase (old : Dictionary) (sys : System) (free : List ℕ) (new : Dictionary) : Type 0 where
+  pub phase : new.phase ≡ Main
+  pub enters : (p : Polyhedron) → sys ≡ cone_of p → IsDictionaryIn (prepare_space p) old →
+      CanEnterMain p free old.key (table_of old) → IsMainOf p free old new

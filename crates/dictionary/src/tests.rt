@@ -1,0 +1,224 @@
+//! Dictionaries worked out by hand.
+ghost use Rattle.std.specs.Prelude.{◌≡◌, IfOk, length};
+
+use crate::Dict;
+use poly_model::{Kind, Label, Overflow, Phase, Place, RowKind, System};
+use poly_num::Num;
+use std::alloc::{AllocError, Global};
+use std::test::Fail;
+
+const X0: Label = Label(8192);
+
+const X1: Label = Label(8193);
+
+const X2: Label = Label(8194);
+
+/// Two rows of three numbers, an exchange, and the dictionary after it: its key, its denominator, and
+/// for the labels 1, 2, x1 and x2 the constant and the entry at each label of the key.
+#[derive(Clone, Copy)]
+struct Case {
+    name: &'static str,
+    first: [i128; 3],
+    second: [i128; 3],
+    row: Label,
+    col: Label,
+    key: [u16; 2],
+    denominator: i128,
+    numbers: [[i128; 3]; 4],
+}
+
+fn num(value: i128) -> Num {
+    Num::new(value).unwrap_or(Num::ZERO)
+}
+
+/// The cone of an H file of two rows: they, and the row at infinity.
+fn system(alloc: Global, first: [i128; 3], second: [i128; 3]) -> Result<System, AllocError> {
+    let [a, b, c] = first;
+    let [d, e, f] = second;
+    let cells = Vec::from_slice(
+        alloc,
+        &[
+            num(a),
+            num(b),
+            num(c),
+            num(d),
+            num(e),
+            num(f),
+            Num::ONE,
+            Num::ZERO,
+            Num::ZERO,
+        ],
+    )?;
+    let linear = Vec::from_slice(alloc, &[false, false, false])?;
+    let kinds = Vec::from_slice(alloc, &[RowKind::Ray, RowKind::Ray, RowKind::Ray])?;
+    Ok(System::new(Kind::H, 3, cells, linear, kinds))
+}
+
+fn constant(dict: &Dict, row: Label) -> Option<i128> {
+    if dict.has_label(row) {
+        Some(dict.constant(row).get())
+    } else {
+        None
+    }
+}
+
+fn entry(dict: &Dict, row: Label, col: Label) -> Option<i128> {
+    if dict.has_label(row) && dict.in_cobasis(col) {
+        Some(dict.entry(row, col).get())
+    } else {
+        None
+    }
+}
+
+fn pivot(dict: &mut Dict, row: Label, col: Label) -> Option<Result<(), Overflow>> {
+    if dict.can_pivot(row, col) {
+        Some(dict.pivot(row, col))
+    } else {
+        None
+    }
+}
+
+/// The numbers of a label: its constant, and its entries at two labels.
+fn numbers(dict: &Dict, row: Label, key: [u16; 2]) -> [Option<i128>; 3] {
+    [
+        constant(dict, row),
+        entry(dict, row, Label(key[0])),
+        entry(dict, row, Label(key[1])),
+    ]
+}
+
+fn known(numbers: [i128; 3]) -> [Option<i128>; 3] {
+    [Some(numbers[0]), Some(numbers[1]), Some(numbers[2])]
+}
+
+const CASES: [Case; 3] = [
+    Case {
+        name: "row 1 for x1",
+        first: [1, 2, -3],
+        second: [0, 0, 1],
+        row: Label(1),
+        col: X1,
+        key: [1, 8194],
+        denominator: 2,
+        numbers: [[0, 2, 0], [0, 0, 2], [-1, 1, 3], [0, 0, 2]],
+    },
+    Case {
+        name: "a negative entry turns the signs",
+        first: [4, -2, 6],
+        second: [1, 1, 1],
+        row: Label(1),
+        col: X1,
+        key: [1, 8194],
+        denominator: 2,
+        numbers: [[0, 2, 0], [6, -1, 8], [4, -1, 6], [0, 0, 2]],
+    },
+    Case {
+        name: "numbers of more than one word",
+        first: [0, 1 << 63, 1],
+        second: [1, 0, 3],
+        row: Label(1),
+        col: X1,
+        key: [1, 8194],
+        denominator: 1 << 63,
+        numbers: [
+            [0, 1 << 63, 0],
+            [1 << 63, 0, 3 << 63],
+            [0, 1, -1],
+            [0, 0, 1 << 63],
+        ],
+    },
+];
+
+#[test]
+fn pivots_worked_out_by_hand(rt: HostRuntime) -> Result<(), Fail> {
+    let alloc = rt.alloc();
+    for case in CASES {
+        let sys = system(alloc, case.first, case.second)?;
+        let mut dict = Dict::new(alloc, &sys, Phase::Prepare)?;
+        let mut copy = dict.copy()?;
+        assert_eq!(rt; dict.key().labels(), [8193, 8194].as_slice());
+        assert_eq!(rt;
+            pivot(&mut dict, case.row, case.col),
+            Some(Ok(())),
+            "{}",
+            case.name
+        );
+        assert_eq!(rt; dict.key().labels(), case.key.as_slice(), "{}", case.name);
+        assert_eq!(rt; dict.denominator().get(), case.denominator, "{}", case.name);
+        let labels = [Label(1), Label(2), X1, X2];
+        for (label, want) in labels.into_iter().zip(case.numbers) {
+            assert_eq!(rt;
+                numbers(&dict, label, case.key),
+                known(want),
+                "{}",
+                case.name
+            );
+        }
+        assert_eq!(rt;
+            pivot(&mut copy, case.row, case.col),
+            Some(Ok(())),
+            "{}",
+            case.name
+        );
+        assert_eq!(rt;
+            pivot(&mut dict, case.col, case.row),
+            Some(Ok(())),
+            "{}",
+            case.name
+        );
+        assert_eq!(rt; dict.denominator(), Num::ONE, "{}", case.name);
+        assert_eq!(rt;
+            numbers(&dict, Label(1), [8193, 8194]),
+            known(case.first),
+            "{}",
+            case.name
+        );
+        assert_eq!(rt; copy.key().labels(), case.key.as_slice(), "{}", case.name);
+    }
+    Ok(())
+}
+
+#[test]
+fn refuses_what_passes(rt: HostRuntime) -> Result<(), Fail> {
+    let alloc = rt.alloc();
+    let (first, second) = ([0, 1 << 64, 1], [0, 1, 1 << 64]);
+    let sys = system(alloc, first, second)?;
+    let mut dict = Dict::new(alloc, &sys, Phase::Prepare)?;
+    let key = dict.key();
+    assert_eq!(rt; key.labels(), [8193, 8194].as_slice());
+    let place = |row: u16, col: Label| Place {
+        row: Label(row),
+        col,
+    };
+    let overflow = Overflow {
+        phase: Phase::Prepare,
+        key,
+        a: place(1, X1),
+        b: place(2, X2),
+        c: place(2, X1),
+        d: place(1, X2),
+    };
+    assert_eq!(rt; pivot(&mut dict, Label(1), X1), Some(Err(overflow)));
+    assert_eq!(rt; dict.key(), key);
+    assert_eq!(rt; dict.denominator(), Num::ONE);
+    assert_eq!(rt; numbers(&dict, Label(1), [8193, 8194]), known(first));
+    assert_eq!(rt; numbers(&dict, Label(2), [8193, 8194]), known(second));
+    assert_eq!(rt; pivot(&mut dict, X1, X2), None);
+    Ok(())
+}
+
+#[test]
+fn the_cone_has_no_constants(rt: HostRuntime) -> Result<(), Fail> {
+    let alloc = rt.alloc();
+    let sys = system(alloc, [1, 2, -3], [0, 0, 1])?;
+    let dict = Dict::new(alloc, &sys, Phase::Cone)?;
+    assert_eq!(rt; dict.phase(), Phase::Cone);
+    assert_eq!(rt; dict.key().labels(), [8192, 8193, 8194].as_slice());
+    assert_eq!(rt; numbers(&dict, Label(1), [8192, 8194]), known([0, 1, -3]));
+    assert_eq!(rt; numbers(&dict, Label(3), [8192, 8193]), known([0, 1, 0]));
+    assert_eq!(rt; entry(&dict, X0, X0), Some(1));
+    let mut other = dict.copy()?;
+    dict.copy_into(&mut other);
+    assert_eq!(rt; other.key(), dict.key());
+    Ok(())
+}

@@ -1,0 +1,6 @@
+pub mod CellLemmas
+pub mod ColumnNumbers
+pub mod SpaceVectors
+pub mod ColumnVectors
+pub mod ShownColumns
+mod FacetKnownValues

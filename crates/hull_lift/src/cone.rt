@@ -1,0 +1,150 @@
+//! The cone of a polyhedron.
+ghost use Rattle.std.specs.Prelude.{◌≡◌, ◌<◌, ◌≤◌, ◌++◌, ◌∷◌, [], false, length, slice_index_or, IfOk};
+ghost use Rattle.std.specs.List.{list_any, All};
+ghost use Rattle.poly_model.specs.Systems.{cone_of, first_unit, no_file_row, starts_positive};
+ghost use Rattle.poly_model.specs.Tables.{is_point_kind};
+ghost use Rattle.hull_lift.specs.Cells.{cells_of, HasWidth, linear_marks, vector_kind, row_kind, row_kinds, added_kind};
+
+use poly_model::{Kind, Poly, RowKind, System};
+use poly_num::Num;
+use std::alloc::{AllocError, Global};
+
+/// The cone of a polyhedron: the rows of the file, and behind them the row at infinity `1 0 .. 0` of
+/// an H file, or, where no row of a V file is a point, the origin `1 0 .. 0` as a point. Takes memory
+/// for the rows; the answer is `Err` only for want of memory.
+pub fn system_of(alloc: Global, poly: &Poly) -> Result<System, AllocError>
+    ensures { IfOk result (λ s. s ≡ cone_of poly.now) }
+{
+    let (kind, n) = (poly.kind(), poly.n());
+    let mut cells = cells_of(alloc, poly)?;
+    let mut linear = linear_marks(alloc, poly)?;
+    let mut kinds = row_kinds(alloc, poly)?;
+    if has_point(&kinds) {
+        return Ok(System::new(kind, n, cells, linear, kinds));
+    }
+    append_first_unit(&mut cells, n)?;
+    linear.push(false)?;
+    kinds.push(added_kind(kind))?;
+    Ok(System::new(kind, n, cells, linear, kinds))
+}
+
+// The entries of the rows, one row after the other, with room for one row more.
+fn cells_of(alloc: Global, poly: &Poly) -> Result<Vec<Num>, AllocError>
+    ensures value { IfOk result (λ v. v.items ≡ cells_of poly.now.rows) }
+    ensures width { IfOk result (λ v. All (HasWidth poly.now.n) poly.now.rows) }
+{
+    let room = (poly.rows() as usize + 1) * poly.n() as usize;
+    let mut cells = Vec::with_capacity(alloc, room)?;
+    'rows: for i in 0..poly.rows() {
+        cells.extend_from_slice(row_at(poly, i))?;
+    }
+    Ok(cells)
+}
+
+// Row i, counted from 0.
+fn row_at(poly: &Poly, i: u32) -> &[Num]
+    requires { i < length poly.now.rows }
+    ensures value { result.now ≡ (slice_index_or poly.now.rows i no_file_row).entries }
+    ensures width { length result.now ≡ poly.now.n }
+{
+    let _rows = poly.rows();
+    poly.row(i + 1)
+}
+
+// For each row whether it is linear, with room for one row more.
+fn linear_marks(alloc: Global, poly: &Poly) -> Result<Vec<bool>, AllocError>
+    ensures value { IfOk result (λ v. v.items ≡ linear_marks poly.now.rows) }
+    ensures few { IfOk result (λ v. length v.items ≤ 4096) }
+{
+    let mut marks = Vec::with_capacity(alloc, poly.rows() as usize + 1)?;
+    'rows: for i in 0..poly.rows() {
+        marks.push(is_linear_at(poly, i))?;
+    }
+    Ok(marks)
+}
+
+// Whether row i, counted from 0, is linear.
+fn is_linear_at(poly: &Poly, i: u32) -> bool
+    requires { i < length poly.now.rows }
+    ensures { result ≡ (slice_index_or poly.now.rows i no_file_row).linear }
+{
+    let _rows = poly.rows();
+    poly.is_linear(i + 1)
+}
+
+// For each row whether it is a point or not, with room for one row more.
+fn row_kinds(alloc: Global, poly: &Poly) -> Result<Vec<RowKind>, AllocError>
+    ensures { IfOk result (λ v. v.items ≡ row_kinds poly.now.kind poly.now.rows) }
+{
+    let kind = poly.kind();
+    let mut kinds = Vec::with_capacity(alloc, poly.rows() as usize + 1)?;
+    'rows: for i in 0..poly.rows() {
+        kinds.push(row_kind(kind, row_at(poly, i)))?;
+    }
+    Ok(kinds)
+}
+
+fn row_kind(kind: Kind, row: &[Num]) -> RowKind
+    ensures { result ≡ row_kind kind row.now }
+{
+    match kind {
+        Kind::H => RowKind::Ray,
+        Kind::V => vector_kind(row),
+    }
+}
+
+fn vector_kind(row: &[Num]) -> RowKind
+    ensures { result ≡ vector_kind row.now }
+{
+    if starts_positive(row) {
+        RowKind::Point
+    } else {
+        RowKind::Ray
+    }
+}
+
+fn starts_positive(row: &[Num]) -> bool
+    ensures { result ≡ starts_positive row.now }
+{
+    match row.first() {
+        Some(x) => 0 < x.get(),
+        None => false,
+    }
+}
+
+// Whether some row is a point.
+fn has_point(kinds: &[RowKind]) -> bool
+    ensures { result ≡ list_any is_point_kind kinds.now }
+{
+    kinds.iter().any(|kind| is_point(*kind))
+}
+
+fn is_point(kind: RowKind) -> bool
+    ensures { result ≡ is_point_kind kind }
+{
+    match kind {
+        RowKind::Point => true,
+        RowKind::Ray => false,
+    }
+}
+
+fn added_kind(kind: Kind) -> RowKind
+    ensures { result ≡ added_kind kind }
+{
+    match kind {
+        Kind::H => RowKind::Ray,
+        Kind::V => RowKind::Point,
+    }
+}
+
+// Appends `1 0 .. 0`, of n entries.
+fn append_first_unit(cells: &mut Vec<Num>, n: u32) -> Result<(), AllocError>
+    requires { 0 < n }
+    ensures { IfOk result (λ x. cells.new.items ≡ cells.old.items ++ first_unit n) }
+{
+    cells.push(Num::ONE)?;
+    'zeros: for _ in 1..n {
+        cells.push(Num::ZERO)?;
+    }
+    Ok(())
+}

@@ -1,0 +1,114 @@
+//! The vectors of the columns of a dictionary, and which of them are shown.
+ghost use Rattle.std.specs.Prelude.{◌≡◌, ◌<◌, ◌≤◌, ◌↔◌, pos, length, IsTrue};
+ghost use Rattle.std.specs.List.{Contains};
+ghost use Rattle.poly_num.specs.Divisors.{MakesPrimitive, quotients, gcd_of_all};
+ghost use Rattle.poly_model.specs.declared.kind.Kind.TheVariants.{V};
+ghost use Rattle.hull_lift.specs.Facets.{IsColumn, number_in, infinity_in, coordinate_in, column_of, HasPointRows, IsTouchedAt, IsShownAs, IsShownAt};
+
+use dictionary::Dict;
+use poly_model::{Kind, Label, System};
+use poly_num::{Num, primitive};
+
+/// Writes the vector without common divisor of a column of a dictionary: the values of the coordinates
+/// where the label of the column has a positive value and the others of the cobasis are 0. `col` is a
+/// label of the cobasis, or that of the column of constants, which gives the point of the dictionary:
+/// there all labels of the cobasis are 0. A coordinate that is no label (coordinate 0 of an H file
+/// outside the phase `Cone`) is that at infinity: it has the denominator at the point, and 0 in other
+/// columns. Takes no memory.
+pub fn facet_row(dict: &Dict, col: Label, out: &mut [Num])
+    requires column { IsColumn dict.now col.0 }
+    requires narrow { length out.old ≤ 256 }
+    ensures value { out.new ≡ quotients (column_of dict.now col.0 (length out.old)) (pos (gcd_of_all (column_of dict.now col.0 (length out.old)))) }
+    ensures primitive { MakesPrimitive (column_of dict.now col.0 (length out.old)) out.new }
+{
+    write_column(dict, col, out);
+    primitive(out);
+}
+
+// Writes the numbers of the coordinates in a column.
+fn write_column(dict: &Dict, col: Label, out: &mut [Num])
+    requires column { IsColumn dict.now col.0 }
+    requires narrow { length out.old ≤ 256 }
+    ensures { out.new ≡ column_of dict.now col.0 (length out.old) }
+{
+    'coordinates: for j in 0..out.len() {
+        out[j] = coordinate_in(dict, col, j as u16);
+    }
+}
+
+// The number of coordinate j in a column.
+fn coordinate_in(dict: &Dict, col: Label, j: u16) -> Num
+    requires column { IsColumn dict.now col.0 }
+    requires narrow { j < 256 }
+    ensures { result ≡ coordinate_in dict.now col.0 j }
+{
+    let label = Label::coordinate(j);
+    if dict.has_label(label) {
+        number_in(dict, col, label)
+    } else {
+        infinity_in(dict, col)
+    }
+}
+
+// The number of a label in a column: its constant, or its entry there.
+fn number_in(dict: &Dict, col: Label, label: Label) -> Num
+    requires column { IsColumn dict.now col.0 }
+    requires label { Contains dict.now.labels label.0 }
+    ensures { result ≡ number_in dict.now col.0 label.0 }
+{
+    if col.0 == Label::CONSTANT.0 {
+        dict.constant(label)
+    } else {
+        dict.entry(label, col)
+    }
+}
+
+// The number at infinity in a column.
+fn infinity_in(dict: &Dict, col: Label) -> Num
+    ensures { result ≡ infinity_in dict.now col.0 }
+{
+    if col.0 == Label::CONSTANT.0 {
+        dict.denominator()
+    } else {
+        Num::ZERO
+    }
+}
+
+/// Whether the vector of a column is shown: of an H file always, of a V file where some point row has
+/// the entry 0 there. Takes no memory.
+pub fn is_shown(sys: &System, dict: &Dict, col: Label) -> bool
+    requires column { sys.now.kind ≡ V → Contains dict.now.key col.0 }
+    requires points { sys.now.kind ≡ V → HasPointRows sys.now dict.now }
+    ensures { IsTrue result ↔ IsShownAt sys.now dict.now col.0 }
+{
+    match sys.kind() {
+        Kind::H => true,
+        Kind::V => touches_point(sys, dict, col),
+    }
+}
+
+// Whether some point row has the entry 0 in a column.
+fn touches_point(sys: &System, dict: &Dict, col: Label) -> bool
+    requires column { Contains dict.now.key col.0 }
+    requires points { HasPointRows sys.now dict.now }
+    ensures { IsTrue result ↔ IsShownAs V sys.now dict.now col.0 }
+{
+    'rows: for i in 1..sys.rows() + 1 {
+        if touches(sys, dict, col, i) {
+            return true;
+        }
+    }
+    false
+}
+
+// Whether row i, counted from 1, is a point whose entry in a column is 0.
+fn touches(sys: &System, dict: &Dict, col: Label, i: u32) -> bool
+    requires column { Contains dict.now.key col.0 }
+    requires points { HasPointRows sys.now dict.now }
+    requires from_one { 0 < i }
+    requires within { i ≤ length sys.now.rows }
+    ensures { IsTrue result ↔ IsTouchedAt sys.now dict.now col.0 i }
+{
+    let _rows = sys.rows();
+    sys.is_point(i) && dict.entry(Label::row(i as u16), col).get() == 0
+}

@@ -1,0 +1,190 @@
+//! Polyhedra that can be drawn, and the rows of their cones.
+ghost use Rattle.std.specs.Prelude.{◌≡◌, ◌<◌};
+
+use crate::system_of;
+use poly_model::{Kind, Poly, System};
+use poly_num::Num;
+use std::alloc::{AllocFailed, Global};
+use std::test::Fail;
+
+/// A file, its rows one after the other, and what its cone has behind or beside them: the added
+/// entries, and which rows are linear and which are points.
+#[derive(Clone, Copy)]
+struct Case {
+    name: &'static str,
+    kind: Kind,
+    n: u32,
+    entries: &'static [i128],
+    linear: &'static [bool],
+    added: &'static [i128],
+    cone_linear: &'static [bool],
+    points: &'static [bool],
+}
+
+#[test]
+fn gives_the_rows_of_the_cone(rt: HostRuntime) -> Result<(), Fail> {
+    for case in [
+        Case {
+            name: "a square",
+            kind: Kind::H,
+            n: 3,
+            entries: &[0, 1, 0, 0, 0, 1, 1, -1, 0, 1, 0, -1],
+            linear: &[false, false, false, false],
+            added: &[1, 0, 0],
+            cone_linear: &[false, false, false, false, false],
+            points: &[false, false, false, false, false],
+        },
+        Case {
+            name: "a ray on the line x = 2",
+            kind: Kind::H,
+            n: 3,
+            entries: &[0, 0, 1, 2, -1, 0],
+            linear: &[false, true],
+            added: &[1, 0, 0],
+            cone_linear: &[false, true, false],
+            points: &[false, false, false],
+        },
+        Case {
+            name: "a point, a ray and a line",
+            kind: Kind::V,
+            n: 3,
+            entries: &[0, 1, 0, 2, 3, 1, 0, 0, 1],
+            linear: &[false, false, true],
+            added: &[],
+            cone_linear: &[false, false, true],
+            points: &[false, true, false],
+        },
+        Case {
+            name: "a ray and a line without a point",
+            kind: Kind::V,
+            n: 4,
+            entries: &[0, 1, 0, 0, 0, 0, 1, -1],
+            linear: &[false, true],
+            added: &[1, 0, 0, 0],
+            cone_linear: &[false, true, false],
+            points: &[false, false, true],
+        },
+        Case {
+            name: "the point of no coordinates, by no inequality",
+            kind: Kind::H,
+            n: 1,
+            entries: &[],
+            linear: &[],
+            added: &[1],
+            cone_linear: &[false],
+            points: &[false],
+        },
+        Case {
+            name: "nothing, by an inequality -1 >= 0",
+            kind: Kind::H,
+            n: 1,
+            entries: &[-1],
+            linear: &[false],
+            added: &[1],
+            cone_linear: &[false, false],
+            points: &[false, false],
+        },
+        Case {
+            name: "the point of no coordinates, as a point",
+            kind: Kind::V,
+            n: 1,
+            entries: &[1],
+            linear: &[false],
+            added: &[],
+            cone_linear: &[false],
+            points: &[true],
+        },
+        Case {
+            name: "the point of no coordinates, by a row that is zero",
+            kind: Kind::V,
+            n: 1,
+            entries: &[0],
+            linear: &[false],
+            added: &[1],
+            cone_linear: &[false, false],
+            points: &[false, true],
+        },
+    ] {
+        let alloc = rt.alloc();
+        let poly = poly_of(alloc, case.kind, case.n, case.entries, case.linear)?;
+        let cone = system_of(alloc, &poly)?;
+        assert_eq!(rt;
+            (cone.kind(), cone.n()),
+            (case.kind, case.n),
+            "{}",
+            case.name
+        );
+        assert_eq!(rt;
+            entries_of(alloc, &cone)?.as_slice(),
+            joined(alloc, case.entries, case.added)?.as_slice(),
+            "{}",
+            case.name
+        );
+        assert_eq!(rt;
+            marks_of(alloc, &cone)?.as_slice(),
+            case.cone_linear,
+            "{}",
+            case.name
+        );
+        assert_eq!(rt;
+            points_of(alloc, &cone)?.as_slice(),
+            case.points,
+            "{}",
+            case.name
+        );
+    }
+    Ok(())
+}
+
+pub(crate) fn poly_of(
+    alloc: Global,
+    kind: Kind,
+    n: u32,
+    entries: &[i128],
+    linear: &[bool],
+) -> Result<Poly, Fail> {
+    let mut cells = Vec::new(alloc);
+    for x in entries {
+        cells.push(Num::new(*x).ok_or("a number of 127 bits")?)?;
+    }
+    let linear = Vec::from_slice(alloc, linear)?;
+    if n == 0 || n > 256 || linear.len() > 4096 {
+        return Err("few rows, and narrow ones")?;
+    }
+    if cells.len() != linear.len() * n as usize {
+        return Err("n entries for each mark")?;
+    }
+    Ok(Poly::new(kind, n, cells, linear, Vec::new(alloc)))
+}
+
+fn joined(alloc: Global, front: &[i128], back: &[i128]) -> Result<Vec<i128>, Fail> {
+    let mut all = Vec::from_slice(alloc, front)?;
+    all.extend_from_slice(back)?;
+    Ok(all)
+}
+
+fn entries_of(alloc: Global, cone: &System) -> Result<Vec<i128>, AllocFailed<i128>> {
+    let mut entries = Vec::new(alloc);
+    for i in 0..cone.rows() {
+        for x in cone.row(i + 1) {
+            entries.push(x.get())?;
+        }
+    }
+    Ok(entries)
+}
+
+fn marks_of(alloc: Global, cone: &System) -> Result<Vec<bool>, AllocFailed<bool>> {
+    let mut marks = Vec::new(alloc);
+    for i in 0..cone.rows() {
+        marks.push(cone.is_linear(i + 1))?;
+    }
+    Ok(marks)
+}
+
+fn points_of(alloc: Global, cone: &System) -> Result<Vec<bool>, AllocFailed<bool>> {
+    let mut points = Vec::new(alloc);
+    for i in 0..cone.rows() {
+        points.push(cone.is_point(i + 1))?;
+    }
+    Ok(points)
+}
