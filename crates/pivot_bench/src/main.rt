@@ -10,7 +10,7 @@ mod table;
 use plan::{Mode, Plan, plan_of};
 use prepare::prepared;
 use random::Random;
-use spots::{spots_of, turn_dictionary, turn_table};
+use spots::{spots_of, turns};
 use std::alloc::{AllocError, Global};
 use std::io;
 use std::process::ExitCode;
@@ -46,18 +46,18 @@ fn run(rt: &HostRuntime) -> io::Result<bool> {
 
 // How many pivots were done, and the table after them.
 fn carried_out(alloc: Global, plan: &Plan) -> Result<(u64, Table), AllocError> {
-    let mut random = Random::new(plan.seed);
+    let mut random = Random { state: plan.seed };
     let mut dict = prepared(alloc, plan, &mut random)?;
     let mut table = Table::of(alloc, &dict, plan)?;
     let spots = spots_of(alloc, &dict, &table, &mut random)?;
     match plan.mode {
         Mode::Dictionary => {
-            let turns = turn_dictionary(&mut dict, &spots, plan.pivots / 2);
-            Ok((2 * turns, Table::of(alloc, &dict, plan)?))
+            let done = turns(&mut dict, &spots, plan.pivots / 2);
+            Ok((2 * done, Table::of(alloc, &dict, plan)?))
         }
         Mode::Checked => {
-            let turns = turn_table(&mut table, &spots, plan.pivots / 2);
-            Ok((2 * turns, table))
+            let done = turns(&mut table, &spots, plan.pivots / 2);
+            Ok((2 * done, table))
         }
     }
 }

@@ -1,6 +1,4 @@
 //! A dictionary of rows at random, with numbers as large as is asked.
-ghost use Rattle.std.specs.Prelude.{◌<◌};
-
 use crate::plan::Plan;
 use crate::random::Random;
 use crate::table::Table;
@@ -9,44 +7,23 @@ use poly_model::{Kind, Label, Phase, RowKind, System};
 use poly_num::Num;
 use std::alloc::{AllocError, Global};
 
-/// A dictionary whose largest number has the bits of the plan. The rows have entries from -9 to 9; where
-/// no pivot makes those large enough, larger ones.
+/// A dictionary of rows at random, in which rows took the places of coordinates until its largest number
+/// has the bits of the plan, or none is left.
 pub fn prepared(alloc: Global, plan: &Plan, random: &mut Random) -> Result<Dict, AllocError> {
-    let mut bound: u64 = 10;
-    for _ in 0..256 {
-        let dict = grown(alloc, plan, bound, random)?;
-        if Table::of(alloc, &dict, plan)?.bits() >= plan.bits {
-            return Ok(dict);
-        }
-        bound = bound.saturating_add(bound / 8 + 1);
-    }
-    grown(alloc, plan, bound, random)
-}
-
-// A dictionary of rows with entries below the bound, in which rows took the places of coordinates until
-// its largest number has the bits of the plan.
-fn grown(alloc: Global, plan: &Plan, bound: u64, random: &mut Random) -> Result<Dict, AllocError>
-    requires { 0 < bound }
-{
-    let sys = system(alloc, plan, bound, random)?;
+    let sys = system(alloc, plan, random)?;
     let mut dict = Dict::new(alloc, &sys, Phase::Prepare)?;
-    for j in 0..plan.columns {
+    'columns: for j in 0..plan.columns {
         if Table::of(alloc, &dict, plan)?.bits() >= plan.bits {
             break;
         }
-        enter(&mut dict, plan, Label::coordinate(j + 1), random);
-    }
-    Ok(dict)
-}
-
-// Lets a row at random take the place of a coordinate.
-fn enter(dict: &mut Dict, plan: &Plan, col: Label, random: &mut Random) {
-    for _ in 0..64 {
-        let row = Label(random.below(plan.rows as u64) as u16 + 1);
-        if exchange(dict, row, col) {
-            return;
+        'tries: for _ in 0..64 {
+            let row = Label(random.below(plan.rows as u64) as u16 + 1);
+            if exchange(&mut dict, row, Label::coordinate(j + 1)) {
+                break;
+            }
         }
     }
+    Ok(dict)
 }
 
 /// Exchanges two labels of a dictionary, and says whether that was possible.
@@ -54,12 +31,12 @@ pub fn exchange(dict: &mut Dict, row: Label, col: Label) -> bool {
     dict.can_pivot(row, col) && dict.pivot(row, col).is_ok()
 }
 
-// The cone of an H file of rows at random: they, and the row at infinity.
-fn system(alloc: Global, plan: &Plan, bound: u64, random: &mut Random) -> Result<System, AllocError>
-    requires { 0 < bound }
-{
+// The cone of an H file of rows at random: they, and the row at infinity. The entries are below a bound at
+// random: of a digit or two, or larger where no pivot could make those large enough.
+fn system(alloc: Global, plan: &Plan, random: &mut Random) -> Result<System, AllocError> {
     let n = plan.columns as usize + 1;
     let rows = plan.rows as usize;
+    let bound = 10 + random.below(2 << (plan.bits / plan.columns as u32).min(30));
     let mut cells = Vec::new(alloc);
     let mut linear = Vec::new(alloc);
     let mut kinds = Vec::new(alloc);
@@ -67,14 +44,14 @@ fn system(alloc: Global, plan: &Plan, bound: u64, random: &mut Random) -> Result
         linear.push(false)?;
         kinds.push(RowKind::Ray)?;
         'columns: for j in 0..n {
-            let number = if i < rows {
-                random.number(bound)
+            cells.push(if i < rows {
+                let negative = random.below(2) == 0;
+                Num::from_parts(negative, random.below(bound) as u128)
             } else if j == 0 {
                 Num::ONE
             } else {
                 Num::ZERO
-            };
-            cells.push(number)?;
+            })?;
         }
     }
     Ok(System::new(Kind::H, n as u32, cells, linear, kinds))

@@ -1,5 +1,6 @@
 //! A plain table of i128, and its pivots.
 ghost use Rattle.std.specs.Prelude.{◌≡◌, ◌<◌, ◌*◌, ◌+◌, suc, vec_len, length, OnOk};
+ghost use Rattle.std.specs.List.{Contains};
 
 use crate::plan::Plan;
 use dictionary::Dict;
@@ -11,7 +12,7 @@ use std::alloc::{AllocError, Global};
 #[derive(Drop)]
 pub struct Table {
     width: usize,
-    labels: Vec<Label>,
+    labels: Vec<u16>,
     cells: Vec<i128>,
     denominator: i128,
     ghost shape: { vec_len cells ≡ vec_len labels * width },
@@ -21,18 +22,16 @@ impl Table {
     /// The numbers of a dictionary.
     pub fn of(alloc: Global, dict: &Dict, plan: &Plan) -> Result<Table, AllocError> {
         let key = dict.key();
-        let columns = key.labels();
         let mut labels = Vec::new(alloc);
         let mut cells = Vec::new(alloc);
-        for i in 0..plan.rows + plan.columns {
-            let label = plan.label(i);
-            if dict.has_label(label) && !dict.in_cobasis(label) {
+        for label in (1..plan.rows + 1).chain(8193..8193 + plan.columns) {
+            if dict.has_label(Label(label)) && !dict.in_cobasis(Label(label)) {
                 labels.push(label)?;
-                push_row(&mut cells, dict, label, columns)?;
+                push_row(&mut cells, dict, Label(label), key.labels())?;
             }
         }
         Ok(Table {
-            width: columns.len() + 1,
+            width: key.len() + 1,
             labels,
             cells,
             denominator: dict.denominator().get(),
@@ -40,7 +39,7 @@ impl Table {
     }
 
     /// The labels of the rows, as they stood in the dictionary.
-    pub fn labels(&self) -> &[Label] {
+    pub fn labels(&self) -> &[u16] {
         &self.labels
     }
 
@@ -54,36 +53,25 @@ impl Table {
         })
     }
 
-    /// Whether the other table has the same numbers.
-    pub fn is_same(&self, other: &Table) -> bool {
-        self.denominator == other.denominator && self.cells == other.cells
-    }
-
     /// Exchanges a row and a column, both counted from 0: none where they are not there, where their
     /// number is 0, or where a product passes; then the table is of no more use.
     pub fn exchange(&mut self, row: usize, column: usize) -> Option<()> {
-        let height = self.labels.len();
-        if row >= height || column >= self.width {
+        let (height, width) = (self.labels.len(), self.width);
+        if row >= height || column >= width {
             return None;
         }
-        self.denominator = exchange_cells(
-            &mut self.cells,
-            height,
-            self.width,
-            row,
-            column,
-            self.denominator,
-        )?;
+        let old = self.denominator;
+        self.denominator = exchange_cells(&mut self.cells, height, width, row, column, old)?;
         Some(())
     }
 
     /// How many bits its largest number has.
     pub fn bits(&self) -> u32 {
-        let mut most = bits_of(self.denominator);
+        let mut most = self.denominator.unsigned_abs();
         for cell in &self.cells {
-            most = most.max(bits_of(*cell));
+            most = most.max(cell.unsigned_abs());
         }
-        most
+        128 - most.leading_zeros()
     }
 
     /// A number that tells the table from most others.
@@ -96,42 +84,26 @@ impl Table {
     }
 }
 
-fn bits_of(number: i128) -> u32 {
-    128 - number.unsigned_abs().leading_zeros()
-}
-
-// The constant of a label of the dictionary and its entries at those of the cobasis.
+// The constant of a label and its entries at these labels.
 fn push_row(
     cells: &mut Vec<i128>,
     dict: &Dict,
     row: Label,
     columns: &[u16],
 ) -> Result<(), AllocError>
+    requires { Contains dict.now.labels row.0 }
     ensures { OnOk result (vec_len cells.new ≡ vec_len cells.old + suc (length columns.now)) }
 {
-    cells.push(constant(dict, row))?;
+    cells.push(dict.constant(row).get())?;
     for column in columns {
-        cells.push(entry(dict, row, Label(*column)))?;
+        let column = Label(*column);
+        cells.push(if dict.in_cobasis(column) {
+            dict.entry(row, column).get()
+        } else {
+            0
+        })?;
     }
     Ok(())
-}
-
-// The constant of a label; 0 where there is none.
-fn constant(dict: &Dict, row: Label) -> i128 {
-    if dict.has_label(row) {
-        dict.constant(row).get()
-    } else {
-        0
-    }
-}
-
-// The entry of two labels; 0 where there is none.
-fn entry(dict: &Dict, row: Label, column: Label) -> i128 {
-    if dict.has_label(row) && dict.in_cobasis(column) {
-        dict.entry(row, column).get()
-    } else {
-        0
-    }
 }
 
 // Exchanges a row and a column in rows of `width` numbers over a denominator, in place, by Bareiss' step.
@@ -148,39 +120,29 @@ fn exchange_cells(
     requires row { row < height }
     requires column { column < width }
 {
-    let pivot = cells[row * width + column];
-    if pivot == 0 {
+    let p = cells[row * width + column];
+    if p == 0 {
         return None;
     }
-    let turned = if pivot < 0 {
-        denominator.checked_neg()?
-    } else {
-        denominator
-    };
+    let d = signed(denominator, p < 0)?;
     'rows: for i in 0..height {
         if i != row {
             let c = cells[i * width + column];
             'columns: for j in 0..width {
                 if j != column {
-                    let z = stepped(
-                        cells[i * width + j],
-                        pivot,
-                        c,
-                        cells[row * width + j],
-                        turned,
-                    )?;
+                    let z = stepped(cells[i * width + j], p, c, cells[row * width + j], d)?;
                     cells[i * width + j] = z;
                 }
             }
-            cells[i * width + column] = signed(c, pivot < 0)?;
+            cells[i * width + column] = signed(c, p < 0)?;
         }
     }
     'pivot_row: for j in 0..width {
-        let z = signed(cells[row * width + j], pivot > 0)?;
+        let z = signed(cells[row * width + j], p > 0)?;
         cells[row * width + j] = z;
     }
-    cells[row * width + column] = turned;
-    signed(pivot, pivot < 0)
+    cells[row * width + column] = d;
+    signed(p, p < 0)
 }
 
 // `(a p - c b) / d`.
