@@ -1,0 +1,6 @@
+pub mod ListLemmas
+pub mod FirstLists
+pub mod PrefixLemmas
+pub mod ConeLemmas
+pub mod BaseLemmas
+pub mod ListingLemmas
