@@ -3,4 +3,6 @@ pub mod FirstLists
 pub mod PrefixLemmas
 pub mod ConeLemmas
 pub mod BaseLemmas
+pub mod LocalTest
+pub mod ShownLemmas
 pub mod ListingLemmas

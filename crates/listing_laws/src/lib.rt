@@ -4,13 +4,22 @@
 //! What is stated stands in `specs/`; the crates above cite the lemmas of `proofs/`.
 #![tactic(auto)]
 
-ghost use Rattle.listing_laws.specs.ConeLaws.{ConeIsListable, ExtremeIsShownCorner, WholeListing, FeasibleByListing, FeasibleFileByListing};
+ghost use Rattle.listing_laws.specs.ConeLaws.{FirstBasisIsBase, NothingIsBase, ConeIsListable, ExtremeIsShownCorner, OnlyZeroHasItsOpposite, WholeListing, FeasibleByListing, FeasibleFileByListing};
 ghost use Rattle.listing_laws.specs.PrefixLaws.{EachHasOneList, ListIsFull, FollowingIsSkipped, NewIsTakenOrNot, NotBoth, TakenGrows, TakenStays};
 ghost use Rattle.listing_laws.specs.PrefixLaws.{LoopBegins, LoopSkips, LoopTakes, LoopEnds};
 
-/// The cone of a system holds no line, and its shown corners are the extreme vectors.
+/// Each system has a cone that is listed: over the first basis of its fixed rows, or over nothing where no row is
+/// fixed.
+pub fn base()
+    ensures first { FirstBasisIsBase }
+    ensures nothing { NothingIsBase }
+{}
+
+/// The cone of a system holds no line, so that no vector but zero is in it with its opposite; and its shown corners
+/// are the extreme vectors.
 pub fn cone_of_system()
     ensures listable { ConeIsListable }
+    ensures opposite { OnlyZeroHasItsOpposite }
     ensures corners { ExtremeIsShownCorner }
 {}
 
