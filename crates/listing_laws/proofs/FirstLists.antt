@@ -4,6 +4,7 @@ use Rattle.std.proofs.Common.{◌≡◌, ◌↔◌, Bool, true, false, ℕ, suc,
 use Rattle.std.specs.List.{slice_index_or}
 use Rattle.poly_num.specs.Vectors.{Vector, ◌·◌}
 use Rattle.poly_model.specs.Independence.{Vanish, Follows, IsNew, taken}
+use Rattle.linear_laws.specs.Corners.{IsOnTight}
 use Rattle.linear_laws.specs.LocalTest.{AreFirstTight}
 use Rattle.listing_laws.specs.Prefixes.{labels_from}
 
@@ -81,3 +82,11 @@ vanish_taken n before y gs [] v h = subst (λ t. Vanish t y) (sym (taken-nil bef
 vanish_taken n before y [] (m ∷ ms) v h = absurd h
 vanish_taken n before y (g ∷ gs) (true ∷ ms) v h = vanish_taken n (g ∷ before) y gs ms (h.0, v) h.2
 vanish_taken n before y (g ∷ gs) (false ∷ ms) v h = vanish_taken n before y gs ms v h.1
+
+-- z is 0 on what is tight at y, so on the rows taken
+pub vanish_on_tight : (n : ℕ) (before : List Vector) (y z : Vector) (gs : List Vector) (ms : List Bool) →
+    AreFirstTight n before y gs ms → Vanish before z → IsOnTight y gs z → Vanish (taken before gs ms) z
+vanish_on_tight n before y z gs [] h v t = subst (λ t. Vanish t z) (sym (taken-nil before gs)) v
+vanish_on_tight n before y z [] (m ∷ ms) h v t = absurd h
+vanish_on_tight n before y z (g ∷ gs) (true ∷ ms) h v t = vanish_on_tight n (g ∷ before) y z gs ms h.2 (t.0 h.0, v) t.1
+vanish_on_tight n before y z (g ∷ gs) (false ∷ ms) h v t = vanish_on_tight n before y z gs ms h.1 v t.1

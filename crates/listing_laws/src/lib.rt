@@ -7,6 +7,7 @@
 ghost use Rattle.listing_laws.specs.ConeLaws.{FirstBasisIsBase, NothingIsBase, ConeIsListable, ExtremeIsShownCorner, OnlyZeroHasItsOpposite, WholeListing, FeasibleByListing, FeasibleFileByListing};
 ghost use Rattle.listing_laws.specs.PrefixLaws.{EachHasOneList, ListIsFull, FollowingIsSkipped, NewIsTakenOrNot, NotBoth, TakenGrows, TakenStays};
 ghost use Rattle.listing_laws.specs.PrefixLaws.{LoopBegins, LoopSkips, LoopTakes, LoopEnds};
+ghost use Rattle.listing_laws.specs.ShowLaws.{UnderIsTested, NothingIfItFails, OneIfItPasses, NothingIfNeither};
 
 /// Each system has a cone that is listed: over the first basis of its fixed rows, or over nothing where no row is
 /// fixed.
@@ -40,6 +41,14 @@ pub fn loop_over_rows()
     ensures skips { LoopSkips }
     ensures takes { LoopTakes }
     ensures ends { LoopEnds }
+{}
+
+/// Where one direction is left, the local test and the two primitive vectors along it say what is shown.
+pub fn where_one_is_left()
+    ensures tested { UnderIsTested }
+    ensures fails { NothingIfItFails }
+    ensures one { OneIfItPasses }
+    ensures neither { NothingIfNeither }
 {}
 
 /// What is under the empty prefix, each once, is the listing of the system.
