@@ -6,7 +6,7 @@
 
 ghost use Rattle.listing_laws.specs.ConeLaws.{FirstBasisIsBase, NothingIsBase, ConeIsListable, ExtremeIsShownCorner, OnlyZeroHasItsOpposite, WholeListing, FeasibleByListing, FeasibleFileByListing};
 ghost use Rattle.listing_laws.specs.PrefixLaws.{EachHasOneList, ListIsFull, FollowingIsSkipped, NewIsTakenOrNot, NotBoth, TakenGrows, TakenStays};
-ghost use Rattle.listing_laws.specs.PrefixLaws.{LoopBegins, LoopSkips, LoopTakes, LoopEnds};
+ghost use Rattle.listing_laws.specs.PrefixLaws.{LoopBegins, LoopSkips, LoopTakes, LoopEnds, PrefixHasList};
 ghost use Rattle.listing_laws.specs.ShowLaws.{UnderIsTested, NothingIfItFails, OneIfItPasses, NothingIfNeither};
 
 /// Each system has a cone that is listed: over the first basis of its fixed rows, or over nothing where no row is
@@ -41,6 +41,11 @@ pub fn loop_over_rows()
     ensures skips { LoopSkips }
     ensures takes { LoopTakes }
     ensures ends { LoopEnds }
+{}
+
+/// What is under a prefix is a list, so that what a loop has listed is the beginning of one.
+pub fn prefix_has_list()
+    ensures { PrefixHasList }
 {}
 
 /// Where one direction is left, the local test and the two primitive vectors along it say what is shown.
