@@ -11,7 +11,7 @@ use Rattle.linear_laws.proofs.Proportions.{values_from_multiples, zero_from_prop
 use Rattle.listing_laws.specs.ListedCone.{ListedCone, IsListable}
 use Rattle.listing_laws.specs.Lists.{Lists}
 use Rattle.listing_laws.specs.Prefixes.{taken_at, labels_of, IsUnder}
-use Rattle.listing_laws.specs.Directions.{row_at, LeavesOne, PassesTest, IsShownAlong}
+use Rattle.listing_laws.specs.Directions.{row_at, LeavesOne, PassesLocalTest, IsShownAlong}
 use Rattle.listing_laws.proofs.FirstLists.{length-taken}
 use Rattle.listing_laws.proofs.ListLemmas.{lists_none}
 use Rattle.listing_laws.proofs.LocalTest.{Stands, LeavesOnly, rows_by_label, labels_at_least, new_taken, vanish_from_labels, test_is_first}
@@ -60,7 +60,7 @@ module _ (cone : ListedCone) (listable : IsListable cone) (marks : List Bool) (z
 
   -- ---- the test
   test_by_labels : (y : Vector) → (IsZero y → ⊥) → IsMultipleOf z y →
-      PassesTest cone (labels_of marks) s.duals z ↔ AreFirstTight cone.n cone.base y cone.rows marks
+      PassesLocalTest cone (labels_of marks) s.duals z ↔ AreFirstTight cone.n cone.base y cone.rows marks
   test_by_labels y nz m =
       let h =
       test_is_first cone (labels_of marks) s.duals z s.left y (same_zeros y nz m) 1 cone.base cone.rows marks stands
@@ -68,17 +68,17 @@ module _ (cone : ListedCone) (listable : IsListable cone) (marks : List Bool) (z
       (λ p. h.0 (λ i l. p i (omega arith)), λ f i l. h.1 f i (omega arith))
 
   pub under_is_tested : (y : Vector) →
-      IsUnder cone marks y ↔ (IsShownAlong cone z y × PassesTest cone (labels_of marks) s.duals z)
+      IsUnder cone marks y ↔ (IsShownAlong cone z y × PassesLocalTest cone (labels_of marks) s.duals z)
   under_is_tested y = (
     λ u. let a = shown_along cone marks z alone y u in (a, (test_by_labels y a.primitive.0 a.along).1 u.1),
     λ h. under_if_first cone marks z alone y h.0 ((test_by_labels y h.0.primitive.0 h.0.along).0 h.1),
   )
 
   -- ---- what is shown
-  pub nothing_if_it_fails : (PassesTest cone (labels_of marks) s.duals z → ⊥) → Lists (IsUnder cone marks) []
+  pub nothing_if_it_fails : (PassesLocalTest cone (labels_of marks) s.duals z → ⊥) → Lists (IsUnder cone marks) []
   nothing_if_it_fails h = lists_none (IsUnder cone marks) (λ y u. h ((under_is_tested y).0 u).1)
 
-  pub one_if_it_passes : PassesTest cone (labels_of marks) s.duals z →
+  pub one_if_it_passes : PassesLocalTest cone (labels_of marks) s.duals z →
       (y : Vector) → IsShownAlong cone z y → Lists (IsUnder cone marks) (y ∷ [])
   one_if_it_passes p y a = list_of_one cone marks z alone listable y ((under_is_tested y).1 (a, p))
 

@@ -1,5 +1,5 @@
--- What is under a prefix is a list.
-use Rattle.std.proofs.Common.{◌≡◌, ◌≢◌, ◌⊎◌, inl, inr, ⊎_elim, Bool, true, false, ℕ, zero, suc, ◌+◌, ◌-◌, ◌<◌, ◌≤◌, ℤ, pos, negsuc, neg_ℤ, ◌*ℤ◌, List, [], ◌∷◌, ◌++◌, map, length, length-append, refl, sym, ap, ◌∙◌, subst, arith}
+-- What is under a prefix is a list, and what a loop has listed of it is the beginning of one.
+use Rattle.std.proofs.Common.{◌≡◌, ◌≢◌, ◌⊎◌, inl, inr, ⊎_elim, Bool, true, false, ℕ, zero, suc, ◌+◌, ◌-◌, ◌<◌, ◌≤◌, ℤ, pos, negsuc, neg_ℤ, ◌*ℤ◌, List, [], ◌∷◌, ◌++◌, map, length, length-append, append_assoc, refl, sym, ap, ◌∙◌, subst, arith}
 use Rattle.std.specs.Prelude.{◌≤ℤ◌}
 use Rattle.std.proofs.lemmas.Int.{ints}
 use Rattle.std.proofs.lemmas.Bool.{cases_eq}
@@ -21,13 +21,13 @@ use Rattle.linear_laws.proofs.PrimitiveAlong.{PrimitiveOf, primitive_of}
 use Rattle.linear_laws.proofs.Proportions.{not_zero_by_form, values_from_multiples, multiples_from_values, same_width, vanish_from_multiple}
 use Rattle.linear_laws.proofs.TightLists.{first_tight_is_one}
 use Rattle.listing_laws.specs.ListedCone.{ListedCone, IsListable}
-use Rattle.listing_laws.specs.Lists.{Lists}
-use Rattle.listing_laws.specs.Prefixes.{taken_at, next_row, IsUnder}
+use Rattle.listing_laws.specs.Lists.{Lists, Begins}
+use Rattle.listing_laws.specs.Prefixes.{taken_at, next_row, IsUnder, IsListedUpTo}
 use Rattle.listing_laws.specs.Directions.{IsShownAlong}
 use Rattle.listing_laws.proofs.AlongLemmas.{shown_along, under_if_first, list_of_one, list_of_none}
 use Rattle.listing_laws.proofs.FirstLists.{taken-nil}
 use Rattle.listing_laws.proofs.ListLemmas.{lists_none, lists_same, lists-append}
-use Rattle.listing_laws.proofs.PrefixLemmas.{skipped, taken_or_not, not_both_under, full}
+use Rattle.listing_laws.proofs.PrefixLemmas.{skipped, taken_or_not, not_both_under, full, loop_takes}
 
 -- it holds or it does not
 abbrev IsSettled : Type 0 → Type 0
@@ -206,3 +206,25 @@ module _ (cone : ListedCone) (listable : IsListable cone) where
   pub prefix_has_list : (marks : List Bool) → length marks ≤ length cone.rows →
       (shown : List Vector) × Lists (IsUnder cone marks) shown
   prefix_has_list marks l = list_from (length cone.rows - length marks) marks (omega arith)
+
+  -- ---- a loop that stops
+  pub loop_stops : (prefix marks : List Bool) (listed : List Vector) → length marks ≤ length cone.rows →
+      IsListedUpTo cone prefix marks listed → Begins (IsUnder cone prefix) listed
+  loop_stops prefix marks listed l g = let rest = prefix_has_list marks l in (rest.0, g rest.0 rest.1)
+
+  pub loop_stops_within : (prefix marks : List Bool) (listed more : List Vector) →
+      length marks < length cone.rows → IsNew cone.n (taken_at cone marks) (next_row cone marks) →
+      IsListedUpTo cone prefix marks listed → Begins (IsUnder cone (marks ++ true ∷ [])) more →
+      Begins (IsUnder cone prefix) (listed ++ more)
+  loop_stops_within prefix marks listed more l w g (rest, a) =
+      by (loop_stops prefix (marks ++ false ∷ []) (listed ++ (more ++ rest))
+      (omega (arith, length-append marks (false ∷ [])))
+      (loop_takes cone marks l prefix listed (more ++ rest) w g a))
+    where
+      by : Begins (IsUnder cone prefix) (listed ++ (more ++ rest)) → Begins (IsUnder cone prefix) (listed ++ more)
+      by (others, b) = (
+        rest ++ others,
+        subst (Lists (IsUnder cone prefix))
+            (ap (λ t. t ++ others) (sym (append_assoc listed more rest)) ∙ append_assoc (listed ++ more) rest others)
+            b,
+      )
