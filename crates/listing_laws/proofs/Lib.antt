@@ -7,4 +7,6 @@ pub mod LocalTest
 pub mod AlongLemmas
 pub mod ShownLemmas
 pub mod WholeLists
+pub mod KnownValues
+pub mod KnownListings
 pub mod ListingLemmas
