@@ -1,14 +1,13 @@
 -- The cone of a system over the first basis of its fixed rows, and over nothing where no row is fixed.
-use Rattle.std.proofs.Common.{◌≡◌, ◌↔◌, Bool, true, false, cond, ℕ, ℤ, zero, suc, pos, negsuc, List, [], ◌∷◌, length, refl, sym, ap, subst}
-use Rattle.std.specs.List.{All, Any, Contains, list_any, slice_index_or}
+use Rattle.std.proofs.Common.{◌≡◌, ◌↔◌, Bool, true, false, cond, ℕ, ℤ, zero, suc, pos, negsuc, List, [], ◌∷◌, refl, ap}
+use Rattle.std.specs.List.{All, Any, list_any}
 use Rattle.std.proofs.lemmas.List.Folds.{Any-from_list_any, list_any-from_Any}
 use Rattle.poly_num.specs.Vectors.{Vector, ◌·◌}
 use Rattle.poly_model.specs.declared.kind.Kind.{Kind}
 use Rattle.poly_model.specs.declared.kind.Kind.TheVariants.{H, V}
-use Rattle.poly_model.specs.Independence.{Vanish, IsFirstBasis, taken}
+use Rattle.poly_model.specs.Independence.{IsFirstBasis, taken}
 use Rattle.poly_model.specs.Systems.{Row, System}
-use Rattle.poly_model.specs.Cones.{IsTight}
-use Rattle.poly_model.specs.FreeColumns.{IsZeroAtFree, AreFreeColumns}
+use Rattle.poly_model.specs.FreeColumns.{AreFreeColumns}
 use Rattle.poly_model.specs.Extreme.{TouchesPoint, IsShown}
 use Rattle.linear_laws.specs.NewRows.{AreNew}
 use Rattle.linear_laws.proofs.Members.{Contains-nil}

@@ -1,15 +1,14 @@
 -- The cone of a system: it is listable, its shown corners are the extreme vectors, and it is there.
-use Rattle.std.proofs.Common.{◌≡◌, ◌↔◌, Bool, true, false, cond, ℕ, ℤ, pos, List, [], ◌∷◌, map, length, refl, sym, ◌∙◌, subst, arith}
+use Rattle.std.proofs.Common.{◌≡◌, ◌↔◌, Bool, true, false, cond, ℤ, pos, length, refl, sym, ◌∙◌, subst, arith}
 use Rattle.std.specs.Prelude.{◌≤ℤ◌}
 use Rattle.std.proofs.lemmas.Int.{ints}
-use Rattle.std.specs.List.{AllByRecursion, All, slice_index_or}
-use Rattle.poly_num.specs.Vectors.{Vector, ◌·◌, IsZero}
-use Rattle.poly_model.specs.Independence.{Vanish, IsFirstBasis, taken}
-use Rattle.poly_model.specs.Systems.{Row, System}
-use Rattle.poly_model.specs.Cones.{Meets, IsInCone, IsTight}
-use Rattle.poly_model.specs.FreeColumns.{IsZeroAtFree, AreFreeColumns}
-use Rattle.poly_model.specs.Extreme.{IsOnFace, IsExtreme}
-use Rattle.linear_laws.specs.Corners.{IsInConeOf, IsPointed, IsOnTight, IsCorner}
+use Rattle.std.specs.List.{AllByRecursion, All}
+use Rattle.poly_num.specs.Vectors.{Vector, ◌·◌}
+use Rattle.poly_model.specs.Systems.{System}
+use Rattle.poly_model.specs.Cones.{IsInCone}
+use Rattle.poly_model.specs.FreeColumns.{IsZeroAtFree}
+use Rattle.poly_model.specs.Extreme.{IsExtreme}
+use Rattle.linear_laws.specs.Corners.{IsInConeOf, IsPointed}
 use Rattle.cone_laws.proofs.RowLemmas.{forms_from_rows, rows_from_forms}
 use Rattle.cone_laws.proofs.ColumnLemmas.{zero_from_tight}
 use Rattle.listing_laws.specs.ListedCone.{ListedCone, IsListable, IsShownCorner, IsConeOf}

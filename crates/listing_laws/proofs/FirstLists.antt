@@ -1,12 +1,15 @@
 -- The first independent list of the rows tight at a vector: how it goes on at the next row, and what the rows
 -- taken tell.
-use Rattle.std.proofs.Common.{◌≡◌, ◌↔◌, Bool, true, false, ℕ, suc, ◌+◌, ◌<◌, ◌≤◌, pos, List, [], ◌∷◌, ◌++◌, length, refl, sym, ap, ◌∙◌, subst, arith}
-use Rattle.std.specs.List.{slice_index_or}
+use Rattle.std.proofs.Common.{◌≡◌, ◌↔◌, ⊎_elim, Bool, true, false, ℕ, suc, ◌+◌, ◌<◌, ◌≤◌, pos, List, [], ◌∷◌, ◌++◌, length, refl, sym, ap, ◌∙◌, subst, arith}
+use Rattle.std.specs.List.{Contains, slice_index_or}
 use Rattle.poly_num.specs.Vectors.{Vector, ◌·◌}
+use Rattle.poly_model.specs.Keys.{IsAscending}
 use Rattle.poly_model.specs.Independence.{Vanish, Follows, IsNew, taken}
 use Rattle.linear_laws.specs.Corners.{IsOnTight}
 use Rattle.linear_laws.specs.LocalTest.{AreFirstTight}
+use Rattle.linear_laws.proofs.Members.{Contains-nil, Contains-cons_cases}
 use Rattle.listing_laws.specs.Prefixes.{labels_from}
+use Rattle.listing_laws.proofs.ListLemmas.{all_members}
 
 pub taken-nil : (before gs : List Vector) → taken before gs [] ≡ before
 taken-nil before [] = refl
@@ -41,6 +44,25 @@ labels-false k [] = refl
 labels-false k (true ∷ ms) = ap (λ ks. k ∷ ks) (labels-false (suc k) ms)
 labels-false k (false ∷ ms) = labels-false (suc k) ms
 
+-- ---- the labels
+pub labels_within : (j : ℕ) (ms : List Bool) (k : ℕ) → Contains (labels_from j ms) k → (j ≤ k) × (k < j + length ms)
+labels_within j [] k c = absurd (Contains-nil k c)
+labels_within j (true ∷ ms) k c =
+    ⊎_elim (λ e. (omega (arith, e), omega (arith, e)))
+    (λ d. let l = labels_within (suc j) ms k d in let m = l.0 in let n = l.1 in (omega arith, omega arith))
+    (Contains-cons_cases k j (labels_from (suc j) ms) c)
+labels_within j (false ∷ ms) k c =
+    let l = labels_within (suc j) ms k c in let m = l.0 in let n = l.1 in (omega arith, omega arith)
+
+pub labels_ascend : (j : ℕ) (ms : List Bool) → IsAscending (labels_from j ms)
+labels_ascend j [] = tt
+labels_ascend j (true ∷ ms) = (
+  all_members (λ k. j < k) (labels_from (suc j) ms) (λ k c. let l = (labels_within (suc j) ms k c).0 in omega arith),
+  labels_ascend (suc j) ms,
+)
+labels_ascend j (false ∷ ms) = labels_ascend (suc j) ms
+
+-- ---- how many rows are taken
 pub length-taken : (before gs : List Vector) (ms : List Bool) (k : ℕ) → length ms ≤ length gs →
     length (taken before gs ms) ≡ length before + length (labels_from k ms)
 length-taken before gs [] k l = omega (arith, ap length (taken-nil before gs))

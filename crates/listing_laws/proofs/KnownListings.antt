@@ -1,10 +1,10 @@
 -- Listings that are known from a drawing, made as a program makes them: prefix by prefix, with the local test where
 -- one direction is left.
-use Rattle.std.proofs.Common.{◌≡◌, ◌≢◌, ⊎_elim, Bool, true, false, ℕ, zero, suc, ◌<◌, ℤ, pos, negsuc, List, [], ◌∷◌, length, refl, subst, arith}
+use Rattle.std.proofs.Common.{◌≡◌, ◌≢◌, ⊎_elim, true, false, ℕ, zero, suc, ◌<◌, pos, negsuc, [], ◌∷◌, length, refl, subst, arith}
 use Rattle.std.proofs.lemmas.Int.{ints}
 use Rattle.std.specs.List.{All, Contains}
 use Rattle.std.proofs.lemmas.List.Elements.{All-from_recursion}
-use Rattle.poly_num.specs.Vectors.{Vector, ◌·◌, IsZero, IsPrimitive}
+use Rattle.poly_num.specs.Vectors.{Vector, ◌·◌, IsZero}
 use Rattle.poly_num.specs.Divisors.{gcd_in, gcd_of}
 use Rattle.poly_num.proofs.PrimitiveLemmas.{primitive_from_gcd}
 use Rattle.poly_model.specs.Systems.{System, cone_of}
@@ -15,10 +15,10 @@ use Rattle.linear_laws.proofs.Members.{Contains-nil, Contains-first, Contains-co
 use Rattle.cone_laws.proofs.KnownValues.{h_file, inequality}
 use Rattle.cone_laws.proofs.KnownColumns.{begins_not_free}
 use Rattle.cone_laws.proofs.KnownExtremes.{one_is_not_zero}
-use Rattle.listing_laws.specs.ListedCone.{ListedCone, IsListable, IsConeOf, cone_over}
+use Rattle.listing_laws.specs.ListedCone.{ListedCone, row_at, IsListable, IsConeOf, cone_over}
 use Rattle.listing_laws.specs.Lists.{Lists}
-use Rattle.listing_laws.specs.Prefixes.{labels_of, IsUnder, IsListedUpTo}
-use Rattle.listing_laws.specs.Directions.{row_at, DualVector, DualVectors, IsLeft, LeavesOne, PassesLocalTest, IsShownAlong}
+use Rattle.listing_laws.specs.Prefixes.{IsUnder, IsListedUpTo}
+use Rattle.listing_laws.specs.Directions.{DualVector, IsLeft, LeavesOne}
 use Rattle.listing_laws.proofs.BaseLemmas.{nothing_is_base}
 use Rattle.listing_laws.proofs.ConeLemmas.{is_listable}
 use Rattle.listing_laws.proofs.ListingLemmas.{whole_listing}
@@ -41,14 +41,16 @@ module _ (cone : ListedCone) (k : ℕ) (v z : Vector) (width : length v ≡ cone
   tested : ((i : ℕ) → 0 < i → row_at cone i · z ≡ pos 0 → i < k → row_at cone i · v ≡ pos 0) →
       (j : ℕ) → Contains (k ∷ []) j → Tested j
   tested h =
-      of_one_label Tested k
-      (record {
-        vector = v;
-        width = width;
-        base = base;
-        here = here;
-        elsewhere = of_one_label (λ j. j ≢ k → row_at cone j · v ≡ pos 0) k (λ n. absurd (n refl));
-      }, h)
+      of_one_label Tested k (
+        record {
+          vector = v;
+          width = width;
+          base = base;
+          here = here;
+          elsewhere = of_one_label (λ j. j ≢ k → row_at cone j · v ≡ pos 0) k (λ n. absurd (n refl));
+        },
+        h,
+      )
 
 left_at : (cone : ListedCone) (k : ℕ) (z : Vector) → (IsZero z → ⊥) → length z ≡ cone.n → Vanish cone.base z →
     row_at cone k · z ≡ pos 0 → IsLeft cone (k ∷ []) z

@@ -1,27 +1,21 @@
 -- Known values of the definitions: a square, its cone, and the first list of its corner. A wrong definition does not
 -- check.
-use Rattle.std.proofs.Common.{◌≡◌, ◌≢◌, ⊎_elim, Bool, true, false, ℕ, zero, suc, ℤ, pos, negsuc, ◌*ℤ◌, ◌+ℤ◌, List, [], ◌∷◌, length, refl, subst, arith}
-use Rattle.std.specs.Prelude.{◌<◌}
-use Rattle.std.proofs.lemmas.Int.{ints}
+use Rattle.std.proofs.Common.{◌≡◌, ⊎_elim, true, false, ℕ, [], ◌∷◌, refl, sym, subst}
 use Rattle.std.specs.List.{All, Contains}
 use Rattle.std.proofs.lemmas.List.Elements.{All-from_recursion}
-use Rattle.poly_num.specs.Vectors.{Vector, ◌·◌, IsZero, IsPrimitive, IsMultipleOf}
-use Rattle.poly_num.specs.Divisors.{gcd_in, gcd_of}
-use Rattle.poly_num.proofs.PrimitiveLemmas.{primitive_from_gcd}
-use Rattle.poly_model.specs.FreeColumns.{IsZeroAtFree, AreFreeColumns}
-use Rattle.poly_model.specs.Cones.{IsTight}
+use Rattle.poly_num.specs.Vectors.{Vector}
+use Rattle.poly_model.specs.FreeColumns.{IsFree, IsZeroAtFree, AreFreeColumns}
+use Rattle.poly_model.specs.Cones.{IsTight, coordinate}
 use Rattle.poly_model.specs.Independence.{Vanish}
 use Rattle.linear_laws.proofs.Members.{Contains-nil, Contains-first, Contains-cons_cases}
-use Rattle.cone_laws.proofs.KnownValues.{square, half_line, corner, axis, upward, bound, infinity}
-use Rattle.cone_laws.proofs.KnownColumns.{square_has_no_free_column}
+use Rattle.cone_laws.proofs.KnownValues.{square, strip, half_line, corner, axis, upward, bound, infinity}
+use Rattle.cone_laws.proofs.KnownColumns.{square_has_no_free_column, height_is_free, only_height_is_free}
 use Rattle.cone_laws.proofs.KnownExtremes.{corner_is_extreme}
-use Rattle.listing_laws.specs.ListedCone.{ListedCone, IsListable, IsConeOf, shows_of, cone_over}
+use Rattle.listing_laws.specs.ListedCone.{ListedCone, IsConeOf, shows_of, cone_over}
 use Rattle.listing_laws.specs.Lists.{Lists}
 use Rattle.listing_laws.specs.Prefixes.{labels_of, taken_at, IsUnder}
-use Rattle.listing_laws.specs.Directions.{row_at, DualVector, DualVectors, IsLeft, LeavesOne, PassesLocalTest, IsShownAlong}
-use Rattle.listing_laws.proofs.BaseLemmas.{nothing_is_base}
-use Rattle.listing_laws.proofs.ConeLemmas.{is_listable, extreme_is_shown_corner}
-use Rattle.listing_laws.proofs.ShownLemmas.{nothing_if_it_fails, one_if_it_passes, nothing_if_neither}
+use Rattle.listing_laws.proofs.BaseLemmas.{nothing_is_base, first_basis_is_base}
+use Rattle.listing_laws.proofs.ConeLemmas.{extreme_is_shown_corner}
 
 -- ---- lists
 -- a vector is not listed twice
@@ -77,10 +71,32 @@ not_with_a_base is = by ((is.fixed axis refl).1 (free, linear))
 list_of_corner : IsUnder square_cone (true ∷ true ∷ false ∷ false ∷ false ∷ []) corner
 list_of_corner = (
   (extreme_is_shown_corner square square_cone square_has_cone corner).0 corner_is_extreme,
-  (refl, (axis, refl, tt, λ e. cc),
-  (refl, (upward, refl, (refl, tt), λ e. cc), ((λ e. cc), ((λ e. cc), ((λ e. cc), tt))))),
+  (
+    refl,
+    (axis, refl, tt, λ e. cc),
+    (refl, (upward, refl, (refl, tt), λ e. cc), ((λ e. cc), ((λ e. cc), ((λ e. cc), tt)))),
+  ),
 )
 
 -- so row 2 cannot be left out
 not_without_row_2 : IsUnder square_cone (true ∷ false ∷ []) corner → ⊥
 not_without_row_2 u = let e = u.1.2.0 refl upward refl (refl, tt) in cc
+
+-- ---- the strip 0 <= x <= 1
+-- the column of y is free: the base reads it
+strip_has_cone : IsConeOf strip (cone_over (coordinate 2 ∷ []) strip)
+strip_has_cone = first_basis_is_base strip (2 ∷ []) (true ∷ []) columns ((upward, refl, tt, λ e. cc), tt)
+  where
+    free_at : (j : ℕ) → Contains (2 ∷ []) j → IsFree strip j
+    free_at j c =
+        ⊎_elim (λ e. subst (IsFree strip) e height_is_free) (λ d. absurd (Contains-nil j d)) (Contains-cons_cases j 2 [] c)
+
+    columns : AreFreeColumns strip (2 ∷ [])
+    columns = record {
+      ascending = (tt, tt);
+      exactly = λ j. (λ f. subst (Contains (2 ∷ [])) (sym (only_height_is_free j f)) (Contains-first 2 []), free_at j);
+    }
+
+-- without a base it is not that of the strip: the line is 0 on nothing, and is not 0 at the free column
+not_without_a_base : IsConeOf strip (cone_over [] strip) → ⊥
+not_without_a_base is = let e = ((is.fixed upward refl).0 tt).0 2 height_is_free in cc

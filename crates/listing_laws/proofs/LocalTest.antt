@@ -1,23 +1,20 @@
 -- Where rows leave one direction, the local test by the values at dual vectors says whether the rows taken are the
 -- first independent list of the rows tight there.
-use Rattle.std.proofs.Common.{◌≡◌, ◌≢◌, ◌⊎◌, ◌↔◌, inl, inr, ⊎_elim, Bool, true, false, ℕ, zero, suc, ◌+◌, ◌-◌, ◌<◌, ◌≤◌, ℤ, pos, ◌+ℤ◌, ◌*ℤ◌, neg_ℤ, List, [], ◌∷◌, ◌++◌, length, refl, sym, ap, ◌∙◌, subst, arith}
-use Rattle.std.proofs.lemmas.List.{append-nil}
+use Rattle.std.proofs.Common.{◌≡◌, ◌≢◌, ◌↔◌, ⊎_elim, Bool, true, false, ℕ, suc, ◌+◌, ◌-◌, ◌<◌, ◌≤◌, ℤ, pos, ◌+ℤ◌, ◌*ℤ◌, neg_ℤ, List, [], ◌∷◌, length, sym, ap, ◌∙◌, subst, arith}
 use Rattle.std.proofs.lemmas.Bool.{cases_eq}
 use Rattle.std.specs.List.{Contains, slice_index_or}
-use Rattle.poly_num.specs.Vectors.{Vector, ◌·◌, IsMultipleOf}
+use Rattle.poly_num.specs.Vectors.{Vector, ◌·◌}
 use Rattle.poly_num.proofs.Ring.{expand, lin, mul_zero, one_mul}
 use Rattle.poly_num.proofs.Order.{zero_factor, mul_nonzero}
-use Rattle.poly_model.specs.Independence.{Vanish, Follows, IsNew, taken, IsAlone}
+use Rattle.poly_model.specs.Independence.{Vanish, Follows, IsNew, taken}
 use Rattle.linear_laws.specs.NewRows.{AreNew}
 use Rattle.linear_laws.specs.LocalTest.{AreFirstTight, HaveSameZeros}
 use Rattle.linear_laws.proofs.Members.{Contains-nil, Contains-first, Contains-later, Contains-cons_cases}
-use Rattle.linear_laws.proofs.Proportions.{values_from_multiples, zero_from_proportion}
 use Rattle.linear_laws.proofs.Combinations.{combination, dot-combination, length-combination, zero_combination, vanish_combination}
-use Rattle.linear_laws.proofs.Alone.{alone_by_first_basis}
-use Rattle.listing_laws.specs.ListedCone.{ListedCone, IsListable}
-use Rattle.listing_laws.specs.Prefixes.{taken_at, labels_from, labels_of}
-use Rattle.listing_laws.specs.Directions.{row_at, DualVector, DualVectors, IsLeft, LeavesOne, PassesLocalTest}
-use Rattle.listing_laws.proofs.FirstLists.{taken-nil, length-taken}
+use Rattle.listing_laws.specs.ListedCone.{ListedCone, row_at}
+use Rattle.listing_laws.specs.Prefixes.{labels_from}
+use Rattle.listing_laws.specs.Directions.{DualVector, DualVectors, IsLeft}
+use Rattle.listing_laws.proofs.FirstLists.{taken-nil, labels_within}
 
 -- ---- rows by their labels
 -- the rows are those with the labels from j on
@@ -38,13 +35,6 @@ pub rows_by_label : (cone : ListedCone) → AreRowsFrom cone 1 cone.rows
 rows_by_label cone =
     rows_from cone 1 cone.rows
     (λ i l. let e : 1 + i - 1 ≡ i = omega arith in ap (λ k. slice_index_or cone.rows k []) e)
-
-pub labels_at_least : (j : ℕ) (ms : List Bool) (k : ℕ) → Contains (labels_from j ms) k → j ≤ k
-labels_at_least j [] k c = absurd (Contains-nil k c)
-labels_at_least j (true ∷ ms) k c =
-    ⊎_elim (λ e. omega (arith, e)) (λ d. let l = labels_at_least (suc j) ms k d in omega arith)
-    (Contains-cons_cases k j (labels_from (suc j) ms) c)
-labels_at_least j (false ∷ ms) k c = let l = labels_at_least (suc j) ms k c in omega arith
 
 module _ (cone : ListedCone) (labels : List ℕ) (duals : DualVectors cone labels) where
   -- where the test stands: the rows `gs` have the labels from j on, those marked are the labels from j on, and the
@@ -85,7 +75,7 @@ module _ (cone : ListedCone) (labels : List ℕ) (duals : DualVectors cone label
   module _ (j : ℕ) (before : List Vector) (g : Vector) (gs : List Vector) (ms : List Bool)
       (s : Stands j before (g ∷ gs) (false ∷ ms)) where
     no_label : Contains labels j → ⊥
-    no_label c = let l = labels_at_least (suc j) ms j (s.back j c (omega arith)) in omega arith
+    no_label c = let l = (labels_within (suc j) ms j (s.back j c (omega arith))).0 in omega arith
 
     after_skipping : Stands (suc j) before gs ms
     after_skipping = record {
@@ -224,8 +214,8 @@ module _ (cone : ListedCone) (labels : List ℕ) (duals : DualVectors cone label
         ((k : ℕ) (c : Contains labels k) → j ≤ k → g · (duals k c).vector ≡ pos 0) → Follows cone.n before g
     follows j before gs ms s only g e h w l v =
         by (clear_all before g w (labels_from j ms) l v s.into
-        (λ k m. s.zero_before k (s.into k m) (labels_at_least j ms k m))
-        (λ k m. h k (s.into k m) (labels_at_least j ms k m)))
+        (λ k m. s.zero_before k (s.into k m) (labels_within j ms k m).0)
+        (λ k m. h k (s.into k m) (labels_within j ms k m).0))
       where
         by : Cleared before g w (labels_from j ms) → g · w ≡ pos 0
         by r =
@@ -238,8 +228,7 @@ module _ (cone : ListedCone) (labels : List ℕ) (duals : DualVectors cone label
         (λ p. tt, λ h i l e k c m. absurd (Contains-nil k (s.back k c (omega arith))))
     test_is_first y same j before [] (m ∷ ms) s only = absurd (let l = s.within in omega arith)
     test_is_first y same j before (g ∷ gs) (true ∷ ms) s only =
-        let go = test_is_first y same (suc j) (g ∷ before) gs ms (after_taking j before g gs ms s) only_later in
-        (
+        let go = test_is_first y same (suc j) (g ∷ before) gs ms (after_taking j before g gs ms s) only_later in (
           λ p. (tight, is_new j before g gs ms s, go.0 (λ i l. p i (omega arith))),
           λ h i l e k c m.
               ⊎_elim
@@ -261,10 +250,11 @@ module _ (cone : ListedCone) (labels : List ℕ) (duals : DualVectors cone label
             (λ (n : k ≢ j). h k c (omega (arith, n))) (cases_eq k j))
     test_is_first y same j before (g ∷ gs) (false ∷ ms) s only =
         let next = after_skipping j before g gs ms s in
-        let go = test_is_first y same (suc j) before gs ms next only_later in
-        (
-          λ p. (λ t. follows j before (g ∷ gs) (false ∷ ms) s only g ((same g).0 t) (entries p ((same g).0 t)),
-              go.0 (λ i l. p i (omega arith))),
+        let go = test_is_first y same (suc j) before gs ms next only_later in (
+          λ p. (
+            λ t. follows j before (g ∷ gs) (false ∷ ms) s only g ((same g).0 t) (entries p ((same g).0 t)),
+            go.0 (λ i l. p i (omega arith)),
+          ),
           λ h i l e k c m.
               ⊎_elim (λ (q : i ≡ j). at_dual_of h.0 i q e k c m)
               (λ (n : i ≢ j). go.1 h.1 i (omega (arith, n)) e k c m)

@@ -1,16 +1,30 @@
 -- The corners under a prefix, and those under it with the next row or without.
-use Rattle.std.proofs.Common.{◌≡◌, ◌≢◌, ◌⊎◌, ◌↔◌, inl, inr, ⊎_elim, Bool, true, false, ℕ, ◌+◌, ◌<◌, pos, List, [], ◌∷◌, ◌++◌, length, ap, sym, ◌∙◌, arith}
+use Rattle.std.proofs.Common.{◌≡◌, ◌≢◌, ◌⊎◌, ◌↔◌, inl, inr, ⊎_elim, Bool, true, false, ℕ, ◌+◌, ◌-◌, ◌<◌, ◌≤◌, pos, List, [], ◌∷◌, ◌++◌, length, ap, arith}
 use lib.IntN.{ℤ_discrete}
+use Rattle.std.specs.List.{Contains, slice_index_or}
+use Rattle.poly_model.specs.Keys.{IsAscending}
 use Rattle.poly_num.specs.Vectors.{Vector, ◌·◌}
 use Rattle.poly_model.specs.Independence.{Follows, IsNew}
-use Rattle.linear_laws.specs.LocalTest.{AreFirstTight}
 use Rattle.linear_laws.proofs.FirstBases.{not_both}
 use Rattle.linear_laws.proofs.TightLists.{first_tight_is_one, alone_by_tight_count}
-use Rattle.listing_laws.specs.ListedCone.{ListedCone, IsListable, IsShownCorner}
+use Rattle.listing_laws.specs.ListedCone.{ListedCone, row_at, IsListable, IsShownCorner}
 use Rattle.listing_laws.specs.Lists.{Lists}
 use Rattle.listing_laws.specs.Prefixes.{taken_at, next_row, labels_of, IsUnder, IsListedUpTo}
-use Rattle.listing_laws.proofs.FirstLists.{taken-true, taken-false, labels-true, labels-false, tight-true, tight-false}
+use Rattle.listing_laws.proofs.FirstLists.{labels_within, labels_ascend, taken-true, taken-false, labels-true, labels-false, tight-true, tight-false}
 use Rattle.listing_laws.proofs.ListLemmas.{goes_start, goes_skip, goes_take, goes_end}
+
+-- ---- the labels
+pub next_label : (cone : ListedCone) (marks : List Bool) → row_at cone (length marks + 1) ≡ next_row cone marks
+next_label cone marks =
+    let e : length marks + 1 - 1 ≡ length marks = omega arith in
+    ap (λ k. slice_index_or cone.rows k []) e
+
+pub labels_are_ascending : (marks : List Bool) → IsAscending (labels_of marks)
+    × ((k : ℕ) → Contains (labels_of marks) k → (0 < k) × (k ≤ length marks))
+labels_are_ascending marks = (
+  labels_ascend 1 marks,
+  λ k c. let l = labels_within 1 marks k c in let m = l.0 in let n = l.1 in (omega arith, omega arith),
+)
 
 module _ (cone : ListedCone) where
   -- ---- the next row
@@ -48,7 +62,7 @@ module _ (cone : ListedCone) where
         × (labels_of (marks ++ false ∷ []) ≡ labels_of marks)
     stays = (taken-false cone.base cone.rows marks l, labels-false 1 marks)
 
-    -- ---- the loop
+    -- ---- the loop over the rows
     pub loop_skips : (prefix : List Bool) (listed : List Vector) →
         Follows cone.n (taken_at cone marks) (next_row cone marks) →
         IsListedUpTo cone prefix marks listed → IsListedUpTo cone prefix (marks ++ false ∷ []) listed

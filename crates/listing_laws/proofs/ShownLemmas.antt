@@ -8,13 +8,13 @@ use Rattle.linear_laws.specs.NewRows.{AreNew}
 use Rattle.linear_laws.specs.LocalTest.{AreFirstTight, HaveSameZeros}
 use Rattle.linear_laws.proofs.Alone.{alone_by_first_basis}
 use Rattle.linear_laws.proofs.Proportions.{values_from_multiples, zero_from_proportion, factor_nonzero}
-use Rattle.listing_laws.specs.ListedCone.{ListedCone, IsListable}
+use Rattle.listing_laws.specs.ListedCone.{ListedCone, row_at, IsListable}
 use Rattle.listing_laws.specs.Lists.{Lists}
 use Rattle.listing_laws.specs.Prefixes.{taken_at, labels_of, IsUnder}
-use Rattle.listing_laws.specs.Directions.{row_at, LeavesOne, PassesLocalTest, IsShownAlong}
-use Rattle.listing_laws.proofs.FirstLists.{length-taken}
+use Rattle.listing_laws.specs.Directions.{LeavesOne, PassesLocalTest, IsShownAlong}
+use Rattle.listing_laws.proofs.FirstLists.{labels_within, length-taken}
 use Rattle.listing_laws.proofs.ListLemmas.{lists_none}
-use Rattle.listing_laws.proofs.LocalTest.{Stands, LeavesOnly, rows_by_label, labels_at_least, new_taken, vanish_from_labels, test_is_first}
+use Rattle.listing_laws.proofs.LocalTest.{Stands, LeavesOnly, rows_by_label, new_taken, vanish_from_labels, test_is_first}
 use Rattle.listing_laws.proofs.AlongLemmas.{shown_along, under_if_first, list_of_one, list_of_none}
 
 module _ (cone : ListedCone) (listable : IsListable cone) (marks : List Bool) (z : Vector)
@@ -49,7 +49,7 @@ module _ (cone : ListedCone) (listable : IsListable cone) (marks : List Bool) (z
 
   leaves_only : LeavesOnly cone (labels_of marks) s.duals z s.left 1 cone.base
   leaves_only g w e l v h =
-      let m = alone w l (vanish_at w v (λ k c. h k c (labels_at_least 1 marks k c))) in
+      let m = alone w l (vanish_at w v (λ k c. h k c (labels_within 1 marks k c).0)) in
       zero_from_proportion m.0 m.1 (g · w) (g · z) m.2 (values_from_multiples m.0 m.1 w z m.3 g) e
 
   same_zeros : (y : Vector) → (IsZero y → ⊥) → IsMultipleOf z y → HaveSameZeros y z

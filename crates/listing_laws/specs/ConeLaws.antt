@@ -1,5 +1,5 @@
 -- Laws of the cone of a system.
-use Rattle.std.specs.Prelude.{◌≡◌, ◌↔◌, Bool, true, pos, neg_ℤ, ◌<ℤ◌, List, [], length, map, ℕ}
+use Rattle.std.specs.Prelude.{◌≡◌, ◌↔◌, Bool, true, pos, neg_ℤ, ◌<ℤ◌, List, [], map, ℕ}
 use Rattle.std.specs.List.{All, Contains}
 use Rattle.poly_num.specs.Vectors.{Vector, IsZero}
 use Rattle.poly_model.specs.declared.kind.Kind.TheVariants.{H}

@@ -5,7 +5,7 @@
 #![tactic(auto)]
 
 ghost use Rattle.listing_laws.specs.ConeLaws.{FirstBasisIsBase, NothingIsBase, ConeIsListable, ExtremeIsShownCorner, OnlyZeroHasItsOpposite, WholeListing, FeasibleByCorners, FeasibleByListing, FeasibleFileByListing};
-ghost use Rattle.listing_laws.specs.PrefixLaws.{EachHasOneList, ListIsFull, FollowingIsSkipped, NewIsTakenOrNot, NotBoth, TakenGrows, TakenStays};
+ghost use Rattle.listing_laws.specs.PrefixLaws.{EachHasOneList, ListIsFull, FollowingIsSkipped, NewIsTakenOrNot, NotBoth, TakenGrows, TakenStays, NextRowHasNextLabel, LabelsAscend};
 ghost use Rattle.listing_laws.specs.PrefixLaws.{LoopBegins, LoopSkips, LoopTakes, LoopEnds, PrefixHasList, LoopStops, LoopStopsWithin};
 ghost use Rattle.listing_laws.specs.ShowLaws.{UnderIsTested, NothingIfItFails, OneIfItPasses, NothingIfNeither};
 
@@ -33,6 +33,8 @@ pub fn prefixes()
     ensures apart { NotBoth }
     ensures grows { TakenGrows }
     ensures stays { TakenStays }
+    ensures next { NextRowHasNextLabel }
+    ensures labels { LabelsAscend }
 {}
 
 /// What is listed under a prefix, row by row.
