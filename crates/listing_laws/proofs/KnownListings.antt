@@ -142,7 +142,8 @@ at_row_2 =
     })
   where
     -- row 1 is not 0 there
-    passes : (i : ℕ) → 0 < i → row_at interval_cone i · high ≡ pos 0 → i < 2 → row_at interval_cone i · low ≡ pos 0
+    passes : (i : ℕ) → 0 < i → row_at interval_cone i · high ≡ pos 0 → i < 2 →
+        row_at interval_cone i · low ≡ pos 0
     passes zero l e m = absurd (omega arith)
     passes (suc zero) l e m = cc
     passes (suc (suc i)) l e m = absurd (omega arith)
@@ -167,7 +168,8 @@ at_row_3 =
     (λ a. let h = a.in_cone.nonnegative.1.0 in omega (arith, ints))
     (λ a. let h = a.in_cone.nonnegative.0 in omega (arith, ints))
   where
-    passes : (i : ℕ) → 0 < i → row_at interval_cone i · along ≡ pos 0 → i < 3 → row_at interval_cone i · low ≡ pos 0
+    passes : (i : ℕ) → 0 < i → row_at interval_cone i · along ≡ pos 0 → i < 3 →
+        row_at interval_cone i · low ≡ pos 0
     passes zero l e m = absurd (omega arith)
     passes (suc zero) l e m = cc
     passes (suc (suc zero)) l e m = cc
@@ -248,7 +250,8 @@ not_at_row_2 =
     (λ p. let c = Contains-first 2 [] in
     let d = doubled_leaves.duals 2 c in fails d.vector d.width d.here (p 1 (omega arith) refl 2 c (omega arith)))
   where
-    fails : (v : Vector) → length v ≡ 2 → (pos 0 ∷ pos 2 ∷ []) · v ≢ pos 0 → (pos 0 ∷ pos 1 ∷ []) · v ≡ pos 0 → ⊥
+    fails : (v : Vector) → length v ≡ 2 → (pos 0 ∷ pos 2 ∷ []) · v ≢ pos 0 →
+        (pos 0 ∷ pos 1 ∷ []) · v ≡ pos 0 → ⊥
     fails [] l n e = absurd (omega arith)
     fails (a ∷ []) l n e = absurd (omega arith)
     fails (a ∷ b ∷ []) l n e = n (omega (arith, ints))

@@ -52,7 +52,9 @@ square_has_cone = nothing_is_base square columns none
     }
 
     none : All (λ row. row.linear ≡ true → ⊥) square.rows
-    none = All-from_recursion (λ row. row.linear ≡ true → ⊥) square.rows (λ e. cc, (λ e. cc, (λ e. cc, (λ e. cc, (λ e. cc, tt)))))
+    none =
+        All-from_recursion (λ row. row.linear ≡ true → ⊥) square.rows
+        (λ e. cc, (λ e. cc, (λ e. cc, (λ e. cc, (λ e. cc, tt)))))
 
 -- with x >= 0 for a base it is another cone
 not_with_a_base : IsConeOf square (cone_over (axis ∷ []) square) → ⊥
@@ -62,7 +64,9 @@ not_with_a_base is = by ((is.fixed axis refl).1 (free, linear))
     free j f = absurd (square_has_no_free_column j f)
 
     linear : All (λ row. row.linear ≡ true → IsTight axis row) square.rows
-    linear = All-from_recursion (λ row. row.linear ≡ true → IsTight axis row) square.rows (λ e. cc, (λ e. cc, (λ e. cc, (λ e. cc, (λ e. cc, tt)))))
+    linear =
+        All-from_recursion (λ row. row.linear ≡ true → IsTight axis row) square.rows
+        (λ e. cc, (λ e. cc, (λ e. cc, (λ e. cc, (λ e. cc, tt)))))
 
     by : Vanish (axis ∷ []) axis → ⊥
     by v = let e = v.0 in cc

@@ -3,6 +3,8 @@ pub mod FirstLists
 pub mod PrefixLemmas
 pub mod ConeLemmas
 pub mod BaseLemmas
+pub mod StandingLemmas
+pub mod ClearedVectors
 pub mod LocalTest
 pub mod AlongLemmas
 pub mod ShownLemmas

@@ -62,10 +62,12 @@ marks_settled : (ms ks : List Bool) → IsSettled (ms ≡ ks)
 marks_settled [] [] = inl refl
 marks_settled [] (k ∷ ks) = inr (λ e. cc)
 marks_settled (m ∷ ms) [] = inr (λ e. cc)
-marks_settled (true ∷ ms) (true ∷ ks) = ⊎_elim (λ e. inl (ap (λ t. true ∷ t) e)) (λ n. inr (λ e. n (cc))) (marks_settled ms ks)
+marks_settled (true ∷ ms) (true ∷ ks) =
+    ⊎_elim (λ e. inl (ap (λ t. true ∷ t) e)) (λ n. inr (λ e. n (cc))) (marks_settled ms ks)
 marks_settled (true ∷ ms) (false ∷ ks) = inr (λ e. cc)
 marks_settled (false ∷ ms) (true ∷ ks) = inr (λ e. cc)
-marks_settled (false ∷ ms) (false ∷ ks) = ⊎_elim (λ e. inl (ap (λ t. false ∷ t) e)) (λ n. inr (λ e. n (cc))) (marks_settled ms ks)
+marks_settled (false ∷ ms) (false ∷ ks) =
+    ⊎_elim (λ e. inl (ap (λ t. false ∷ t) e)) (λ n. inr (λ e. n (cc))) (marks_settled ms ks)
 
 first_settled : (n : ℕ) (before : List Vector) (y : Vector) (gs : List Vector) (ms : List Bool) → AreNew n before →
     length ms ≡ length gs → IsSettled (AreFirstTight n before y gs ms)
@@ -82,7 +84,8 @@ new_if_first n before y [] (m ∷ ms) a h = absurd h
 new_if_first n before y (g ∷ gs) (true ∷ ms) a h = new_if_first n (g ∷ before) y gs ms (h.1, a) h.2
 new_if_first n before y (g ∷ gs) (false ∷ ms) a h = new_if_first n before y gs ms a h.1
 
-base_from_taken : (before gs : List Vector) (ms : List Bool) (y : Vector) → Vanish (taken before gs ms) y → Vanish before y
+base_from_taken : (before gs : List Vector) (ms : List Bool) (y : Vector) → Vanish (taken before gs ms) y →
+    Vanish before y
 base_from_taken before [] ms y v = v
 base_from_taken before (g ∷ gs) [] y v = v
 base_from_taken before (g ∷ gs) (true ∷ ms) y v = (base_from_taken (g ∷ before) gs ms y v).1
@@ -191,7 +194,8 @@ module _ (cone : ListedCone) (listable : IsListable cone) where
       lt : length marks < length cone.rows
       lt = omega arith
 
-      by : IsNew cone.n (taken_at cone marks) (next_row cone marks) ⊎ Follows cone.n (taken_at cone marks) (next_row cone marks) →
+      by : IsNew cone.n (taken_at cone marks) (next_row cone marks)
+          ⊎ Follows cone.n (taken_at cone marks) (next_row cone marks) →
           HasList (marks ++ true ∷ []) → HasList (marks ++ false ∷ []) → HasList marks
       by (inr f) with_row without = (
         without.0,
