@@ -4,9 +4,10 @@ use Prim.Native.Nat.{◌∣◌}
 use Rattle.std.specs.Prelude.{◌<ℤ◌, unsigned_abs}
 use Rattle.std.proofs.lemmas.Bool.{cases_eq}
 use Rattle.std.proofs.lemmas.Int.{ints}
-use Rattle.std.proofs.lemmas.Nat.Gcd.{dvd_trans}
+use Rattle.std.proofs.lemmas.Nat.Gcd.{dvd_refl, dvd_trans}
 use Rattle.std.proofs.Math.Nat.{one-dvd, eq-zero_of_zero-dvd}
 use Rattle.poly_num.specs.Divisors.{gcd_of, IsGcdOf}
+use Rattle.poly_num.proofs.Ring.{lin}
 use Rattle.poly_num.proofs.DivisorLemmas.{gcd_of_is, gcd_same, gcd_of-times}
 use Rattle.poly_num.proofs.PrimitiveLemmas.{zero_from_size}
 use Rattle.dictionary.specs.declared.exchange.Exchange.{Exchange}
@@ -31,6 +32,10 @@ positive_gcd a b (pos zero) lt h =
     let e = zero_from_size a (eq-zero_of_zero-dvd h.1.0) in absurd (omega (arith, ints))
 positive_gcd a b (pos (suc g)) lt h = omega (arith, ints)
 positive_gcd a b (negsuc g) lt h = absurd (let l = h.0 in omega (arith, ints))
+
+-- a divisor that divides is the greatest common one
+pub gcd_divides : (g n : ℤ) → pos 0 <ℤ g → unsigned_abs g ∣ unsigned_abs n → IsGcdOf g n g
+gcd_divides g n lt d = (omega (arith, lin), (dvd_refl (unsigned_abs g), d, λ k p q. p))
 
 module _ (x : Exchange) (cells : List ℤ) where
   pub common_start : (g : ℤ) → pos 0 <ℤ x.denominator → IsGcdOf x.denominator (pivot_cell x cells) g →

@@ -4,6 +4,7 @@ use Prim.Native.Nat.{◌∣◌}
 use Rattle.std.specs.Prelude.{◌<ℤ◌, unsigned_abs, int_div}
 use Rattle.std.proofs.lemmas.Int.{ints, unsigned_abs-mul}
 use Rattle.std.proofs.lemmas.Nat.Gcd.{dvd_refl, le_of_dvd}
+use Rattle.poly_num.specs.Halves.{IsHalf}
 use Rattle.poly_num.specs.Numbers.{IsNum, IsWord}
 use Rattle.poly_num.specs.Divisors.{IsGcdOf}
 use Rattle.poly_num.proofs.Ring.{mul_assoc}
@@ -42,6 +43,13 @@ quotient_num q h a lt e w = let l = quotient_size q h a lt e in omega arith
 pub divisor_word : (g h : ℤ) → pos 0 <ℤ g → unsigned_abs h ∣ unsigned_abs g → IsWord g → IsWord h
 divisor_word g h lt d w =
     let l : unsigned_abs h ≤ unsigned_abs g = le_of_dvd (size_positive g lt) d in omega arith
+
+pub divisor_half : (g h : ℤ) → pos 0 <ℤ g → unsigned_abs h ∣ unsigned_abs g → IsHalf g → IsHalf h
+divisor_half g h lt d w =
+    let l : unsigned_abs h ≤ unsigned_abs g = le_of_dvd (size_positive g lt) d in omega arith
+
+pub quotient_half : (q h a : ℤ) → pos 0 <ℤ h → q *ℤ h ≡ a → IsHalf a → IsHalf q
+quotient_half q h a lt e w = let l = quotient_size q h a lt e in omega arith
 
 pub left_gcd : (g n h : ℤ) → pos 0 <ℤ g → IsGcdOf g n h → IsLeftOf g n h
 left_gcd g n h lt is = record { positive = positive_gcd g n h lt is; divides = is.1.0; greatest = is.1.2 }

@@ -48,6 +48,9 @@ factor_nonzero v t h nonzero sign lt =
 zero_column : (g z t c h d : ℤ) → c *ℤ h ≡ z → c ≡ pos 0 → g *ℤ z ≡ (t *ℤ c) *ℤ d
 zero_column g z t c h d e zero = rw (← e, zero, zero_mul h, mul_zero g, mul_zero t, zero_mul d) refl
 
+pub without_cross : (a b : ℤ) → a *ℤ b -ℤ pos 0 *ℤ pos 0 ≡ a *ℤ b
+without_cross a b = omega (arith, lin)
+
 zero_inside : (g e p c y : ℤ) → c ≡ pos 0 → p ≡ g → g *ℤ e ≡ e *ℤ p -ℤ c *ℤ y
 zero_inside g e p c y zero same =
     rw (zero, same)

@@ -2,14 +2,19 @@
 //! pass over the table is enough.
 ghost use Rattle.std.specs.Prelude.{◌≡◌, ◌≢◌, ◌<◌, ◌≤◌, ◌*◌, ◌+◌, ◌*ℤ◌, ◌-ℤ◌, ◌<ℤ◌, length, pos, ℕ, unsigned_abs, ◌↔◌, IsTrue};
 ghost use Rattle.std.specs.List.{slice_index_or, All};
+ghost use Rattle.std.specs.Option.{IfSome};
 ghost use Prim.Native.Nat.{◌∣◌};
 ghost use Rattle.poly_num.specs.Numbers.{IsNum, IsWord};
+ghost use Rattle.poly_num.specs.Divisors.{IsGcdOf};
+ghost use Rattle.poly_num.specs.Halves.{IsHalf};
 ghost use Rattle.dictionary.specs.Cells.{cell, pivot_cell, IsExchanged};
 ghost use Rattle.dictionary.specs.WordExchange.{HasUnitRow, IsCommonTo, IsSignOf, IsTurnedRow, IsLeftOf, IsScaled, IsRescaled};
 
 use crate::cells::{at_place, cell_at};
 use crate::exchange::Exchange;
-use poly_num::{Divisor, Num, gcd, known_product, neg, quotient, word_cross, word_product};
+use poly_num::{
+    Divisor, Num, are_halves, gcd, is_half, known_product, neg, quotient, word_cross, word_product,
+};
 
 // Whether the number is 1.
 #[tactic(auto, using(std::proofs::lemmas::Bool::Decides::nat_tests))]
@@ -19,42 +24,64 @@ fn is_one(a: Num) -> bool
     a == Num::ONE
 }
 
+// Makes the divisor its greatest common divisor with a number; most often it divides that.
+fn join(common: &mut Divisor, n: Num)
+    requires positive { pos 0 <ℤ common.old }
+    requires word { IsWord common.old }
+    ensures { IsGcdOf common.old n common.new }
+{
+    match common.exact(n) {
+        Some(_) => {}
+        None => {
+            let g = gcd(common.value(), n);
+            *common = Divisor::new(g);
+        }
+    }
+}
+
 // The greatest common divisor of the denominator and of the cells of the exchange's column and row.
-fn common_factor(cells: &[Num], x: &Exchange) -> Num
+fn common_factor(cells: &[Num], x: &Exchange) -> Divisor
     requires size { length cells.now ≡ x.now.height * x.now.width }
     requires row { x.now.row < x.now.height }
     requires column { x.now.column < x.now.width }
     requires denominator { pos 0 <ℤ x.now.denominator }
+    requires word { IsWord x.now.denominator }
     ensures { IsCommonTo x.now cells.now x.now.height x.now.width result }
 {
-    let mut common = gcd(
+    let mut common = Divisor::new(gcd(
         x.denominator,
         cell_at(cells, x.height, x.width, x.row, x.column),
-    );
+    ));
     'rows: for i in 0..x.height {
-        if is_one(common) {
+        if is_one(common.value()) {
             return common;
         }
         let c = cell_at(cells, x.height, x.width, i, x.column);
-        common = gcd(common, c);
+        join(&mut common, c);
     }
     'columns: for j in 0..x.width {
-        if is_one(common) {
+        if is_one(common.value()) {
             return common;
         }
         let c = cell_at(cells, x.height, x.width, x.row, j);
-        common = gcd(common, c);
+        join(&mut common, c);
     }
     common
 }
 
 // `a / h`; most often h is 1.
-fn over_common(a: Num, h: Num) -> Num
-    requires positive { pos 0 <ℤ h }
-    requires divides { unsigned_abs h ∣ unsigned_abs a }
-    ensures { result *ℤ h ≡ a }
+fn over_common(a: Num, h: &Divisor) -> Num
+    requires positive { pos 0 <ℤ h.now }
+    requires divides { unsigned_abs h.now ∣ unsigned_abs a }
+    ensures { result *ℤ h.now ≡ a }
 {
-    if is_one(h) { a } else { quotient(a, h) }
+    if is_one(h.value()) {
+        return a;
+    }
+    match h.exact(a) {
+        Some(q) => q,
+        None => quotient(a, h.value()),
+    }
 }
 
 // 1 or -1.
@@ -132,39 +159,48 @@ fn over(cells: &mut [Num], place: usize, n: Num, divisor: &mut Divisor) -> Num
     }
 }
 
-// The new cell in row i and a column j that is not the exchange's, over the divisor. `c` is the old cell in
-// the row and the exchange's column.
-fn inside_cell(
+// `e p - c a` over the divisor, where all of it is known to fit half a word and the quotient does too;
+// `None` says nothing.
+fn quick(half: bool, e: Num, p: Num, c: Num, a: Num, divisor: &Divisor) -> Option<Num>
+    requires e { IsWord e }
+    requires half { IsTrue half → IsHalf p × IsHalf c × IsHalf a × IsHalf divisor.now }
+    ensures { IfSome result (λ q. q *ℤ divisor.now ≡ e *ℤ p -ℤ c *ℤ a) }
+{
+    if half {
+        divisor.exact_half(e, p, c, a)
+    } else {
+        None
+    }
+}
+
+// `e p - c a` over the divisor. Where that does not divide it, the divisor shrinks, and the cells before the
+// place grow.
+fn over_cross(
     cells: &mut [Num],
-    row: &[Num],
-    x: &Exchange,
-    i: usize,
-    j: usize,
+    place: usize,
+    e: Num,
     p: Num,
     c: Num,
+    a: Num,
+    half: bool,
     divisor: &mut Divisor,
 ) -> Num
-    requires size { length cells.old ≡ x.now.height * x.now.width }
-    requires width { length row.now ≡ x.now.width }
-    requires i { i < x.now.height }
-    requires j { j < x.now.width }
+    requires place { place ≤ length cells.old }
+    requires e { IsWord e }
     requires p { IsWord p }
     requires c { IsWord c }
-    requires cell { IsWord (cell x.now.width cells.old i j) }
-    requires above { IsWord (slice_index_or row.now j (pos 0)) }
+    requires a { IsWord a }
+    requires half { IsTrue half → IsHalf p × IsHalf c × IsHalf a × IsHalf divisor.old }
     requires positive { pos 0 <ℤ divisor.old }
     requires word { IsWord divisor.old }
-    requires fits { (k : ℕ) → k < i * x.now.width + j → IsNum (slice_index_or cells.old k (pos 0) *ℤ divisor.old) }
-    ensures quotient { result *ℤ divisor.new ≡ cell x.now.width cells.old i j *ℤ p -ℤ c *ℤ slice_index_or row.now j (pos 0) }
+    requires fits { (k : ℕ) → k < place → IsNum (slice_index_or cells.old k (pos 0) *ℤ divisor.old) }
+    ensures quotient { result *ℤ divisor.new ≡ e *ℤ p -ℤ c *ℤ a }
     ensures left { IsLeftOf divisor.old (result *ℤ divisor.new) divisor.new }
-    ensures rescaled { IsRescaled (i * x.now.width + j) divisor.old divisor.new cells.old cells.new }
+    ensures rescaled { IsRescaled place divisor.old divisor.new cells.old cells.new }
 {
-    let place = i * x.width + j;
-    let e = cells[place];
-    let above = row[j];
-    match divisor.exact_cross(e, p, c, above) {
+    match quick(half, e, p, c, a, divisor) {
         Some(q) => q,
-        None => over(cells, place, word_cross(e, p, c, above), divisor),
+        None => over(cells, place, word_cross(e, p, c, a), divisor),
     }
 }
 
@@ -179,6 +215,7 @@ fn new_cell(
     p: Num,
     c: Num,
     own: Num,
+    half: bool,
     divisor: &mut Divisor,
 ) -> Num
     requires size { length cells.old ≡ x.now.height * x.now.width }
@@ -191,6 +228,8 @@ fn new_cell(
     requires denominator { IsWord x.now.denominator }
     requires cell { IsWord (cell x.now.width cells.old i j) }
     requires above { IsWord (slice_index_or row.now j (pos 0)) }
+    requires half { IsTrue half → IsHalf p × IsHalf c × IsHalf (slice_index_or row.now j (pos 0)) × IsHalf divisor.old }
+    requires half_denominator { IsTrue half → IsHalf x.now.denominator }
     requires positive { pos 0 <ℤ divisor.old }
     requires word { IsWord divisor.old }
     requires fits { (k : ℕ) → k < i * x.now.width + j → IsNum (slice_index_or cells.old k (pos 0) *ℤ divisor.old) }
@@ -199,15 +238,21 @@ fn new_cell(
     ensures left { IsLeftOf divisor.old (result *ℤ divisor.new) divisor.new }
     ensures rescaled { IsRescaled (i * x.now.width + j) divisor.old divisor.new cells.old cells.new }
 {
+    let place = i * x.width + j;
     if j == x.column {
-        over(
+        over_cross(
             cells,
-            i * x.width + j,
-            word_product(own, x.denominator),
+            place,
+            own,
+            x.denominator,
+            Num::ZERO,
+            Num::ZERO,
+            half,
             divisor,
         )
     } else {
-        inside_cell(cells, row, x, i, j, p, c, divisor)
+        let e = cells[place];
+        over_cross(cells, place, e, p, c, row[j], half, divisor)
     }
 }
 
@@ -216,6 +261,20 @@ fn stays(p: Num, c: Num, divisor: &Divisor) -> bool
     ensures { IsTrue result → (c ≡ pos 0) × (p ≡ divisor.now) }
 {
     c == Num::ZERO && p == divisor.value()
+}
+
+// Whether the denominator and the exchange's row fit half words.
+fn fit_half(row: &[Num], denominator: Num) -> bool
+    ensures { IsTrue result → All IsHalf row.now × IsHalf denominator }
+{
+    is_half(denominator) && are_halves(row)
+}
+
+// Whether all that a row's new cells are computed of, but the row itself, fits half a word.
+fn fits_half(half_row: bool, c: Num, divisor: &Divisor) -> bool
+    ensures { IsTrue result → IsTrue half_row × IsHalf c × IsHalf divisor.now }
+{
+    half_row && is_half(c) && is_half(divisor.value())
 }
 
 /// Exchanges the row and the column where all cells and the denominator fit a machine word: no product can
@@ -236,16 +295,18 @@ pub fn exchange_words(cells: &mut [Num], pivot_row: &mut [Num], x: &Exchange)
     let common = common_factor(cells, x);
     let sign = sign_number(cell_at(cells, x.height, x.width, x.row, x.column));
     copy_turned(cells, x, sign, pivot_row);
-    let p = over_common(at_place(pivot_row, x.column), common);
+    let half_row = fit_half(pivot_row, x.denominator);
+    let p = over_common(at_place(pivot_row, x.column), &common);
     let mut divisor = Divisor::new(x.denominator);
     'rows: for i in 0..x.height {
-        let c = over_common(cell_at(cells, x.height, x.width, i, x.column), common);
-        let own = word_product(sign, c);
+        let c = over_common(cell_at(cells, x.height, x.width, i, x.column), &common);
         if stays(p, c, &divisor) {
             continue;
         }
+        let own = word_product(sign, c);
+        let half = fits_half(half_row, c, &divisor);
         'columns: for j in 0..x.width {
-            let z = new_cell(cells, pivot_row, x, i, j, p, c, own, &mut divisor);
+            let z = new_cell(cells, pivot_row, x, i, j, p, c, own, half, &mut divisor);
             cells[i * x.width + j] = z;
         }
     }

@@ -3,6 +3,8 @@
 
 mod cone;
 mod facet;
+#[cfg(test)]
+mod facet_tests;
 mod laws;
 #[cfg(test)]
 mod tests;

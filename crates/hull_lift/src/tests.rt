@@ -106,7 +106,8 @@ fn gives_the_rows_of_the_cone(rt: HostRuntime) -> Result<(), Fail> {
         },
     ] {
         let alloc = rt.alloc();
-        let cone = system_of(alloc, &poly_of(alloc, case)?)?;
+        let poly = poly_of(alloc, case.kind, case.n, case.entries, case.linear)?;
+        let cone = system_of(alloc, &poly)?;
         assert_eq!(rt;
             (cone.kind(), cone.n()),
             (case.kind, case.n),
@@ -135,19 +136,25 @@ fn gives_the_rows_of_the_cone(rt: HostRuntime) -> Result<(), Fail> {
     Ok(())
 }
 
-fn poly_of(alloc: Global, case: Case) -> Result<Poly, Fail> {
+pub(crate) fn poly_of(
+    alloc: Global,
+    kind: Kind,
+    n: u32,
+    entries: &[i128],
+    linear: &[bool],
+) -> Result<Poly, Fail> {
     let mut cells = Vec::new(alloc);
-    for x in case.entries {
+    for x in entries {
         cells.push(Num::new(*x).ok_or("a number of 127 bits")?)?;
     }
-    let linear = Vec::from_slice(alloc, case.linear)?;
-    if case.n == 0 || case.n > 256 || linear.len() > 4096 {
+    let linear = Vec::from_slice(alloc, linear)?;
+    if n == 0 || n > 256 || linear.len() > 4096 {
         return Err("few rows, and narrow ones")?;
     }
-    if cells.len() != linear.len() * case.n as usize {
+    if cells.len() != linear.len() * n as usize {
         return Err("n entries for each mark")?;
     }
-    Ok(Poly::new(case.kind, case.n, cells, linear, Vec::new(alloc)))
+    Ok(Poly::new(kind, n, cells, linear, Vec::new(alloc)))
 }
 
 fn joined(alloc: Global, front: &[i128], back: &[i128]) -> Result<Vec<i128>, Fail> {

@@ -8,3 +8,4 @@ pub mod SizeLemmas
 pub mod WordLemmas
 pub mod CompareLemmas
 pub mod KnownValues
+pub mod HalfLemmas

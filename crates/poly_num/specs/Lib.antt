@@ -3,3 +3,4 @@ pub mod Vectors
 pub mod Divisors
 pub mod Fractions
 pub mod Signs
+pub mod Halves

@@ -1,9 +1,11 @@
 // Exact division by one number again and again.
 ghost use Rattle.std.specs.Option.{SomeIff, IfSome};
 ghost use Rattle.std.specs.Prelude.{◌≡◌, ◌*ℤ◌, ◌-ℤ◌, ◌<ℤ◌, pos, unsigned_abs, int_div};
+ghost use Rattle.poly_num.specs.Halves.{IsHalf};
 ghost use Rattle.poly_num.specs.Numbers.{IsWord};
 ghost use Prim.Native.Nat.{◌∣◌};
 
+use crate::halves::{half_cross, half_product, half_word};
 use crate::products::narrow_product;
 use crate::words::narrow;
 use crate::{Num, quotient};
@@ -67,28 +69,34 @@ impl Divisor {
         }
     }
 
-    /// `a b - c d` over the divisor, where the products, their difference and the quotient times the
-    /// divisor have 64 bits; `None` says nothing. Each step is one machine product of 64 bits.
-    pub fn exact_cross(&self, a: Num, b: Num, c: Num, d: Num) -> Option<Num>
+    /// `a b - c d` over the divisor, where all that it takes fits half a word; `None` says nothing. No
+    /// product takes more than 64 bits, and nothing is tested but the size of `a` and of the quotient.
+    pub fn exact_half(&self, a: Num, b: Num, c: Num, d: Num) -> Option<Num>
+        requires divisor { IsHalf self.now }
         requires a { IsWord a }
-        requires b { IsWord b }
-        requires c { IsWord c }
-        requires d { IsWord d }
+        requires b { IsHalf b }
+        requires c { IsHalf c }
+        requires d { IsHalf d }
         ensures { IfSome result (λ q. q *ℤ self.now ≡ a *ℤ b -ℤ c *ℤ d) }
     {
-        let n = narrow_cross(narrow(a), narrow(b), narrow(c), narrow(d))?;
-        let q = self.narrow_guess(n)?;
-        Some(Num { value: q as i128 })
+        let x = half_word(narrow(a))?;
+        let n = half_cross(x, narrow(b), narrow(c), narrow(d));
+        let q = self.half_guess(n)?;
+        Some(q)
     }
 
-    // A quotient of a number of one word, where that is right.
-    fn narrow_guess(&self, n: i64) -> Option<i64>
+    // A quotient of half a word, where that is right.
+    fn half_guess(&self, n: i64) -> Option<Num>
+        requires { IsHalf self.now }
         ensures { IfSome result (λ q. q *ℤ self.now ≡ n) }
     {
         let without_twos = (n >> (self.twos % 64)).cast_unsigned();
         let q = without_twos.wrapping_mul(self.inverse).cast_signed();
-        if q.checked_mul(self.value)? == n {
-            Some(q)
+        let half = half_word(q)?;
+        if half_product(half, self.value) == n {
+            Some(Num {
+                value: half as i128,
+            })
         } else {
             None
         }
@@ -107,13 +115,6 @@ impl Divisor {
             None
         }
     }
-}
-
-// `a b - c d`, where both products and the difference have 64 bits.
-fn narrow_cross(a: i64, b: i64, c: i64, d: i64) -> Option<i64>
-    ensures { IfSome result (λ n. n ≡ a *ℤ b -ℤ c *ℤ d) }
-{
-    a.checked_mul(b)?.checked_sub(c.checked_mul(d)?)
 }
 
 // `n / d`, where that is a whole number.

@@ -3,8 +3,9 @@ ghost use Rattle.std.specs.Prelude.{◌≡◌};
 ghost use Rattle.poly_num.specs.Numbers.{IsNum};
 
 use crate::{
-    Frac, Num, add, cmp_cross, cross, dot_sign, gcd, lex_sign, mul, neg, negate, primitive,
-    quotient, sign, sub,
+    Divisor, Frac, Num, add, are_words, cmp_cross, cross, dot_sign, gcd, is_half, is_word,
+    known_cross, known_product, lex_sign, mul, neg, negate, primitive, quotient, sign, sub,
+    word_cross, word_product,
 };
 use std::cmp::Ordering::{Equal, Greater, Less};
 
@@ -54,6 +55,35 @@ fn products_at_the_bounds(rt: HostRuntime) {
         let found = value_of(cross(num(a), num(b), num(c), num(d)));
         assert_eq!(rt; found, want, "{a} * {b} - {c} * {d}");
     }
+}
+
+#[test]
+fn exact_quotients(rt: HostRuntime) {
+    let d = Divisor::new(num(12));
+    assert_eq!(rt; d.value(), num(12));
+    let wide = 12 << 100;
+    let table = [
+        (-144, Some(-12)),
+        (0, Some(0)),
+        (18, None),
+        (wide, Some(1 << 100)),
+        (wide + 1, None),
+    ];
+    for (n, want) in table {
+        assert_eq!(rt; value_of(d.exact(num(n))), want, "{n} over 12");
+    }
+    let third = Divisor::new(num(3));
+    let found = third.exact_half(num(7), num(2), num(1), num(5));
+    assert_eq!(rt; value_of(found), Some(3));
+    assert!(rt; is_half(num(1 - (1 << 31))));
+    assert!(rt; !is_half(num(1 << 31)));
+    assert!(rt; is_word(num(1 - (1 << 63))));
+    assert!(rt; !is_word(num(1 << 63)));
+    assert!(rt; are_words(&[num(5), num(-5)]));
+    assert_eq!(rt; word_product(num(-3), num(4)), num(-12));
+    assert_eq!(rt; word_cross(num(2), num(3), num(4), num(5)), num(-14));
+    assert_eq!(rt; known_product(num(-3), num(4)), num(-12));
+    assert_eq!(rt; known_cross(num(2), num(3), num(4), num(5)), num(-14));
 }
 
 #[test]
