@@ -1,0 +1,14 @@
+pub mod ListLemmas
+pub mod FirstLists
+pub mod PrefixLemmas
+pub mod ConeLemmas
+pub mod BaseLemmas
+pub mod StandingLemmas
+pub mod ClearedVectors
+pub mod LocalTest
+pub mod AlongLemmas
+pub mod ShownLemmas
+pub mod WholeLists
+pub mod KnownValues
+pub mod KnownListings
+pub mod ListingLemmas
