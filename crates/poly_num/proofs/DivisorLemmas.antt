@@ -34,6 +34,9 @@ gcd_of-zero a = sym (gcd_same a 0 a (IsGcd-from_zero a 0 refl))
 pub zero-gcd_of : (b : ℕ) → gcd_of 0 b ≡ b
 zero-gcd_of b = gcd_of_comm 0 b ∙ gcd_of-zero b
 
+pub one-gcd_of : (b : ℕ) → gcd_of 1 b ≡ 1
+one-gcd_of b = sym (gcd_same 1 b 1 (one-dvd 1, one-dvd b, λ d h k. h))
+
 pub gcd_of_assoc : (a b c : ℕ) → gcd_of (gcd_of a b) c ≡ gcd_of a (gcd_of b c)
 gcd_of_assoc a b c =
     let ab = gcd_of_is a b in let bc = gcd_of_is b c in

@@ -5,15 +5,15 @@ use Prim.Native.Nat.{◌∣◌}
 use Rattle.std.specs.Prelude.{◌<ℤ◌, unsigned_abs, int_div}
 use Rattle.std.proofs.lemmas.Int.{unsigned_abs-mul}
 use Rattle.std.proofs.lemmas.Nat.Gcd.{dvd-zero, dvd_trans}
-use Rattle.std.proofs.Math.Nat.{eq-zero_of_zero-dvd, eq-one_of_dvd-one, one-mul, mul-dvd-mul_right, dvd_of_mul-dvd-mul_right}
+use Rattle.std.proofs.Math.Nat.{eq-zero_of_zero-dvd, eq-one_of_dvd-one, one-dvd, one-mul, mul-dvd-mul_right, dvd_of_mul-dvd-mul_right}
 use Rattle.std.proofs.Math.Seq.{drop-cons}
 use Rattle.std.proofs.Math.ListN.{drop_of_length-le}
 use Rattle.poly_num.specs.Vectors.{Vector, scale, IsZero, DividesEach, IsPrimitive}
 use Rattle.poly_num.specs.Divisors.{gcd_of, gcd_of_all, quotients, MakesPrimitive}
-use Rattle.poly_num.proofs.Ring.{lin, mul_comm}
+use Rattle.poly_num.proofs.Ring.{lin, mul_comm, mul_one}
 use Rattle.poly_num.proofs.VectorLemmas.{scale-one, scale_cancel, zero-scale}
 use Rattle.poly_num.proofs.Order.{positive_nonzero}
-use Rattle.poly_num.proofs.DivisorLemmas.{gcd_of_is, gcd_of_assoc, gcd_of-times, unsigned_abs-neg, gcd_of-zero, zero-gcd_of, quotient_times}
+use Rattle.poly_num.proofs.DivisorLemmas.{gcd_of_is, gcd_of_assoc, gcd_of-times, unsigned_abs-neg, gcd_of-zero, zero-gcd_of, quotient_times, one-gcd_of}
 
 pub zero_from_size : (z : ℤ) → unsigned_abs z ≡ 0 → z ≡ pos 0
 zero_from_size (pos n) e = ap pos e
@@ -162,3 +162,20 @@ same_primitive u v p q hu hv lt e =
   where
     one_factor : (m n : ℕ) → m ≡ 1 → n ≡ 1 → m * p ≡ n * q → p ≡ q
     one_factor m n e f h = omega (arith, ap (λ k. k * p) e, ap (λ k. k * q) f)
+
+-- once a running divisor is 1, it is the greatest common divisor
+pub gcd_is_one : (g i : ℕ) (v : Vector) (x : ℤ) → i < length v → x ≡ get_or v i x →
+    gcd_of g (gcd_of_all (drop i v)) ≡ gcd_of_all v → gcd_of g (unsigned_abs x) ≡ 1 → gcd_of_all v ≡ 1
+gcd_is_one g i v x lt is rest one =
+    sym rest ∙ sym (gcd_along g i v x lt is) ∙ ap (λ d. gcd_of d (gcd_of_all (drop (i + 1) v))) one
+    ∙ one-gcd_of (gcd_of_all (drop (i + 1) v))
+
+over_one : (x : ℤ) → int_div x (pos 1) ≡ x
+over_one x = sym (mul_one (int_div x (pos 1))) ∙ quotient_times 1 x (one-dvd (unsigned_abs x))
+
+pub quotients-one : (v : Vector) → quotients v (pos 1) ≡ v
+quotients-one [] = refl
+quotients-one (x ∷ v) =
+    let e = over_one x in
+    let f = quotients-one v in
+    cc

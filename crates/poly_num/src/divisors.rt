@@ -92,13 +92,16 @@ fn gcd_of_wide(mut x: u128, mut y: u128) -> u128
     x
 }
 
-// The greatest common divisor of all entries; of zeros it is 0.
+// The greatest common divisor of all entries; of zeros it is 0. Once it is 1, no entry changes it.
 pub(crate) fn common_divisor(v: &[Num]) -> Num
     ensures { result ≡ pos (gcd_of_all v.now) }
 {
     let mut g: u128 = 0;
     for x in v {
         g = gcd_of_sizes(g, x.size());
+        if g == 1 {
+            return Num::ONE;
+        }
     }
     Num::from_parts(false, g)
 }

@@ -1,5 +1,5 @@
 // Vectors in place: the sign turned, the greatest common divisor taken out.
-ghost use Rattle.std.specs.Prelude.{◌≡◌, ◌<ℤ◌, map, neg_ℤ, pos};
+ghost use Rattle.std.specs.Prelude.{◌≡◌, ◌↔◌, ◌<ℤ◌, IsTrue, map, neg_ℤ, pos};
 ghost use Rattle.poly_num.specs.Divisors.{MakesPrimitive, quotients, gcd_of_all};
 
 use crate::divisors::common_divisor;
@@ -26,12 +26,21 @@ pub fn primitive(v: &mut [Num])
     }
 }
 
-// Divides each entry, rounded toward zero.
+// Divides each entry, rounded toward zero; by 1 nothing changes.
 fn divide(v: &mut [Num], d: Num)
     requires { pos 0 <ℤ d }
     ensures { v.new ≡ quotients v.old d }
 {
+    if is_one(d) {
+        return;
+    }
     for x in v.iter_mut() {
         *x = quotient(*x, d);
     }
+}
+
+fn is_one(a: Num) -> bool
+    ensures { IsTrue result ↔ (a ≡ pos 1) }
+{
+    a.value == 1
 }
