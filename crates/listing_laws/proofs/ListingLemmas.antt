@@ -1,0 +1,64 @@
+-- The list of the corners under the empty prefix is the listing, and tells whether an H file is feasible.
+use Rattle.std.proofs.Common.{◌≡◌, ◌≢◌, ◌↔◌, ℕ, zero, suc, ◌<◌, pos, List, [], ◌∷◌, length, subst, sym, arith}
+use Rattle.std.specs.List.{AllByRecursion, Contains, slice_index_or}
+use Rattle.std.proofs.lemmas.List.Elements.{All-from_recursion, All-contains, Contains-get_or}
+use Rattle.poly_num.specs.Vectors.{Vector}
+use Rattle.poly_model.specs.declared.kind.Kind.TheVariants.{H}
+use Rattle.poly_model.specs.Systems.{Polyhedron, System, cone_of}
+use Rattle.poly_model.specs.Extreme.{IsExtreme, IsFeasible, AreExtreme}
+use Rattle.linear_laws.proofs.Members.{Contains-first, Contains-later}
+use Rattle.cone_laws.specs.FeasibilityLaws.{HasVertex, IsFlatAtInfinity}
+use Rattle.cone_laws.proofs.FeasibleLemmas.{feasible_by_vertex, feasible_file_by_vertex}
+use Rattle.listing_laws.specs.ConeLaws.{HasListedVertex}
+use Rattle.listing_laws.specs.ListedCone.{ListedCone, IsConeOf}
+use Rattle.listing_laws.specs.Lists.{AreDistinct, Lists}
+use Rattle.listing_laws.specs.Prefixes.{IsUnder}
+use Rattle.listing_laws.proofs.ConeLemmas.{extreme_is_shown_corner}
+
+once_at : (ys : List Vector) → AreDistinct ys → (i j : ℕ) → i < j → j < length ys →
+    slice_index_or ys i [] ≢ slice_index_or ys j []
+once_at [] d i j a b e = absurd (omega arith)
+once_at (y ∷ ys) d i zero a b e = absurd (omega arith)
+once_at (y ∷ ys) d zero (suc j) a b e =
+    d.0 (subst (Contains ys) (sym e) (Contains-get_or ys j [] (omega arith)))
+once_at (y ∷ ys) d (suc i) (suc j) a b e = once_at ys d.1 i j (omega arith) (omega arith) e
+
+all_members : (P : Vector → Type 0) (ys : List Vector) → ((y : Vector) → Contains ys y → P y) → AllByRecursion P ys
+all_members P [] h = tt
+all_members P (y ∷ ys) h = (h y (Contains-first y ys), all_members P ys (λ z c. h z (Contains-later z y ys c)))
+
+pub whole_listing : (sys : System) (cone : ListedCone) → IsConeOf sys cone → (shown : List Vector) →
+    Lists (IsUnder cone []) shown → AreExtreme sys shown
+whole_listing sys cone is shown l =
+    let same = extreme_is_shown_corner sys cone is in
+    record {
+      once = once_at shown l.distinct;
+      only =
+          All-from_recursion (IsExtreme sys) shown
+          (all_members (IsExtreme sys) shown (λ y c. (same y).1 ((l.members y).0 c).0));
+      every = λ y x. (l.members y).1 ((same y).0 x, tt);
+    }
+
+-- ---- feasible
+module _ (sys : System) (shown : List Vector) (are : AreExtreme sys shown) where
+  listed_vertex : HasVertex sys → HasListedVertex shown
+  listed_vertex v = record { vector = v.vector; listed = are.every v.vector v.extreme; positive = v.positive }
+
+  vertex : HasListedVertex shown → HasVertex sys
+  vertex v = record {
+    vector = v.vector;
+    extreme = All-contains (IsExtreme sys) shown v.vector are.only v.listed;
+    positive = v.positive;
+  }
+
+pub feasible_by_listing : (sys : System) → sys.kind ≡ H → IsFlatAtInfinity sys →
+    (shown : List Vector) → AreExtreme sys shown → IsFeasible sys ↔ HasListedVertex shown
+feasible_by_listing sys kind flat shown are =
+    let h = feasible_by_vertex sys kind flat in
+    (λ f. listed_vertex sys shown are (h.0 f), λ v. h.1 (vertex sys shown are v))
+
+pub feasible_file_by_listing : (p : Polyhedron) → p.kind ≡ H →
+    (shown : List Vector) → AreExtreme (cone_of p) shown → IsFeasible (cone_of p) ↔ HasListedVertex shown
+feasible_file_by_listing p kind shown are =
+    let h = feasible_file_by_vertex p kind in
+    (λ f. listed_vertex (cone_of p) shown are (h.0 f), λ v. h.1 (vertex (cone_of p) shown are v))

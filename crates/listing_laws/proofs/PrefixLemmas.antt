@@ -1,0 +1,90 @@
+-- The corners under a prefix, and those under it with the next row or without.
+use Rattle.std.proofs.Common.{◌≡◌, ◌≢◌, ◌⊎◌, ◌↔◌, inl, inr, ⊎_elim, Bool, true, false, ℕ, ◌+◌, ◌<◌, pos, List, [], ◌∷◌, ◌++◌, length, ap, sym, ◌∙◌, arith}
+use lib.IntN.{ℤ_discrete}
+use Rattle.poly_num.specs.Vectors.{Vector, ◌·◌}
+use Rattle.poly_model.specs.Independence.{Follows, IsNew}
+use Rattle.linear_laws.specs.LocalTest.{AreFirstTight}
+use Rattle.linear_laws.proofs.FirstBases.{not_both}
+use Rattle.linear_laws.proofs.TightLists.{first_tight_is_one, alone_by_tight_count}
+use Rattle.listing_laws.specs.ListedCone.{ListedCone, IsListable, IsShownCorner}
+use Rattle.listing_laws.specs.Lists.{Lists}
+use Rattle.listing_laws.specs.Prefixes.{taken_at, next_row, labels_of, IsUnder, IsListedUpTo}
+use Rattle.listing_laws.proofs.FirstLists.{taken-true, taken-false, labels-true, labels-false, tight-true, tight-false}
+use Rattle.listing_laws.proofs.ListLemmas.{goes_start, goes_skip, goes_take, goes_end}
+
+module _ (cone : ListedCone) where
+  -- ---- the next row
+  module _ (marks : List Bool) (l : length marks < length cone.rows) where
+    pub skipped : (y : Vector) → Follows cone.n (taken_at cone marks) (next_row cone marks) →
+        IsUnder cone marks y ↔ IsUnder cone (marks ++ false ∷ []) y
+    skipped y f =
+        let next = tight-false cone.n cone.base y cone.rows marks l in
+        (λ u. (u.0, next.1 (u.1, λ e. f)), λ u. (u.0, (next.0 u.1).0))
+
+    pub taken_or_not : (y : Vector) → IsNew cone.n (taken_at cone marks) (next_row cone marks) →
+        IsUnder cone marks y ↔ (IsUnder cone (marks ++ true ∷ []) y ⊎ IsUnder cone (marks ++ false ∷ []) y)
+    taken_or_not y w = (
+      λ u. by u (ℤ_discrete (next_row cone marks · y) (pos 0)),
+      λ s. ⊎_elim (λ u. (u.0, ((tight-true cone.n cone.base y cone.rows marks l).0 u.1).0))
+          (λ u. (u.0, ((tight-false cone.n cone.base y cone.rows marks l).0 u.1).0)) s,
+    )
+      where
+        by : IsUnder cone marks y → Dec (next_row cone marks · y ≡ pos 0) →
+            IsUnder cone (marks ++ true ∷ []) y ⊎ IsUnder cone (marks ++ false ∷ []) y
+        by u (yes e) = inl (u.0, (tight-true cone.n cone.base y cone.rows marks l).1 (u.1, e, w))
+        by u (no h) = inr (u.0, (tight-false cone.n cone.base y cone.rows marks l).1 (u.1, λ e. absurd (h e)))
+
+    pub not_both_under : (y : Vector) → IsUnder cone (marks ++ true ∷ []) y → IsUnder cone (marks ++ false ∷ []) y → ⊥
+    not_both_under y u v =
+        let a = (tight-true cone.n cone.base y cone.rows marks l).0 u.1 in
+        let b = (tight-false cone.n cone.base y cone.rows marks l).0 v.1 in
+        not_both cone.n (taken_at cone marks) (next_row cone marks) a.2 (b.1 a.1)
+
+    pub grows : (taken_at cone (marks ++ true ∷ []) ≡ next_row cone marks ∷ taken_at cone marks)
+        × (labels_of (marks ++ true ∷ []) ≡ labels_of marks ++ (length marks + 1) ∷ [])
+    grows = (taken-true cone.base cone.rows marks l, labels-true 1 marks)
+
+    pub stays : (taken_at cone (marks ++ false ∷ []) ≡ taken_at cone marks)
+        × (labels_of (marks ++ false ∷ []) ≡ labels_of marks)
+    stays = (taken-false cone.base cone.rows marks l, labels-false 1 marks)
+
+    -- ---- the loop
+    pub loop_skips : (prefix : List Bool) (listed : List Vector) →
+        Follows cone.n (taken_at cone marks) (next_row cone marks) →
+        IsListedUpTo cone prefix marks listed → IsListedUpTo cone prefix (marks ++ false ∷ []) listed
+    loop_skips prefix listed f g =
+        goes_skip (IsUnder cone prefix) (IsUnder cone marks) (IsUnder cone (marks ++ false ∷ [])) listed g
+        (λ y. skipped y f)
+
+    pub loop_takes : (prefix : List Bool) (listed more : List Vector) →
+        IsNew cone.n (taken_at cone marks) (next_row cone marks) → IsListedUpTo cone prefix marks listed →
+        Lists (IsUnder cone (marks ++ true ∷ [])) more →
+        IsListedUpTo cone prefix (marks ++ false ∷ []) (listed ++ more)
+    loop_takes prefix listed more w g a =
+        goes_take (IsUnder cone prefix) (IsUnder cone marks) (IsUnder cone (marks ++ true ∷ []))
+        (IsUnder cone (marks ++ false ∷ [])) listed more g a not_both_under (λ y. taken_or_not y w)
+
+  pub loop_begins : (prefix : List Bool) → IsListedUpTo cone prefix prefix []
+  loop_begins prefix = goes_start (IsUnder cone prefix)
+
+  -- ---- all rows
+  module _ (listable : IsListable cone) where
+    pub one_list : (y : Vector) → IsShownCorner cone y →
+        (marks : List Bool) × (length marks ≡ length cone.rows) × IsUnder cone marks y
+        × ((others : List Bool) → length others ≡ length cone.rows → IsUnder cone others y → others ≡ marks)
+    one_list y c =
+        let h = first_tight_is_one cone.n cone.base y cone.rows listable.independent in
+        (h.0, h.1, (c, h.2), λ others l u. h.3 others l u.1)
+
+    pub full : (marks : List Bool) (y : Vector) → length marks ≡ length cone.rows → IsUnder cone marks y →
+        length (taken_at cone marks) + 1 ≡ cone.n
+    full marks y l u =
+        let c = u.0.corner in
+        (alone_by_tight_count cone.n cone.base cone.rows y marks listable.independent l u.1 c.in_cone.width
+        c.in_cone.vanishing c.primitive.0).0 c.alone
+
+    pub loop_ends : (prefix marks : List Bool) (listed : List Vector) → length marks ≡ length cone.rows →
+        length (taken_at cone marks) + 1 ≢ cone.n → IsListedUpTo cone prefix marks listed →
+        Lists (IsUnder cone prefix) listed
+    loop_ends prefix marks listed l n g =
+        goes_end (IsUnder cone prefix) (IsUnder cone marks) listed g (λ y u. n (full marks y l u))

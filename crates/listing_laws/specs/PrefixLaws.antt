@@ -1,0 +1,76 @@
+-- Laws of the corners under a prefix, as a recursion over prefixes needs them.
+use Rattle.std.specs.Prelude.{◌≡◌, ◌≢◌, ◌↔◌, ◌⊎◌, ℕ, ◌+◌, ◌<◌, ◌≤◌, Bool, true, false, List, [], ◌∷◌, ◌++◌, length}
+use Rattle.poly_num.specs.Vectors.{Vector}
+use Rattle.poly_model.specs.Independence.{Follows, IsNew}
+use Rattle.listing_laws.specs.ListedCone.{ListedCone, IsListable, IsShownCorner}
+use Rattle.listing_laws.specs.Lists.{Lists}
+use Rattle.listing_laws.specs.Prefixes.{taken_at, next_row, labels_of, IsUnder, IsListedUpTo}
+
+-- a shown corner is under exactly one marking of all rows
+abbrev pub EachHasOneList : Type 0
+EachHasOneList = (cone : ListedCone) → IsListable cone → (y : Vector) → IsShownCorner cone y →
+    (marks : List Bool) × (length marks ≡ length cone.rows) × IsUnder cone marks y
+    × ((others : List Bool) → length others ≡ length cone.rows → IsUnder cone others y → others ≡ marks)
+
+-- if all rows have a mark and a corner is under them, base and rows taken are one less than the width
+abbrev pub ListIsFull : Type 0
+ListIsFull = (cone : ListedCone) → IsListable cone → (marks : List Bool) (y : Vector) →
+    length marks ≡ length cone.rows → IsUnder cone marks y → length (taken_at cone marks) + 1 ≡ cone.n
+
+-- a row that follows from those taken is in no list
+abbrev pub FollowingIsSkipped : Type 0
+FollowingIsSkipped = (cone : ListedCone) (marks : List Bool) (y : Vector) → length marks < length cone.rows →
+    Follows cone.n (taken_at cone marks) (next_row cone marks) →
+    IsUnder cone marks y ↔ IsUnder cone (marks ++ false ∷ []) y
+
+-- any other row is in the list or is not
+abbrev pub NewIsTakenOrNot : Type 0
+NewIsTakenOrNot = (cone : ListedCone) (marks : List Bool) (y : Vector) → length marks < length cone.rows →
+    IsNew cone.n (taken_at cone marks) (next_row cone marks) →
+    IsUnder cone marks y ↔ (IsUnder cone (marks ++ true ∷ []) y ⊎ IsUnder cone (marks ++ false ∷ []) y)
+
+-- and not both
+abbrev pub NotBoth : Type 0
+NotBoth = (cone : ListedCone) (marks : List Bool) (y : Vector) → length marks < length cone.rows →
+    IsUnder cone (marks ++ true ∷ []) y → IsUnder cone (marks ++ false ∷ []) y → ⊥
+
+-- a row that is taken stands before the rows taken so far, and its label after theirs
+abbrev pub TakenGrows : Type 0
+TakenGrows = (cone : ListedCone) (marks : List Bool) → length marks < length cone.rows →
+    (taken_at cone (marks ++ true ∷ []) ≡ next_row cone marks ∷ taken_at cone marks)
+    × (labels_of (marks ++ true ∷ []) ≡ labels_of marks ++ (length marks + 1) ∷ [])
+
+-- a row that is not taken changes neither
+abbrev pub TakenStays : Type 0
+TakenStays = (cone : ListedCone) (marks : List Bool) → length marks < length cone.rows →
+    (taken_at cone (marks ++ false ∷ []) ≡ taken_at cone marks)
+    × (labels_of (marks ++ false ∷ []) ≡ labels_of marks)
+
+-- ---- the loop over the rows behind a prefix
+-- at first nothing is listed
+abbrev pub LoopBegins : Type 0
+LoopBegins = (cone : ListedCone) (prefix : List Bool) → IsListedUpTo cone prefix prefix []
+
+-- over a row that follows it goes on
+abbrev pub LoopSkips : Type 0
+LoopSkips = (cone : ListedCone) (prefix marks : List Bool) (listed : List Vector) →
+    length marks < length cone.rows → Follows cone.n (taken_at cone marks) (next_row cone marks) →
+    IsListedUpTo cone prefix marks listed → IsListedUpTo cone prefix (marks ++ false ∷ []) listed
+
+-- over any other row once the corners whose list has it are listed too
+abbrev pub LoopTakes : Type 0
+LoopTakes = (cone : ListedCone) (prefix marks : List Bool) (listed more : List Vector) →
+    length marks < length cone.rows → IsNew cone.n (taken_at cone marks) (next_row cone marks) →
+    IsListedUpTo cone prefix marks listed → Lists (IsUnder cone (marks ++ true ∷ [])) more →
+    IsListedUpTo cone prefix (marks ++ false ∷ []) (listed ++ more)
+
+-- behind the last row nothing is left, if more than one direction is
+abbrev pub LoopEnds : Type 0
+LoopEnds = (cone : ListedCone) → IsListable cone → (prefix marks : List Bool) (listed : List Vector) →
+    length marks ≡ length cone.rows → length (taken_at cone marks) + 1 ≢ cone.n →
+    IsListedUpTo cone prefix marks listed → Lists (IsUnder cone prefix) listed
+
+-- what is under a prefix is a list, so what is listed of it is the beginning of one
+abbrev pub PrefixHasList : Type 0
+PrefixHasList = (cone : ListedCone) → IsListable cone → (marks : List Bool) → length marks ≤ length cone.rows →
+    (shown : List Vector) × Lists (IsUnder cone marks) shown
