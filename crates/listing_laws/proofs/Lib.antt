@@ -4,5 +4,7 @@ pub mod PrefixLemmas
 pub mod ConeLemmas
 pub mod BaseLemmas
 pub mod LocalTest
+pub mod AlongLemmas
 pub mod ShownLemmas
+pub mod WholeLists
 pub mod ListingLemmas

@@ -9,7 +9,7 @@ use Rattle.poly_model.specs.Extreme.{IsExtreme, IsFeasible, AreExtreme}
 use Rattle.linear_laws.proofs.Members.{Contains-first, Contains-later}
 use Rattle.cone_laws.specs.FeasibilityLaws.{HasVertex, IsFlatAtInfinity}
 use Rattle.cone_laws.proofs.FeasibleLemmas.{feasible_by_vertex, feasible_file_by_vertex}
-use Rattle.listing_laws.specs.ConeLaws.{HasListedVertex}
+use Rattle.listing_laws.specs.ConeLaws.{HasShownVertex, HasListedVertex}
 use Rattle.listing_laws.specs.ListedCone.{ListedCone, IsConeOf}
 use Rattle.listing_laws.specs.Lists.{AreDistinct, Lists}
 use Rattle.listing_laws.specs.Prefixes.{IsUnder}
@@ -50,6 +50,27 @@ module _ (sys : System) (shown : List Vector) (are : AreExtreme sys shown) where
     extreme = All-contains (IsExtreme sys) shown v.vector are.only v.listed;
     positive = v.positive;
   }
+
+module _ (sys : System) (cone : ListedCone) (is : IsConeOf sys cone) where
+  shown_vertex : HasVertex sys → HasShownVertex cone
+  shown_vertex v = record {
+    vector = v.vector;
+    corner = (extreme_is_shown_corner sys cone is v.vector).0 v.extreme;
+    positive = v.positive;
+  }
+
+  vertex_of_corner : HasShownVertex cone → HasVertex sys
+  vertex_of_corner v = record {
+    vector = v.vector;
+    extreme = (extreme_is_shown_corner sys cone is v.vector).1 v.corner;
+    positive = v.positive;
+  }
+
+pub feasible_by_corners : (sys : System) → sys.kind ≡ H → IsFlatAtInfinity sys →
+    (cone : ListedCone) → IsConeOf sys cone → IsFeasible sys ↔ HasShownVertex cone
+feasible_by_corners sys kind flat cone is =
+    let h = feasible_by_vertex sys kind flat in
+    (λ f. shown_vertex sys cone is (h.0 f), λ v. h.1 (vertex_of_corner sys cone is v))
 
 pub feasible_by_listing : (sys : System) → sys.kind ≡ H → IsFlatAtInfinity sys →
     (shown : List Vector) → AreExtreme sys shown → IsFeasible sys ↔ HasListedVertex shown

@@ -16,7 +16,7 @@ use Rattle.linear_laws.proofs.Combinations.{combination, dot-combination, length
 use Rattle.linear_laws.proofs.Alone.{alone_by_first_basis}
 use Rattle.listing_laws.specs.ListedCone.{ListedCone, IsListable}
 use Rattle.listing_laws.specs.Prefixes.{taken_at, labels_from, labels_of}
-use Rattle.listing_laws.specs.Directions.{row_at, DualVector, DualVectors, IsLeft, LeavesOne, PassesTest}
+use Rattle.listing_laws.specs.Directions.{row_at, DualVector, DualVectors, IsLeft, LeavesOne, PassesLocalTest}
 use Rattle.listing_laws.proofs.FirstLists.{taken-nil, length-taken}
 
 -- ---- rows by their labels

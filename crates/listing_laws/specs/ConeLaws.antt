@@ -45,18 +45,29 @@ abbrev pub OnlyZeroHasItsOpposite : Type 0
 OnlyZeroHasItsOpposite = (cone : ListedCone) → IsListable cone → (y : Vector) →
     IsInConeOf cone.n cone.base cone.rows y → IsInConeOf cone.n cone.base cone.rows (map neg_ℤ y) → IsZero y
 
+-- a shown corner with a positive first entry
+pub record HasShownVertex (cone : ListedCone) : Type 0 where
+  pub vector : Vector
+  pub corner : IsShownCorner cone vector
+  pub positive : pos 0 <ℤ at 0 vector
+
+-- the system of an H file is feasible exactly where its cone has a vertex
+abbrev pub FeasibleByCorners : Type 0
+FeasibleByCorners = (sys : System) → sys.kind ≡ H → IsFlatAtInfinity sys →
+    (cone : ListedCone) → IsConeOf sys cone → IsFeasible sys ↔ HasShownVertex cone
+
 -- a listed vector with a positive first entry
 pub record HasListedVertex (shown : List Vector) : Type 0 where
   pub vector : Vector
   pub listed : Contains shown vector
   pub positive : pos 0 <ℤ at 0 vector
 
--- the system of an H file is feasible exactly where the listing has a vertex
+-- and exactly where its listing has one
 abbrev pub FeasibleByListing : Type 0
 FeasibleByListing = (sys : System) → sys.kind ≡ H → IsFlatAtInfinity sys →
     (shown : List Vector) → AreExtreme sys shown → IsFeasible sys ↔ HasListedVertex shown
 
--- the same of the cone of a polyhedron
+-- the same of the cone of a polyhedron, which has the row at infinity
 abbrev pub FeasibleFileByListing : Type 0
 FeasibleFileByListing = (p : Polyhedron) → p.kind ≡ H →
     (shown : List Vector) → AreExtreme (cone_of p) shown → IsFeasible (cone_of p) ↔ HasListedVertex shown

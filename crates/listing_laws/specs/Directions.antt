@@ -39,8 +39,8 @@ pub record LeavesOne (cone : ListedCone) (marks : List Bool) (z : Vector) : Type
   pub left : IsLeft cone (labels_of marks) z
 
 -- the local test: each row that is 0 at z is 0 at the dual vector of each later label
-abbrev pub PassesTest : (cone : ListedCone) (labels : List ℕ) → DualVectors cone labels → Vector → Type 0
-PassesTest cone labels duals z =
+abbrev pub PassesLocalTest : (cone : ListedCone) (labels : List ℕ) → DualVectors cone labels → Vector → Type 0
+PassesLocalTest cone labels duals z =
     (i : ℕ) → 0 < i → row_at cone i · z ≡ pos 0 →
     (k : ℕ) (c : Contains labels k) → i < k → row_at cone i · (duals k c).vector ≡ pos 0
 

@@ -3,7 +3,7 @@ use Rattle.std.specs.Prelude.{◌≡◌, ◌≢◌, ◌↔◌, ◌⊎◌, ℕ, �
 use Rattle.poly_num.specs.Vectors.{Vector}
 use Rattle.poly_model.specs.Independence.{Follows, IsNew}
 use Rattle.listing_laws.specs.ListedCone.{ListedCone, IsListable, IsShownCorner}
-use Rattle.listing_laws.specs.Lists.{Lists}
+use Rattle.listing_laws.specs.Lists.{Lists, Begins}
 use Rattle.listing_laws.specs.Prefixes.{taken_at, next_row, labels_of, IsUnder, IsListedUpTo}
 
 -- a shown corner is under exactly one marking of all rows
@@ -70,7 +70,21 @@ LoopEnds = (cone : ListedCone) → IsListable cone → (prefix marks : List Bool
     length marks ≡ length cone.rows → length (taken_at cone marks) + 1 ≢ cone.n →
     IsListedUpTo cone prefix marks listed → Lists (IsUnder cone prefix) listed
 
--- what is under a prefix is a list, so what is listed of it is the beginning of one
+-- ---- a loop that stops
+-- what is under a prefix is a list
 abbrev pub PrefixHasList : Type 0
 PrefixHasList = (cone : ListedCone) → IsListable cone → (marks : List Bool) → length marks ≤ length cone.rows →
     (shown : List Vector) × Lists (IsUnder cone marks) shown
+
+-- so what a loop has listed is the beginning of the list
+abbrev pub LoopStops : Type 0
+LoopStops = (cone : ListedCone) → IsListable cone → (prefix marks : List Bool) (listed : List Vector) →
+    length marks ≤ length cone.rows → IsListedUpTo cone prefix marks listed →
+    Begins (IsUnder cone prefix) listed
+
+-- and so it is with the beginning of what is under the next row
+abbrev pub LoopStopsWithin : Type 0
+LoopStopsWithin = (cone : ListedCone) → IsListable cone → (prefix marks : List Bool) (listed more : List Vector) →
+    length marks < length cone.rows → IsNew cone.n (taken_at cone marks) (next_row cone marks) →
+    IsListedUpTo cone prefix marks listed → Begins (IsUnder cone (marks ++ true ∷ [])) more →
+    Begins (IsUnder cone prefix) (listed ++ more)

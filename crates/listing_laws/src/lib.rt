@@ -4,9 +4,9 @@
 //! What is stated stands in `specs/`; the crates above cite the lemmas of `proofs/`.
 #![tactic(auto)]
 
-ghost use Rattle.listing_laws.specs.ConeLaws.{FirstBasisIsBase, NothingIsBase, ConeIsListable, ExtremeIsShownCorner, OnlyZeroHasItsOpposite, WholeListing, FeasibleByListing, FeasibleFileByListing};
+ghost use Rattle.listing_laws.specs.ConeLaws.{FirstBasisIsBase, NothingIsBase, ConeIsListable, ExtremeIsShownCorner, OnlyZeroHasItsOpposite, WholeListing, FeasibleByCorners, FeasibleByListing, FeasibleFileByListing};
 ghost use Rattle.listing_laws.specs.PrefixLaws.{EachHasOneList, ListIsFull, FollowingIsSkipped, NewIsTakenOrNot, NotBoth, TakenGrows, TakenStays};
-ghost use Rattle.listing_laws.specs.PrefixLaws.{LoopBegins, LoopSkips, LoopTakes, LoopEnds};
+ghost use Rattle.listing_laws.specs.PrefixLaws.{LoopBegins, LoopSkips, LoopTakes, LoopEnds, PrefixHasList, LoopStops, LoopStopsWithin};
 ghost use Rattle.listing_laws.specs.ShowLaws.{UnderIsTested, NothingIfItFails, OneIfItPasses, NothingIfNeither};
 
 /// Each system has a cone that is listed: over the first basis of its fixed rows, or over nothing where no row is
@@ -43,6 +43,13 @@ pub fn loop_over_rows()
     ensures ends { LoopEnds }
 {}
 
+/// What is under a prefix is a list, and what a loop has listed when it stops is the beginning of it.
+pub fn loop_that_stops()
+    ensures list { PrefixHasList }
+    ensures stops { LoopStops }
+    ensures within { LoopStopsWithin }
+{}
+
 /// Where one direction is left, the local test and the two primitive vectors along it say what is shown.
 pub fn where_one_is_left()
     ensures tested { UnderIsTested }
@@ -56,9 +63,10 @@ pub fn listing()
     ensures { WholeListing }
 {}
 
-/// An H file is feasible exactly where its listing has a vector with a positive first entry. Of a system that need
-/// not be a file's it is asked that the row at infinity follows from its rows.
+/// An H file is feasible exactly where some shown corner, or some vector of its listing, has a positive first entry.
+/// Of a system that need not be a file's it is asked that the row at infinity follows from its rows.
 pub fn feasible()
+    ensures corners { FeasibleByCorners }
     ensures system { FeasibleByListing }
     ensures file { FeasibleFileByListing }
 {}

@@ -1,5 +1,5 @@
 use Rattle.listing_laws.proofs.ConeLemmas.{is_listable, extreme_is_shown_corner}
-use Rattle.listing_laws.proofs.ShownLemmas.{one_sign}
+use Rattle.listing_laws.proofs.AlongLemmas.{one_sign}
 use Rattle.listing_laws.proofs.cone_of_system.Goals as goal
 
 pub returns : goal.returns
