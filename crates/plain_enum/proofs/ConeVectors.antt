@@ -2,7 +2,7 @@
 use Rattle.std.proofs.Common.{◌≡◌, ◌≢◌, ℕ, zero, suc, ◌+◌, ◌-◌, ◌<◌, ◌≤◌, List, [], ◌∷◌, ◌++◌, ℤ, pos, ◌*ℤ◌, map, length, refl, sym, ap, subst, ◌∙◌, ⊎_elim, arith}
 use Rattle.std.specs.List.{Contains, range_with_len}
 use Rattle.std.proofs.lemmas.List.FromFn.{length-map-range_with_len}
-use Rattle.poly_num.specs.Vectors.{Vector, ◌·◌, scale}
+use Rattle.poly_num.specs.Vectors.{Vector, ◌·◌, IsZero}
 use Rattle.poly_num.proofs.Ring.{mul_comm}
 use Rattle.poly_num.proofs.Order.{zero_factor, cancel, positive_nonzero}
 use Rattle.poly_num.proofs.VectorLemmas.{dot-scale}
@@ -14,7 +14,7 @@ use Rattle.poly_model.specs.Dictionaries.{Table, IsCobasis, Writes, sum_over}
 use Rattle.linear_laws.proofs.Entries.{coordinate_reads}
 use Rattle.dictionary_laws.proofs.Duals.{Dual, dual_of}
 use Rattle.dictionary_laws.proofs.Values.{level_value, terms, value_along}
-use Rattle.dictionary_laws.proofs.Members.{sum_zero}
+use Rattle.dictionary_laws.proofs.Members.{all_from, sum_zero}
 use Rattle.dictionary.specs.Views.{Dictionary, IsDictionaryIn, table_of}
 use Rattle.hull_lift.specs.Facets.{constant_label, coordinate_in, column_of}
 use Rattle.hull_lift.specs.Laws.{IsInColumn, HasColumns}
@@ -53,6 +53,14 @@ module _ (p : Polyhedron) where
     dual_over k c =
         let d = dual_of (cone_space p) key cobasis k c in
         over key k d.vector d.direction.inside.width d.here d.elsewhere
+
+    -- only zero is 0 at all labels of the key
+    pub zero_over : (y : Vector) → length y ≡ p.n →
+        ((k : ℕ) → Contains key k → label_form (cone_of p).rows k · y ≡ pos 0) → IsZero y
+    zero_over y e h =
+        (cobasis.enough (pos 0 ∷ y) (direction_of p y e)
+        (all_from (λ k. (cone_space p).form k · (pos 0 ∷ y) ≡ pos 0) key
+        (λ k c. with_front (label_form (cone_of p).rows k) (pos 0) y ∙ h k c))).1
 
     module _ (t : Table) (w : Writes (cone_space p) key t) where
       -- the value of a label where only k of the key is not 0

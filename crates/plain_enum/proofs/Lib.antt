@@ -1,1 +1,5 @@
 pub mod ConeVectors
+pub mod Counting
+pub mod Parts
+pub mod RowsTaken
+pub mod Standings
