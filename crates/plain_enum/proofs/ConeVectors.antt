@@ -1,26 +1,24 @@
 -- Vectors over the coordinates of a cone, and what a dictionary of the cone's space says of the labels' values there.
-use Rattle.std.proofs.Common.{◌≡◌, ◌≢◌, ℕ, zero, suc, ◌+◌, ◌-◌, ◌<◌, ◌≤◌, List, [], ◌∷◌, ◌++◌, ℤ, pos, ◌*ℤ◌, map, length, refl, sym, ap, subst, ◌∙◌, ⊎_elim, arith}
-use Rattle.std.specs.List.{Contains, range_with_len}
+use Rattle.std.proofs.Common.{◌≡◌, ◌≢◌, ℕ, suc, List, [], ◌∷◌, ℤ, pos, ◌*ℤ◌, length, refl, sym, ap, ◌∙◌, arith}
+use Rattle.std.specs.List.{Contains}
 use Rattle.std.proofs.lemmas.List.FromFn.{length-map-range_with_len}
 use Rattle.poly_num.specs.Vectors.{Vector, ◌·◌, IsZero}
 use Rattle.poly_num.proofs.Ring.{mul_comm}
 use Rattle.poly_num.proofs.Order.{zero_factor, cancel, positive_nonzero}
 use Rattle.poly_num.proofs.VectorLemmas.{dot-scale}
-use Rattle.poly_model.specs.declared.overflow.Phase.{Phase}
-use Rattle.poly_model.specs.declared.overflow.Phase.TheVariants.{Cone, First}
+use Rattle.poly_model.specs.declared.overflow.Phase.TheVariants.{Cone}
 use Rattle.poly_model.specs.Systems.{Polyhedron, cone_of}
-use Rattle.poly_model.specs.Spaces.{Space, IsDirection, label_form, in_front, cone_space}
+use Rattle.poly_model.specs.Spaces.{IsDirection, label_form, in_front, cone_space}
 use Rattle.poly_model.specs.Dictionaries.{Table, IsCobasis, Writes, sum_over}
 use Rattle.linear_laws.proofs.Entries.{coordinate_reads}
 use Rattle.dictionary_laws.proofs.Duals.{Dual, dual_of}
 use Rattle.dictionary_laws.proofs.Values.{level_value, terms, value_along}
 use Rattle.dictionary_laws.proofs.Members.{all_from, sum_zero}
-use Rattle.dictionary.specs.Views.{Dictionary, IsDictionaryIn, table_of}
-use Rattle.hull_lift.specs.Facets.{constant_label, coordinate_in, column_of}
+use Rattle.dictionary.specs.Views.{table_of}
+use Rattle.hull_lift.specs.Facets.{coordinate_in, column_of}
 use Rattle.hull_lift.specs.Laws.{IsInColumn, HasColumns}
 use Rattle.hull_lift.proofs.SpaceVectors.{with_front}
 use Rattle.hull_lift.proofs.ColumnVectors.{column_vectors}
-use Rattle.plain_enum.specs.Standing.{HasColumnValues}
 use Rattle.plain_enum.specs.Laws.{ValuesAtColumns}
 
 -- v, with 0 in front, is a direction of the cone's space

@@ -3,3 +3,5 @@ pub mod Counting
 pub mod Parts
 pub mod RowsTaken
 pub mod Standings
+pub mod OneLeft
+pub mod Steps

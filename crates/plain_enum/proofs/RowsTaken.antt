@@ -1,5 +1,5 @@
 -- The rows taken by their labels, and what has the value 0 at a vector there.
-use Rattle.std.proofs.Common.{◌≡◌, ◌↔◌, ⊎_elim, Bool, true, false, ℕ, zero, suc, ◌+◌, ◌-◌, ◌<◌, ◌≤◌, pos, List, [], ◌∷◌, length, refl, sym, ap, ◌∙◌, subst, arith, get_or, map}
+use Rattle.std.proofs.Common.{◌≡◌, ◌↔◌, ⊎_elim, Bool, true, false, ℕ, suc, ◌+◌, ◌-◌, ◌<◌, ◌≤◌, pos, List, [], ◌∷◌, length, sym, ap, ◌∙◌, subst, arith, get_or, map}
 use Rattle.std.proofs.lemmas.List.{get_or-map, length-map}
 use Rattle.std.proofs.lemmas.List.Elements.{Contains-append_left}
 use Rattle.std.proofs.lemmas.Bool.{lt-ltb, cond-true}
@@ -12,12 +12,11 @@ use Rattle.poly_model.specs.Spaces.{is_row, coordinate_label, label_form, cone_s
 use Rattle.linear_laws.proofs.Members.{Contains-nil, Contains-first, Contains-later, Contains-cons_cases}
 use Rattle.dictionary_laws.proofs.Filters.{range_has}
 use Rattle.dictionary_laws.proofs.Members.{by_cases}
-use Rattle.dictionary_laws.specs.Keys.{AreDistinct}
 use Rattle.listing_laws.specs.ListedCone.{ListedCone}
 use Rattle.listing_laws.specs.Prefixes.{taken_at, next_row, labels_from, labels_of}
 use Rattle.listing_laws.specs.Directions.{row_at}
 use Rattle.listing_laws.proofs.FirstLists.{taken-nil}
-use Rattle.listing_laws.proofs.LocalTest.{AreRowsFrom, rows_by_label, labels_at_least}
+use Rattle.listing_laws.proofs.LocalTest.{AreRowsFrom, rows_by_label}
 use Rattle.plain_enum.specs.Standing.{HasRowsOf}
 
 -- ---- labels of rows taken
@@ -40,13 +39,16 @@ taken_zero cone w j before gs [] r l = (
 )
 taken_zero cone w j before [] (m ∷ ms) r l = absurd (omega arith)
 taken_zero cone w j before (g ∷ gs) (true ∷ ms) r l =
-    let go = taken_zero cone w (suc j) (g ∷ before) gs ms r.1 (omega arith) in
-    (
-      λ v. let h = go.0 v in
-          (h.0.1, by_cases (λ k. row_at cone k · w ≡ pos 0) j (labels_from (suc j) ms)
-          (ap (λ t. t · w) r.0 ∙ h.0.0) h.1),
-      λ h. go.1 ((sym (ap (λ t. t · w) r.0) ∙ h.1 j (Contains-first j (labels_from (suc j) ms)), h.0),
-          λ k c. h.1 k (Contains-later k j (labels_from (suc j) ms) c)),
+    let go = taken_zero cone w (suc j) (g ∷ before) gs ms r.1 (omega arith) in (
+      λ v. let h = go.0 v in (
+        h.0.1,
+        by_cases (λ k. row_at cone k · w ≡ pos 0) j (labels_from (suc j) ms)
+            (ap (λ t. t · w) r.0 ∙ h.0.0) h.1,
+      ),
+      λ h. go.1 (
+        (sym (ap (λ t. t · w) r.0) ∙ h.1 j (Contains-first j (labels_from (suc j) ms)), h.0),
+        λ k c. h.1 k (Contains-later k j (labels_from (suc j) ms) c),
+      ),
     )
 taken_zero cone w j before (g ∷ gs) (false ∷ ms) r l = taken_zero cone w (suc j) before gs ms r.1 (omega arith)
 

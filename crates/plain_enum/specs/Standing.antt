@@ -1,6 +1,6 @@
 -- Where a dictionary of the cone's space stands at a prefix of rows: which labels of its key belong to the base, which
 -- to the rows taken, and which are left.
-use Rattle.std.specs.Prelude.{◌≡◌, ◌≢◌, ◌↔◌, ℕ, ◌<◌, ◌≤◌, Bool, pos, List, ◌++◌, map, length}
+use Rattle.std.specs.Prelude.{◌≡◌, ◌↔◌, ℕ, ◌<◌, ◌≤◌, Bool, pos, List, ◌++◌, map, length}
 use Rattle.std.specs.List.{Contains}
 use Rattle.poly_num.specs.Vectors.{Vector, ◌·◌}
 use Rattle.poly_model.specs.Independence.{Vanish}
