@@ -60,8 +60,8 @@ module _ (p : Polyhedron) (cone : ListedCone) (d : Dictionary) (fixed left : Lis
   pub fixed_zero : (w : Vector) → length w ≡ p.n → Vanish (taken_at cone marks) w → AreZeroAt p fixed w
   fixed_zero w l v = (s.base w l).0 ((vanish_at_taken cone marks w s.within).0 v).0
 
-  pub taken_zero : (w : Vector) → Vanish (taken_at cone marks) w → AreZeroAt p (labels_of marks) w
-  taken_zero w v k c =
+  pub rows_taken_zero : (w : Vector) → Vanish (taken_at cone marks) w → AreZeroAt p (labels_of marks) w
+  rows_taken_zero w v k c =
       ap (λ g. g · w) (sym (taken_form k c)) ∙ ((vanish_at_taken cone marks w s.within).0 v).1 k c
 
   -- ---- the next row
@@ -102,5 +102,5 @@ module _ (p : Polyhedron) (cone : ListedCone) (d : Dictionary) (fixed left : Lis
         y wide
         (in_parts (λ k. term k ≡ pos 0) fixed (labels_of marks) left
         (λ k c. times_zero (Table.entry (table_of d) (length marks + 1) k) (label_form (cone_of p).rows k · y) (fixed_zero y wide v k c))
-        (λ k c. times_zero (Table.entry (table_of d) (length marks + 1) k) (label_form (cone_of p).rows k · y) (taken_zero y v k c))
+        (λ k c. times_zero (Table.entry (table_of d) (length marks + 1) k) (label_form (cone_of p).rows k · y) (rows_taken_zero y v k c))
         (λ k c. zero_times (Table.entry (table_of d) (length marks + 1) k) (label_form (cone_of p).rows k · y) (h k c)))

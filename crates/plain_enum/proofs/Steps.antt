@@ -34,6 +34,7 @@ begins_at_coordinates p cone d over nothing is key = record {
     back = λ k c. subst (λ (ks : List ℕ). Contains ks k) (sym key) c;
   };
   distinct = (coordinate_keys 0 p.n).distinct;
+  coordinates = (coordinate_keys 0 p.n).coordinates;
   base = λ z l. (λ v k c. absurd (Contains-nil k c), λ h. subst (λ gs. Vanish gs z) (sym nothing) tt);
   count = ap length nothing;
 }
@@ -50,6 +51,7 @@ dictionary_stays p cone d fixed left marks s l =
       within = omega (arith, one_more marks false);
       key = subst (λ (ls : List ℕ). HaveSameLabels d.key (fixed ++ (ls ++ left))) same s.key;
       distinct = subst (λ (ls : List ℕ). AreDistinct (fixed ++ (ls ++ left))) same s.distinct;
+      coordinates = s.coordinates;
       base = s.base;
       count = s.count;
     }
@@ -177,6 +179,7 @@ module _ (p : Polyhedron) (cone : ListedCone) (d new : Dictionary) (fixed left :
         within = omega (arith, one_more marks true);
         key = subst (λ (ls : List ℕ). HaveSameLabels new.key (fixed ++ (ls ++ without k left))) grown same;
         distinct = subst (λ (ls : List ℕ). AreDistinct (fixed ++ (ls ++ without k left))) grown distinct_now;
+        coordinates = λ j c. s.coordinates j (without_only k left j c).0;
         base = s.base;
         count = s.count;
       }

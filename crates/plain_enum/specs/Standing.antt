@@ -29,13 +29,14 @@ abbrev pub parted : List ℕ → List Bool → List ℕ → List ℕ
 parted fixed marks left = fixed ++ (labels_of marks ++ left)
 
 -- d is a dictionary of the cone's space. Its key has the fixed labels, which are 0 exactly where the base is, as many
--- as the base has rows; the labels of the rows taken; and those that are left, each once
+-- as the base has rows; the labels of the rows taken; and the coordinates that are left; each once
 pub record StandsAt (p : Polyhedron) (cone : ListedCone) (d : Dictionary) (fixed left : List ℕ) (marks : List Bool) : Type 0 where
   pub over : HasRowsOf p cone
   pub dictionary : IsDictionaryIn (cone_space p) d
   pub within : length marks ≤ length cone.rows
   pub key : HaveSameLabels d.key (parted fixed marks left)
   pub distinct : AreDistinct (parted fixed marks left)
+  pub coordinates : (k : ℕ) → Contains left k → 8192 ≤ k
   pub base : (z : Vector) → length z ≡ p.n → Vanish cone.base z ↔ AreZeroAt p fixed z
   pub count : length cone.base ≡ length fixed
 
