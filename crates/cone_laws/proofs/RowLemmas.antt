@@ -61,7 +61,7 @@ module _ (P : Vector → Type 0) (test : Row → Bool) where
   rows_from_entries rows v = All-from_recursion (λ row. test row ≡ true → P row.entries) rows (where_all rows v)
 
 -- ---- the rows that are tight at y
-is_zero-true : (x : ℤ) → is_zero x ≡ true → x ≡ pos 0
+pub is_zero-true : (x : ℤ) → is_zero x ≡ true → x ≡ pos 0
 is_zero-true (pos zero) h = refl
 is_zero-true (pos (suc n)) h = cc
 is_zero-true (negsuc n) h = cc

@@ -1,6 +1,6 @@
 -- The corners under a prefix at which all that is left is along one vector: they are along it, and there is one at
 -- most.
-use Rattle.std.proofs.Common.{◌≡◌, ◌⊎◌, ◌↔◌, ⊎_elim, Bool, ℤ, pos, neg_ℤ, List, [], ◌∷◌, map, subst, arith}
+use Rattle.std.proofs.Common.{◌≡◌, ◌⊎◌, ⊎_elim, Bool, ℤ, pos, neg_ℤ, List, [], ◌∷◌, map, subst, arith}
 use Rattle.std.specs.Prelude.{◌≤ℤ◌}
 use Rattle.std.proofs.lemmas.Int.{ints}
 use Rattle.std.specs.List.{AllByRecursion}

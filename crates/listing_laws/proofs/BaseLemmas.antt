@@ -1,36 +1,30 @@
 -- The cone of a system over the first basis of its fixed rows, and over nothing where no row is fixed.
-use Rattle.std.proofs.Common.{◌≡◌, ◌↔◌, Bool, true, false, cond, ℕ, ℤ, zero, suc, pos, negsuc, List, [], ◌∷◌, length, refl, sym, ap, subst}
-use Rattle.std.specs.List.{All, Any, Contains, list_any, slice_index_or}
+use Rattle.std.proofs.Common.{◌≡◌, ◌↔◌, Bool, true, false, cond, ℕ, List, [], ◌∷◌, refl, ap}
+use Rattle.std.specs.List.{All, Any, list_any}
 use Rattle.std.proofs.lemmas.List.Folds.{Any-from_list_any, list_any-from_Any}
 use Rattle.poly_num.specs.Vectors.{Vector, ◌·◌}
 use Rattle.poly_model.specs.declared.kind.Kind.{Kind}
 use Rattle.poly_model.specs.declared.kind.Kind.TheVariants.{H, V}
-use Rattle.poly_model.specs.Independence.{Vanish, IsFirstBasis, taken}
+use Rattle.poly_model.specs.Independence.{IsFirstBasis, taken}
 use Rattle.poly_model.specs.Systems.{Row, System}
-use Rattle.poly_model.specs.Cones.{IsTight}
-use Rattle.poly_model.specs.FreeColumns.{IsZeroAtFree, AreFreeColumns}
+use Rattle.poly_model.specs.FreeColumns.{AreFreeColumns}
 use Rattle.poly_model.specs.Extreme.{TouchesPoint, IsShown}
 use Rattle.linear_laws.specs.NewRows.{AreNew}
 use Rattle.linear_laws.proofs.Members.{Contains-nil}
 use Rattle.linear_laws.proofs.FirstBases.{taken_enough, taken_of}
 use Rattle.cone_laws.specs.Faces.{is_zero, fixed_rows}
-use Rattle.cone_laws.proofs.RowLemmas.{fixed_vanish, zero_at_fixed, linear_from_fixed}
+use Rattle.cone_laws.proofs.RowLemmas.{is_zero-true, fixed_vanish, zero_at_fixed, linear_from_fixed}
 use Rattle.listing_laws.specs.ListedCone.{IsConeOf, shows_of, cone_over}
 
 -- ---- a first basis is independent
-pub new_taken : (n : ℕ) (before gs : List Vector) (marks : List Bool) → AreNew n before →
+pub first_basis_is_new : (n : ℕ) (before gs : List Vector) (marks : List Bool) → AreNew n before →
     IsFirstBasis n before gs marks → AreNew n (taken before gs marks)
-new_taken n before [] marks a f = a
-new_taken n before (g ∷ gs) [] a f = a
-new_taken n before (g ∷ gs) (true ∷ marks) a f = new_taken n (g ∷ before) gs marks (f.0, a) f.1
-new_taken n before (g ∷ gs) (false ∷ marks) a f = new_taken n before gs marks a f.1
+first_basis_is_new n before [] marks a f = a
+first_basis_is_new n before (g ∷ gs) [] a f = a
+first_basis_is_new n before (g ∷ gs) (true ∷ marks) a f = first_basis_is_new n (g ∷ before) gs marks (f.0, a) f.1
+first_basis_is_new n before (g ∷ gs) (false ∷ marks) a f = first_basis_is_new n before gs marks a f.1
 
 -- ---- what is shown
-zero_from_test : (x : ℤ) → is_zero x ≡ true → x ≡ pos 0
-zero_from_test (pos zero) e = refl
-zero_from_test (pos (suc n)) e = absurd (cc)
-zero_from_test (negsuc n) e = absurd (cc)
-
 both_from_cond : (b c : Bool) → cond b c false ≡ true → (b ≡ true) × (c ≡ true)
 both_from_cond true c e = (refl, e)
 both_from_cond false c e = absurd (cc)
@@ -50,7 +44,7 @@ shows_is_shown V sys y = (λ e. touches (Any-from_list_any (is_tight_point y) sy
     touches : Any (λ row. is_tight_point y row ≡ true) sys.rows → TouchesPoint sys y
     touches (k, row, l, e, p) =
         let h = both_from_cond row.point (is_zero (row.entries · y)) p in
-        record { row = row; within = (k, l, e); point = h.0; tight = zero_from_test (row.entries · y) h.1 }
+        record { row = row; within = (k, l, e); point = h.0; tight = is_zero-true (row.entries · y) h.1 }
 
     passes : TouchesPoint sys y → list_any (is_tight_point y) sys.rows ≡ true
     passes t =
@@ -64,7 +58,7 @@ pub first_basis_is_base : (sys : System) (columns : List ℕ) (marks : List Bool
     IsConeOf sys (cone_over (taken [] (fixed_rows columns sys) marks) sys)
 first_basis_is_base sys columns marks f first = record {
   width = refl;
-  independent = new_taken sys.n [] (fixed_rows columns sys) marks tt first;
+  independent = first_basis_is_new sys.n [] (fixed_rows columns sys) marks tt first;
   fixed = λ z l. (
     λ v. let w = (taken_enough sys.n [] (fixed_rows columns sys) marks first z l v).1 in
         (λ j q. zero_at_fixed columns sys z w j ((f.exactly j).0 q), linear_from_fixed columns sys z w),

@@ -1,16 +1,16 @@
--- The cone of a system: it is listable, its shown corners are the extreme vectors, and it is there.
-use Rattle.std.proofs.Common.{◌≡◌, ◌↔◌, Bool, true, false, cond, ℕ, ℤ, pos, List, [], ◌∷◌, map, length, refl, sym, ◌∙◌, subst, arith}
+-- The cone of a system: it is listable, and its shown corners are the extreme vectors.
+use Rattle.std.proofs.Common.{◌≡◌, ◌↔◌, Bool, true, false, cond, ℤ, pos, length, refl, sym, ◌∙◌, subst, arith}
 use Rattle.std.specs.Prelude.{◌≤ℤ◌}
 use Rattle.std.proofs.lemmas.Int.{ints}
-use Rattle.std.specs.List.{AllByRecursion, All, slice_index_or}
-use Rattle.poly_num.specs.Vectors.{Vector, ◌·◌, IsZero}
-use Rattle.poly_model.specs.Independence.{Vanish, IsFirstBasis, taken}
-use Rattle.poly_model.specs.Systems.{Row, System}
-use Rattle.poly_model.specs.Cones.{Meets, IsInCone, IsTight}
-use Rattle.poly_model.specs.FreeColumns.{IsZeroAtFree, AreFreeColumns}
-use Rattle.poly_model.specs.Extreme.{IsOnFace, IsExtreme}
-use Rattle.linear_laws.specs.Corners.{IsInConeOf, IsPointed, IsOnTight, IsCorner}
+use Rattle.std.specs.List.{AllByRecursion, All}
+use Rattle.poly_num.specs.Vectors.{Vector, ◌·◌}
+use Rattle.poly_model.specs.Systems.{System}
+use Rattle.poly_model.specs.Cones.{IsInCone}
+use Rattle.poly_model.specs.FreeColumns.{IsZeroAtFree}
+use Rattle.poly_model.specs.Extreme.{IsExtreme}
+use Rattle.linear_laws.specs.Corners.{IsInConeOf, IsPointed}
 use Rattle.cone_laws.proofs.RowLemmas.{forms_from_rows, rows_from_forms}
+use Rattle.cone_laws.proofs.FaceLemmas.{linear_vanish_in_cone}
 use Rattle.cone_laws.proofs.ColumnLemmas.{zero_from_tight}
 use Rattle.listing_laws.specs.ListedCone.{ListedCone, IsListable, IsShownCorner, IsConeOf}
 
@@ -19,11 +19,8 @@ nonnegative_if_met : (linear : Bool) (x : ℤ) → cond linear (x ≡ pos 0) (po
 nonnegative_if_met true x e = omega (arith, ints)
 nonnegative_if_met false x l = l
 
-zero_if_linear : (linear : Bool) (x : ℤ) → cond linear (x ≡ pos 0) (pos 0 ≤ℤ x) → linear ≡ true → x ≡ pos 0
-zero_if_linear true x m e = m
-zero_if_linear false x m e = absurd (cc)
-
-met_from_both : (linear : Bool) (x : ℤ) → (linear ≡ true → x ≡ pos 0) → pos 0 ≤ℤ x → cond linear (x ≡ pos 0) (pos 0 ≤ℤ x)
+met_from_both : (linear : Bool) (x : ℤ) → (linear ≡ true → x ≡ pos 0) → pos 0 ≤ℤ x →
+    cond linear (x ≡ pos 0) (pos 0 ≤ℤ x)
 met_from_both true x e l = e refl
 met_from_both false x e l = l
 
@@ -49,7 +46,7 @@ module _ (sys : System) (cone : ListedCone) (is : IsConeOf sys cone) where
       let w : length y ≡ cone.n = c.width ∙ sym is.width in
       record {
         width = w;
-        vanishing = (is.fixed y w).1 (free, λ k d lt. zero_if_linear _ _ (c.meets k d lt));
+        vanishing = (is.fixed y w).1 (free, linear_vanish_in_cone sys y c);
         nonnegative = all_rows (λ g. pos 0 ≤ℤ (g · y)) (λ k d lt. nonnegative_if_met _ _ (c.meets k d lt));
       }
 

@@ -3,8 +3,12 @@ pub mod FirstLists
 pub mod PrefixLemmas
 pub mod ConeLemmas
 pub mod BaseLemmas
+pub mod StandingLemmas
+pub mod ClearedVectors
 pub mod LocalTest
 pub mod AlongLemmas
 pub mod ShownLemmas
 pub mod WholeLists
+pub mod KnownValues
+pub mod KnownListings
 pub mod ListingLemmas

@@ -1,12 +1,11 @@
 -- The list of the corners under the empty prefix is the listing, and tells whether an H file is feasible.
-use Rattle.std.proofs.Common.{◌≡◌, ◌≢◌, ◌↔◌, ℕ, zero, suc, ◌<◌, pos, List, [], ◌∷◌, length, subst, sym, arith}
-use Rattle.std.specs.List.{AllByRecursion, Contains, slice_index_or}
+use Rattle.std.proofs.Common.{◌≡◌, ◌≢◌, ◌↔◌, ℕ, zero, suc, ◌<◌, List, [], ◌∷◌, length, subst, sym, arith}
+use Rattle.std.specs.List.{Contains, slice_index_or}
 use Rattle.std.proofs.lemmas.List.Elements.{All-from_recursion, All-contains, Contains-get_or}
 use Rattle.poly_num.specs.Vectors.{Vector}
 use Rattle.poly_model.specs.declared.kind.Kind.TheVariants.{H}
 use Rattle.poly_model.specs.Systems.{Polyhedron, System, cone_of}
 use Rattle.poly_model.specs.Extreme.{IsExtreme, IsFeasible, AreExtreme}
-use Rattle.linear_laws.proofs.Members.{Contains-first, Contains-later}
 use Rattle.cone_laws.specs.FeasibilityLaws.{HasVertex, IsFlatAtInfinity}
 use Rattle.cone_laws.proofs.FeasibleLemmas.{feasible_by_vertex, feasible_file_by_vertex}
 use Rattle.listing_laws.specs.ConeLaws.{HasShownVertex, HasListedVertex}
@@ -14,6 +13,7 @@ use Rattle.listing_laws.specs.ListedCone.{ListedCone, IsConeOf}
 use Rattle.listing_laws.specs.Lists.{AreDistinct, Lists}
 use Rattle.listing_laws.specs.Prefixes.{IsUnder}
 use Rattle.listing_laws.proofs.ConeLemmas.{extreme_is_shown_corner}
+use Rattle.listing_laws.proofs.ListLemmas.{all_members}
 
 once_at : (ys : List Vector) → AreDistinct ys → (i j : ℕ) → i < j → j < length ys →
     slice_index_or ys i [] ≢ slice_index_or ys j []
@@ -22,10 +22,6 @@ once_at (y ∷ ys) d i zero a b e = absurd (omega arith)
 once_at (y ∷ ys) d zero (suc j) a b e =
     d.0 (subst (Contains ys) (sym e) (Contains-get_or ys j [] (omega arith)))
 once_at (y ∷ ys) d (suc i) (suc j) a b e = once_at ys d.1 i j (omega arith) (omega arith) e
-
-all_members : (P : Vector → Type 0) (ys : List Vector) → ((y : Vector) → Contains ys y → P y) → AllByRecursion P ys
-all_members P [] h = tt
-all_members P (y ∷ ys) h = (h y (Contains-first y ys), all_members P ys (λ z c. h z (Contains-later z y ys c)))
 
 pub whole_listing : (sys : System) (cone : ListedCone) → IsConeOf sys cone → (shown : List Vector) →
     Lists (IsUnder cone []) shown → AreExtreme sys shown

@@ -1,16 +1,30 @@
 -- The corners under a prefix, and those under it with the next row or without.
-use Rattle.std.proofs.Common.{◌≡◌, ◌≢◌, ◌⊎◌, ◌↔◌, inl, inr, ⊎_elim, Bool, true, false, ℕ, ◌+◌, ◌<◌, pos, List, [], ◌∷◌, ◌++◌, length, ap, sym, ◌∙◌, arith}
+use Rattle.std.proofs.Common.{◌≡◌, ◌≢◌, ◌⊎◌, ◌↔◌, inl, inr, ⊎_elim, Bool, true, false, ℕ, ◌+◌, ◌-◌, ◌<◌, ◌≤◌, pos, List, [], ◌∷◌, ◌++◌, length, ap, arith}
 use lib.IntN.{ℤ_discrete}
+use Rattle.std.specs.List.{Contains, slice_index_or}
+use Rattle.poly_model.specs.Keys.{IsAscending}
 use Rattle.poly_num.specs.Vectors.{Vector, ◌·◌}
 use Rattle.poly_model.specs.Independence.{Follows, IsNew}
-use Rattle.linear_laws.specs.LocalTest.{AreFirstTight}
 use Rattle.linear_laws.proofs.FirstBases.{not_both}
 use Rattle.linear_laws.proofs.TightLists.{first_tight_is_one, alone_by_tight_count}
-use Rattle.listing_laws.specs.ListedCone.{ListedCone, IsListable, IsShownCorner}
+use Rattle.listing_laws.specs.ListedCone.{ListedCone, row_at, IsListable, IsShownCorner}
 use Rattle.listing_laws.specs.Lists.{Lists}
 use Rattle.listing_laws.specs.Prefixes.{taken_at, next_row, labels_of, IsUnder, IsListedUpTo}
-use Rattle.listing_laws.proofs.FirstLists.{taken-true, taken-false, labels-true, labels-false, tight-true, tight-false}
+use Rattle.listing_laws.proofs.FirstLists.{labels_within, labels_ascend, taken-with, taken-without, labels-with, labels-without, first_with, first_without}
 use Rattle.listing_laws.proofs.ListLemmas.{goes_start, goes_skip, goes_take, goes_end}
+
+-- ---- the labels
+pub next_label : (cone : ListedCone) (marks : List Bool) → row_at cone (length marks + 1) ≡ next_row cone marks
+next_label cone marks =
+    let e : length marks + 1 - 1 ≡ length marks = omega arith in
+    ap (λ k. slice_index_or cone.rows k []) e
+
+pub labels_are_ascending : (marks : List Bool) → IsAscending (labels_of marks)
+    × ((k : ℕ) → Contains (labels_of marks) k → (0 < k) × (k ≤ length marks))
+labels_are_ascending marks = (
+  labels_ascend 1 marks,
+  λ k c. let l = labels_within 1 marks k c in let m = l.0 in let n = l.1 in (omega arith, omega arith),
+)
 
 module _ (cone : ListedCone) where
   -- ---- the next row
@@ -18,37 +32,37 @@ module _ (cone : ListedCone) where
     pub skipped : (y : Vector) → Follows cone.n (taken_at cone marks) (next_row cone marks) →
         IsUnder cone marks y ↔ IsUnder cone (marks ++ false ∷ []) y
     skipped y f =
-        let next = tight-false cone.n cone.base y cone.rows marks l in
+        let next = first_without cone.n cone.base y cone.rows marks l in
         (λ u. (u.0, next.1 (u.1, λ e. f)), λ u. (u.0, (next.0 u.1).0))
 
     pub taken_or_not : (y : Vector) → IsNew cone.n (taken_at cone marks) (next_row cone marks) →
         IsUnder cone marks y ↔ (IsUnder cone (marks ++ true ∷ []) y ⊎ IsUnder cone (marks ++ false ∷ []) y)
     taken_or_not y w = (
       λ u. by u (ℤ_discrete (next_row cone marks · y) (pos 0)),
-      λ s. ⊎_elim (λ u. (u.0, ((tight-true cone.n cone.base y cone.rows marks l).0 u.1).0))
-          (λ u. (u.0, ((tight-false cone.n cone.base y cone.rows marks l).0 u.1).0)) s,
+      λ s. ⊎_elim (λ u. (u.0, ((first_with cone.n cone.base y cone.rows marks l).0 u.1).0))
+          (λ u. (u.0, ((first_without cone.n cone.base y cone.rows marks l).0 u.1).0)) s,
     )
       where
         by : IsUnder cone marks y → Dec (next_row cone marks · y ≡ pos 0) →
             IsUnder cone (marks ++ true ∷ []) y ⊎ IsUnder cone (marks ++ false ∷ []) y
-        by u (yes e) = inl (u.0, (tight-true cone.n cone.base y cone.rows marks l).1 (u.1, e, w))
-        by u (no h) = inr (u.0, (tight-false cone.n cone.base y cone.rows marks l).1 (u.1, λ e. absurd (h e)))
+        by u (yes e) = inl (u.0, (first_with cone.n cone.base y cone.rows marks l).1 (u.1, e, w))
+        by u (no h) = inr (u.0, (first_without cone.n cone.base y cone.rows marks l).1 (u.1, λ e. absurd (h e)))
 
     pub not_both_under : (y : Vector) → IsUnder cone (marks ++ true ∷ []) y → IsUnder cone (marks ++ false ∷ []) y → ⊥
     not_both_under y u v =
-        let a = (tight-true cone.n cone.base y cone.rows marks l).0 u.1 in
-        let b = (tight-false cone.n cone.base y cone.rows marks l).0 v.1 in
+        let a = (first_with cone.n cone.base y cone.rows marks l).0 u.1 in
+        let b = (first_without cone.n cone.base y cone.rows marks l).0 v.1 in
         not_both cone.n (taken_at cone marks) (next_row cone marks) a.2 (b.1 a.1)
 
     pub grows : (taken_at cone (marks ++ true ∷ []) ≡ next_row cone marks ∷ taken_at cone marks)
         × (labels_of (marks ++ true ∷ []) ≡ labels_of marks ++ (length marks + 1) ∷ [])
-    grows = (taken-true cone.base cone.rows marks l, labels-true 1 marks)
+    grows = (taken-with cone.base cone.rows marks l, labels-with 1 marks)
 
     pub stays : (taken_at cone (marks ++ false ∷ []) ≡ taken_at cone marks)
         × (labels_of (marks ++ false ∷ []) ≡ labels_of marks)
-    stays = (taken-false cone.base cone.rows marks l, labels-false 1 marks)
+    stays = (taken-without cone.base cone.rows marks l, labels-without 1 marks)
 
-    -- ---- the loop
+    -- ---- the loop over the rows
     pub loop_skips : (prefix : List Bool) (listed : List Vector) →
         Follows cone.n (taken_at cone marks) (next_row cone marks) →
         IsListedUpTo cone prefix marks listed → IsListedUpTo cone prefix (marks ++ false ∷ []) listed

@@ -8,18 +8,19 @@ use Rattle.linear_laws.specs.NewRows.{AreNew}
 use Rattle.linear_laws.specs.LocalTest.{AreFirstTight, HaveSameZeros}
 use Rattle.linear_laws.proofs.Alone.{alone_by_first_basis}
 use Rattle.linear_laws.proofs.Proportions.{values_from_multiples, zero_from_proportion, factor_nonzero}
-use Rattle.listing_laws.specs.ListedCone.{ListedCone, IsListable}
+use Rattle.listing_laws.specs.ListedCone.{ListedCone, row_at, IsListable}
 use Rattle.listing_laws.specs.Lists.{Lists}
 use Rattle.listing_laws.specs.Prefixes.{taken_at, labels_of, IsUnder}
-use Rattle.listing_laws.specs.Directions.{row_at, LeavesOne, PassesLocalTest, IsShownAlong}
-use Rattle.listing_laws.proofs.FirstLists.{length-taken}
+use Rattle.listing_laws.specs.Directions.{LeavesOne, PassesLocalTest, IsShownAlong}
+use Rattle.listing_laws.proofs.FirstLists.{labels_within, length-taken}
 use Rattle.listing_laws.proofs.ListLemmas.{lists_none}
-use Rattle.listing_laws.proofs.LocalTest.{Stands, LeavesOnly, rows_by_label, labels_at_least, new_taken, vanish_from_labels, test_is_first}
+use Rattle.listing_laws.proofs.StandingLemmas.{Stands, rows_by_label, new_taken, vanish_from_labels}
+use Rattle.listing_laws.proofs.LocalTest.{LeavesOnly, test_is_first}
 use Rattle.listing_laws.proofs.AlongLemmas.{shown_along, under_if_first, list_of_one, list_of_none}
 
 module _ (cone : ListedCone) (listable : IsListable cone) (marks : List Bool) (z : Vector)
     (s : LeavesOne cone marks z) where
-  stands : Stands cone (labels_of marks) s.duals 1 cone.base cone.rows marks
+  stands : Stands s.duals 1 cone.base cone.rows marks
   stands = record {
     rows = rows_by_label cone;
     within = s.within;
@@ -30,12 +31,12 @@ module _ (cone : ListedCone) (listable : IsListable cone) (marks : List Bool) (z
 
   -- ---- all that is left is along z
   is_new : AreNew cone.n (taken_at cone marks)
-  is_new = new_taken cone (labels_of marks) s.duals 1 cone.base cone.rows marks stands listable.independent
+  is_new = new_taken s.duals 1 cone.base cone.rows marks stands listable.independent
 
   vanish_at : (w : Vector) → Vanish cone.base w →
       ((k : ℕ) → Contains (labels_of marks) k → row_at cone k · w ≡ pos 0) → Vanish (taken_at cone marks) w
   vanish_at w v h =
-      vanish_from_labels cone (labels_of marks) s.duals 1 cone.base cone.rows marks stands w v (λ k c l. h k c)
+      vanish_from_labels s.duals 1 cone.base cone.rows marks stands w v (λ k c l. h k c)
 
   alone : IsAlone cone.n (taken_at cone marks) z
   alone =
@@ -47,9 +48,9 @@ module _ (cone : ListedCone) (listable : IsListable cone) (marks : List Bool) (z
       (omega arith) in
       subst (λ gs. IsAlone cone.n gs z) (append-nil (taken_at cone marks)) h
 
-  leaves_only : LeavesOnly cone (labels_of marks) s.duals z s.left 1 cone.base
+  leaves_only : LeavesOnly s.duals z s.left 1 cone.base
   leaves_only g w e l v h =
-      let m = alone w l (vanish_at w v (λ k c. h k c (labels_at_least 1 marks k c))) in
+      let m = alone w l (vanish_at w v (λ k c. h k c (labels_within 1 marks k c).0)) in
       zero_from_proportion m.0 m.1 (g · w) (g · z) m.2 (values_from_multiples m.0 m.1 w z m.3 g) e
 
   same_zeros : (y : Vector) → (IsZero y → ⊥) → IsMultipleOf z y → HaveSameZeros y z
@@ -63,7 +64,7 @@ module _ (cone : ListedCone) (listable : IsListable cone) (marks : List Bool) (z
       PassesLocalTest cone (labels_of marks) s.duals z ↔ AreFirstTight cone.n cone.base y cone.rows marks
   test_by_labels y nz m =
       let h =
-      test_is_first cone (labels_of marks) s.duals z s.left y (same_zeros y nz m) 1 cone.base cone.rows marks stands
+      test_is_first s.duals z s.left y (same_zeros y nz m) 1 cone.base cone.rows marks stands
       leaves_only in
       (λ p. h.0 (λ i l. p i (omega arith)), λ f i l. h.1 f i (omega arith))
 

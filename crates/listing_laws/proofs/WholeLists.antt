@@ -1,11 +1,11 @@
 -- What is under a prefix is a list, and what a loop has listed of it is the beginning of one.
-use Rattle.std.proofs.Common.{◌≡◌, ◌≢◌, ◌⊎◌, inl, inr, ⊎_elim, Bool, true, false, ℕ, zero, suc, ◌+◌, ◌-◌, ◌<◌, ◌≤◌, ℤ, pos, negsuc, neg_ℤ, ◌*ℤ◌, List, [], ◌∷◌, ◌++◌, map, length, length-append, append_assoc, refl, sym, ap, ◌∙◌, subst, arith}
+use Rattle.std.proofs.Common.{◌≡◌, ◌⊎◌, inl, inr, ⊎_elim, Bool, true, false, ℕ, zero, suc, ◌+◌, ◌-◌, ◌<◌, ◌≤◌, ℤ, pos, negsuc, neg_ℤ, ◌*ℤ◌, List, [], ◌∷◌, ◌++◌, map, length, length-append, append_assoc, refl, sym, ap, ◌∙◌, subst, arith}
 use Rattle.std.specs.Prelude.{◌≤ℤ◌}
 use Rattle.std.proofs.lemmas.Int.{ints}
 use Rattle.std.proofs.lemmas.Bool.{cases_eq}
 use Rattle.std.proofs.lemmas.List.{length-map}
 use Rattle.std.specs.List.{AllByRecursion}
-use Rattle.poly_num.specs.Vectors.{Vector, ◌·◌, scale, IsZero, IsPrimitive, IsMultipleOf}
+use Rattle.poly_num.specs.Vectors.{Vector, ◌·◌, IsZero, IsPrimitive, IsMultipleOf}
 use Rattle.poly_num.proofs.Ring.{lin, mul-neg, neg-mul}
 use Rattle.poly_num.proofs.PrimitiveLemmas.{primitive-neg}
 use Rattle.poly_num.proofs.VectorLemmas.{dot-neg, scale-one}
@@ -23,8 +23,7 @@ use Rattle.linear_laws.proofs.TightLists.{first_tight_is_one}
 use Rattle.listing_laws.specs.ListedCone.{ListedCone, IsListable}
 use Rattle.listing_laws.specs.Lists.{Lists, Begins}
 use Rattle.listing_laws.specs.Prefixes.{taken_at, next_row, IsUnder, IsListedUpTo}
-use Rattle.listing_laws.specs.Directions.{IsShownAlong}
-use Rattle.listing_laws.proofs.AlongLemmas.{shown_along, under_if_first, list_of_one, list_of_none}
+use Rattle.listing_laws.proofs.AlongLemmas.{under_if_first, list_of_one, list_of_none}
 use Rattle.listing_laws.proofs.FirstLists.{taken-nil}
 use Rattle.listing_laws.proofs.ListLemmas.{lists_none, lists_same, lists-append}
 use Rattle.listing_laws.proofs.PrefixLemmas.{skipped, taken_or_not, not_both_under, full, loop_takes}
@@ -63,10 +62,12 @@ marks_settled : (ms ks : List Bool) → IsSettled (ms ≡ ks)
 marks_settled [] [] = inl refl
 marks_settled [] (k ∷ ks) = inr (λ e. cc)
 marks_settled (m ∷ ms) [] = inr (λ e. cc)
-marks_settled (true ∷ ms) (true ∷ ks) = ⊎_elim (λ e. inl (ap (λ t. true ∷ t) e)) (λ n. inr (λ e. n (cc))) (marks_settled ms ks)
+marks_settled (true ∷ ms) (true ∷ ks) =
+    ⊎_elim (λ e. inl (ap (λ t. true ∷ t) e)) (λ n. inr (λ e. n (cc))) (marks_settled ms ks)
 marks_settled (true ∷ ms) (false ∷ ks) = inr (λ e. cc)
 marks_settled (false ∷ ms) (true ∷ ks) = inr (λ e. cc)
-marks_settled (false ∷ ms) (false ∷ ks) = ⊎_elim (λ e. inl (ap (λ t. false ∷ t) e)) (λ n. inr (λ e. n (cc))) (marks_settled ms ks)
+marks_settled (false ∷ ms) (false ∷ ks) =
+    ⊎_elim (λ e. inl (ap (λ t. false ∷ t) e)) (λ n. inr (λ e. n (cc))) (marks_settled ms ks)
 
 first_settled : (n : ℕ) (before : List Vector) (y : Vector) (gs : List Vector) (ms : List Bool) → AreNew n before →
     length ms ≡ length gs → IsSettled (AreFirstTight n before y gs ms)
@@ -83,7 +84,8 @@ new_if_first n before y [] (m ∷ ms) a h = absurd h
 new_if_first n before y (g ∷ gs) (true ∷ ms) a h = new_if_first n (g ∷ before) y gs ms (h.1, a) h.2
 new_if_first n before y (g ∷ gs) (false ∷ ms) a h = new_if_first n before y gs ms a h.1
 
-base_from_taken : (before gs : List Vector) (ms : List Bool) (y : Vector) → Vanish (taken before gs ms) y → Vanish before y
+base_from_taken : (before gs : List Vector) (ms : List Bool) (y : Vector) → Vanish (taken before gs ms) y →
+    Vanish before y
 base_from_taken before [] ms y v = v
 base_from_taken before (g ∷ gs) [] y v = v
 base_from_taken before (g ∷ gs) (true ∷ ms) y v = (base_from_taken (g ∷ before) gs ms y v).1
@@ -174,8 +176,11 @@ module _ (cone : ListedCone) (listable : IsListable cone) where
         (λ a. ⊎_elim (λ e. list_of_new a e)
         (λ n. ([], lists_none (IsUnder cone marks) (λ y u. n (full cone listable marks y l u))))
         (cases_eq (length (taken_at cone marks) + 1) cone.n))
-        (λ n. ([], lists_none (IsUnder cone marks)
-        (λ y u. n (new_if_first cone.n cone.base y cone.rows marks listable.independent u.1))))
+        (λ n. (
+          [],
+          lists_none (IsUnder cone marks)
+              (λ y u. n (new_if_first cone.n cone.base y cone.rows marks listable.independent u.1)),
+        ))
         (new_settled cone.n (taken_at cone marks))
 
   -- ---- so many rows have none
@@ -189,7 +194,8 @@ module _ (cone : ListedCone) (listable : IsListable cone) where
       lt : length marks < length cone.rows
       lt = omega arith
 
-      by : IsNew cone.n (taken_at cone marks) (next_row cone marks) ⊎ Follows cone.n (taken_at cone marks) (next_row cone marks) →
+      by : IsNew cone.n (taken_at cone marks) (next_row cone marks)
+          ⊎ Follows cone.n (taken_at cone marks) (next_row cone marks) →
           HasList (marks ++ true ∷ []) → HasList (marks ++ false ∷ []) → HasList marks
       by (inr f) with_row without = (
         without.0,

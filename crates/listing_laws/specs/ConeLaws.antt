@@ -1,5 +1,5 @@
 -- Laws of the cone of a system.
-use Rattle.std.specs.Prelude.{◌≡◌, ◌↔◌, Bool, true, pos, neg_ℤ, ◌<ℤ◌, List, [], length, map, ℕ}
+use Rattle.std.specs.Prelude.{◌≡◌, ◌↔◌, Bool, true, pos, neg_ℤ, ◌<ℤ◌, List, [], map, ℕ}
 use Rattle.std.specs.List.{All, Contains}
 use Rattle.poly_num.specs.Vectors.{Vector, IsZero}
 use Rattle.poly_model.specs.declared.kind.Kind.TheVariants.{H}
@@ -62,12 +62,12 @@ pub record HasListedVertex (shown : List Vector) : Type 0 where
   pub listed : Contains shown vector
   pub positive : pos 0 <ℤ at 0 vector
 
--- and exactly where its listing has one
+-- the same by its listing
 abbrev pub FeasibleByListing : Type 0
 FeasibleByListing = (sys : System) → sys.kind ≡ H → IsFlatAtInfinity sys →
     (shown : List Vector) → AreExtreme sys shown → IsFeasible sys ↔ HasListedVertex shown
 
--- the same of the cone of a polyhedron, which has the row at infinity
+-- and of the cone of a polyhedron, which has the row at infinity
 abbrev pub FeasibleFileByListing : Type 0
 FeasibleFileByListing = (p : Polyhedron) → p.kind ≡ H →
     (shown : List Vector) → AreExtreme (cone_of p) shown → IsFeasible (cone_of p) ↔ HasListedVertex shown

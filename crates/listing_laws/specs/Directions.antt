@@ -1,16 +1,12 @@
 -- What a dictionary tells at a prefix that leaves one direction: a vector for the direction and one for each row
 -- taken; and the local test by the values of the rows at these vectors.
-use Rattle.std.specs.Prelude.{◌≡◌, ◌≢◌, ℕ, ◌+◌, ◌-◌, ◌<◌, ◌≤◌, Bool, true, pos, List, [], length}
-use Rattle.std.specs.List.{Contains, slice_index_or}
+use Rattle.std.specs.Prelude.{◌≡◌, ◌≢◌, ℕ, ◌+◌, ◌<◌, ◌≤◌, Bool, true, pos, List, length}
+use Rattle.std.specs.List.{Contains}
 use Rattle.poly_num.specs.Vectors.{Vector, ◌·◌, IsZero, IsPrimitive, IsMultipleOf}
 use Rattle.poly_model.specs.Independence.{Vanish}
 use Rattle.linear_laws.specs.Corners.{IsInConeOf}
-use Rattle.listing_laws.specs.ListedCone.{ListedCone}
+use Rattle.listing_laws.specs.ListedCone.{ListedCone, row_at}
 use Rattle.listing_laws.specs.Prefixes.{labels_of}
-
--- the row with the label i
-abbrev pub row_at : ListedCone → ℕ → Vector
-row_at cone i = slice_index_or cone.rows (i - 1) []
 
 -- a vector at which row k is not 0, and the base and the rows of the other labels are
 pub record DualVector (cone : ListedCone) (labels : List ℕ) (k : ℕ) : Type 0 where

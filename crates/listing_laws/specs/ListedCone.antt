@@ -1,6 +1,6 @@
 -- The cone whose corners are listed, and the system that it is of.
-use Rattle.std.specs.Prelude.{◌≡◌, ◌↔◌, ℕ, Bool, true, false, cond, List, length, map}
-use Rattle.std.specs.List.{All, list_any}
+use Rattle.std.specs.Prelude.{◌≡◌, ◌↔◌, ℕ, ◌-◌, Bool, true, false, cond, List, [], length, map}
+use Rattle.std.specs.List.{All, list_any, slice_index_or}
 use Rattle.poly_num.specs.Vectors.{Vector, ◌·◌}
 use Rattle.poly_model.specs.declared.kind.Kind.{Kind}
 use Rattle.poly_model.specs.declared.kind.Kind.TheVariants.{H, V}
@@ -21,6 +21,10 @@ pub record ListedCone : Type 0 where
   pub rows : List Vector
   -- which of the corners are shown
   pub shows : Vector → Bool
+
+-- the row with the label i
+abbrev pub row_at : ListedCone → ℕ → Vector
+row_at cone i = slice_index_or cone.rows (i - 1) []
 
 -- the rows of the base are independent, and the cone holds no line
 pub record IsListable (cone : ListedCone) : Type 0 where

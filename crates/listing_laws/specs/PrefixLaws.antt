@@ -1,8 +1,10 @@
 -- Laws of the corners under a prefix, as a recursion over prefixes needs them.
 use Rattle.std.specs.Prelude.{◌≡◌, ◌≢◌, ◌↔◌, ◌⊎◌, ℕ, ◌+◌, ◌<◌, ◌≤◌, Bool, true, false, List, [], ◌∷◌, ◌++◌, length}
+use Rattle.std.specs.List.{Contains}
 use Rattle.poly_num.specs.Vectors.{Vector}
+use Rattle.poly_model.specs.Keys.{IsAscending}
 use Rattle.poly_model.specs.Independence.{Follows, IsNew}
-use Rattle.listing_laws.specs.ListedCone.{ListedCone, IsListable, IsShownCorner}
+use Rattle.listing_laws.specs.ListedCone.{ListedCone, row_at, IsListable, IsShownCorner}
 use Rattle.listing_laws.specs.Lists.{Lists, Begins}
 use Rattle.listing_laws.specs.Prefixes.{taken_at, next_row, labels_of, IsUnder, IsListedUpTo}
 
@@ -45,6 +47,16 @@ abbrev pub TakenStays : Type 0
 TakenStays = (cone : ListedCone) (marks : List Bool) → length marks < length cone.rows →
     (taken_at cone (marks ++ false ∷ []) ≡ taken_at cone marks)
     × (labels_of (marks ++ false ∷ []) ≡ labels_of marks)
+
+-- the first row without a mark has the label after so many marks
+abbrev pub NextRowHasNextLabel : Type 0
+NextRowHasNextLabel = (cone : ListedCone) (marks : List Bool) →
+    row_at cone (length marks + 1) ≡ next_row cone marks
+
+-- the labels of the marked rows ascend, from 1 on up to the number of marks
+abbrev pub LabelsAscend : Type 0
+LabelsAscend = (marks : List Bool) → IsAscending (labels_of marks)
+    × ((k : ℕ) → Contains (labels_of marks) k → (0 < k) × (k ≤ length marks))
 
 -- ---- the loop over the rows behind a prefix
 -- at first nothing is listed

@@ -4,9 +4,13 @@
 //! What is stated stands in `specs/`; the crates above cite the lemmas of `proofs/`.
 #![tactic(auto)]
 
-ghost use Rattle.listing_laws.specs.ConeLaws.{FirstBasisIsBase, NothingIsBase, ConeIsListable, ExtremeIsShownCorner, OnlyZeroHasItsOpposite, WholeListing, FeasibleByCorners, FeasibleByListing, FeasibleFileByListing};
-ghost use Rattle.listing_laws.specs.PrefixLaws.{EachHasOneList, ListIsFull, FollowingIsSkipped, NewIsTakenOrNot, NotBoth, TakenGrows, TakenStays};
-ghost use Rattle.listing_laws.specs.PrefixLaws.{LoopBegins, LoopSkips, LoopTakes, LoopEnds, PrefixHasList, LoopStops, LoopStopsWithin};
+ghost use Rattle.listing_laws.specs.ConeLaws.{FirstBasisIsBase, NothingIsBase, ConeIsListable, ExtremeIsShownCorner};
+ghost use Rattle.listing_laws.specs.ConeLaws.{OnlyZeroHasItsOpposite, WholeListing};
+ghost use Rattle.listing_laws.specs.ConeLaws.{FeasibleByCorners, FeasibleByListing, FeasibleFileByListing};
+ghost use Rattle.listing_laws.specs.PrefixLaws.{EachHasOneList, ListIsFull, FollowingIsSkipped, NewIsTakenOrNot, NotBoth};
+ghost use Rattle.listing_laws.specs.PrefixLaws.{TakenGrows, TakenStays, NextRowHasNextLabel, LabelsAscend};
+ghost use Rattle.listing_laws.specs.PrefixLaws.{LoopBegins, LoopSkips, LoopTakes, LoopEnds};
+ghost use Rattle.listing_laws.specs.PrefixLaws.{PrefixHasList, LoopStops, LoopStopsWithin};
 ghost use Rattle.listing_laws.specs.ShowLaws.{UnderIsTested, NothingIfItFails, OneIfItPasses, NothingIfNeither};
 
 /// Each system has a cone that is listed: over the first basis of its fixed rows, or over nothing where no row is
@@ -33,6 +37,8 @@ pub fn prefixes()
     ensures apart { NotBoth }
     ensures grows { TakenGrows }
     ensures stays { TakenStays }
+    ensures next { NextRowHasNextLabel }
+    ensures labels { LabelsAscend }
 {}
 
 /// What is listed under a prefix, row by row.

@@ -1,4 +1,4 @@
-use Rattle.listing_laws.proofs.PrefixLemmas.{one_list, full, skipped, taken_or_not, not_both_under, grows, stays}
+use Rattle.listing_laws.proofs.PrefixLemmas.{one_list, full, skipped, taken_or_not, not_both_under, grows, stays, next_label, labels_are_ascending}
 use Rattle.listing_laws.proofs.prefixes.Goals as goal
 
 pub returns : goal.returns
@@ -10,4 +10,6 @@ returns c = record {
   apart = λ cone marks y l. not_both_under cone marks l y;
   grows = grows;
   stays = stays;
+  next = next_label;
+  labels = labels_are_ascending;
 }
