@@ -5,8 +5,8 @@ use Rattle.std.specs.List.{Contains}
 use Rattle.poly_num.specs.Vectors.{Vector, ◌·◌}
 use Rattle.poly_num.proofs.VectorLemmas.{dot-zero}
 use Rattle.poly_model.specs.Independence.{Vanish}
-use Rattle.poly_model.specs.Systems.{Polyhedron, cone_of}
-use Rattle.poly_model.specs.Spaces.{label_form, cone_space}
+use Rattle.poly_model.specs.Systems.{Polyhedron}
+use Rattle.poly_model.specs.Spaces.{cone_space}
 use Rattle.poly_model.specs.Dictionaries.{IsCobasis}
 use Rattle.linear_laws.specs.Frames.{Column, IsFrame}
 use Rattle.linear_laws.specs.NewRows.{AreNew}
@@ -18,11 +18,12 @@ use Rattle.linear_laws.proofs.Members.{Contains-first, Contains-later, all_at}
 use Rattle.dictionary_laws.specs.Keys.{AreDistinct}
 use Rattle.dictionary_laws.proofs.Duals.{distinct}
 use Rattle.dictionary_laws.proofs.Members.{all_from}
+use Rattle.plain_enum.specs.Standing.{form_of}
 use Rattle.plain_enum.proofs.ConeVectors.{DualOver, dual_over, zero_over}
 
 module _ (p : Polyhedron) where
   abbrev forms : List ℕ → List Vector
-  forms ks = map (label_form (cone_of p).rows) ks
+  forms ks = map (form_of p) ks
 
   -- the forms of labels that have dual vectors are new one over another
   new_forms : (ks : List ℕ) → AreDistinct ks → ((k : ℕ) → Contains ks k → DualOver p ks k) → AreNew p.n (forms ks)
@@ -42,8 +43,8 @@ module _ (p : Polyhedron) where
 
       vanish : Vanish (forms ks) d.vector
       vanish =
-          all_to_map (λ g. g · d.vector ≡ pos 0) (label_form (cone_of p).rows) ks
-          (all_from (λ k. label_form (cone_of p).rows k · d.vector ≡ pos 0) ks
+          all_to_map (λ g. g · d.vector ≡ pos 0) (form_of p) ks
+          (all_from (λ k. form_of p k · d.vector ≡ pos 0) ks
           (λ k c. d.elsewhere k (Contains-later k x ks c) (λ e. h.0 (subst (Contains ks) e c))))
 
   -- a slot that is left would have a dual vector at which all labels are 0
@@ -55,12 +56,12 @@ module _ (p : Polyhedron) where
       by r = none r.slots refl
         where
           none : (slots : List Column) → r.slots ≡ slots → length key ≡ p.n
-          none [] s = omega (arith, r.count, ap length s, length-map key (label_form (cone_of p).rows))
+          none [] s = omega (arith, r.count, ap length s, length-map key (form_of p))
           none (c ∷ slots) s =
               let f : IsFrame p.n r.D (c ∷ slots ++ r.rest) = subst (λ t. IsFrame p.n r.D (t ++ r.rest)) s r.frame in
               let all = rows_vanish_at c (slots ++ r.rest) f.duals.1 in
               let here = vanish_from_rest r c.dual (all_right (λ b. b.row · c.dual ≡ pos 0) slots r.rest all) in
               let zero = zero_over p key cobasis c.dual f.inside.0.0
-              (all_at (λ k. label_form (cone_of p).rows k · c.dual ≡ pos 0) key
-              (all_from_map (λ g. g · c.dual ≡ pos 0) (label_form (cone_of p).rows) key here)) in
+              (all_at (λ k. form_of p k · c.dual ≡ pos 0) key
+              (all_from_map (λ g. g · c.dual ≡ pos 0) (form_of p) key here)) in
               absurd (f.nonzero (sym f.duals.0 ∙ dot-zero c.row c.dual zero))

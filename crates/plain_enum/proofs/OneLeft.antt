@@ -6,23 +6,24 @@ use Rattle.poly_num.specs.Vectors.{◌·◌}
 use Rattle.poly_num.proofs.Order.{positive_nonzero}
 use Rattle.poly_num.proofs.VectorLemmas.{dot-zero}
 use Rattle.poly_model.specs.Independence.{Vanish}
-use Rattle.poly_model.specs.Systems.{Polyhedron, cone_of}
-use Rattle.poly_model.specs.Spaces.{label_form, cone_space}
+use Rattle.poly_model.specs.Systems.{Polyhedron}
+use Rattle.poly_model.specs.Spaces.{cone_space}
 use Rattle.poly_model.specs.Dictionaries.{Table, IsDictionary}
 use Rattle.linear_laws.proofs.Members.{Contains-first}
 use Rattle.dictionary_laws.specs.Numbers.{IsOwnRow}
 use Rattle.dictionary_laws.proofs.Values.{is_label, own_row}
 use Rattle.dictionary.specs.Views.{Dictionary, table_of}
 use Rattle.hull_lift.specs.Facets.{constant_label, column_of}
-use Rattle.listing_laws.specs.ListedCone.{ListedCone}
+use Rattle.listing_laws.specs.ListedCone.{ListedCone, row_at}
 use Rattle.listing_laws.specs.Prefixes.{labels_of}
-use Rattle.listing_laws.specs.Directions.{row_at, DualVector, IsLeft, LeavesOne}
-use Rattle.plain_enum.specs.Standing.{parted, StandsAt, HasColumnValues, LeavesColumn}
+use Rattle.listing_laws.specs.Directions.{DualVector, IsLeft, LeavesOne}
+use Rattle.listing_laws.proofs.FirstLists.{labels_within}
+use Rattle.plain_enum.specs.Standing.{form_of, parted, StandsAt, HasColumnValues, LeavesColumn}
 use Rattle.plain_enum.specs.Laws.{TestByEntries}
 use Rattle.plain_enum.proofs.ConeVectors.{values_at_columns}
 use Rattle.plain_enum.proofs.Counting.{length_of_cobasis}
 use Rattle.plain_enum.proofs.Parts.{distinct_apart, in_first, in_second, in_third}
-use Rattle.plain_enum.proofs.RowsTaken.{as_many, labels_below, row_form, row_is_label}
+use Rattle.plain_enum.proofs.RowsTaken.{as_many, row_form, row_is_label}
 use Rattle.plain_enum.proofs.Standings.{stands_dictionary, taken_within, taken_form, left_is_not_fixed, left_is_not_taken}
 
 module _ (p : Polyhedron) (cone : ListedCone) (d : Dictionary) (fixed : List ℕ) (k : ℕ) (marks : List Bool)
@@ -41,11 +42,11 @@ module _ (p : Polyhedron) (cone : ListedCone) (d : Dictionary) (fixed : List ℕ
     own : (i : ℕ) → Contains labels i → IsOwnRow (cone_space p) labels (table_of d) i
     own i e = own_row (cone_space p) labels here.cobasis (table_of d) here.writes i e
 
-    zero_elsewhere : (i : ℕ) → Contains labels i → i ≢ j → label_form (cone_of p).rows i · column_of d j p.n ≡ pos 0
+    zero_elsewhere : (i : ℕ) → Contains labels i → i ≢ j → form_of p i · column_of d j p.n ≡ pos 0
     zero_elsewhere i e n =
         column.values i (is_label (cone_space p) labels here.cobasis i e) ∙ (own i e).elsewhere j c (λ f. n (sym f))
 
-    nonzero_here : label_form (cone_of p).rows j · column_of d j p.n ≢ pos 0
+    nonzero_here : form_of p j · column_of d j p.n ≢ pos 0
     nonzero_here z =
         positive_nonzero d.denominator here.writes.positive
         (sym (own j c).here ∙ sym (column.values j (is_label (cone_space p) labels here.cobasis j c)) ∙ z)
@@ -95,7 +96,7 @@ module _ (p : Polyhedron) (cone : ListedCone) (d : Dictionary) (fixed : List ℕ
 
   left : IsLeft cone (labels_of marks) (column_of d k p.n)
   left = record {
-    nonzero = λ z. nonzero_here k in_left b (dot-zero (label_form (cone_of p).rows k) (column_of d k p.n) z);
+    nonzero = λ z. nonzero_here k in_left b (dot-zero (form_of p k) (column_of d k p.n) z);
     width = wide k in_left b;
     base = base_zero k in_left b (λ e. left_is_not_fixed p cone d fixed (k ∷ []) marks s k e (Contains-first k []));
     taken = λ i e. rows_zero k in_left b i e
@@ -132,4 +133,4 @@ test_by_entries p cone d marks k s = (
 )
   where
     within : (i j : ℕ) → Contains (labels_of marks) j → i < j → i ≤ length cone.rows
-    within i j c l = omega (arith, labels_below 1 marks j c, s.leaves.within)
+    within i j c l = omega (arith, (labels_within 1 marks j c).1, s.leaves.within)

@@ -1,5 +1,5 @@
 -- The rows taken by their labels, and what has the value 0 at a vector there.
-use Rattle.std.proofs.Common.{◌≡◌, ◌↔◌, ⊎_elim, Bool, true, false, ℕ, suc, ◌+◌, ◌-◌, ◌<◌, ◌≤◌, pos, List, [], ◌∷◌, length, sym, ap, ◌∙◌, subst, arith, get_or, map}
+use Rattle.std.proofs.Common.{◌≡◌, ◌↔◌, Bool, true, false, ℕ, suc, ◌+◌, ◌-◌, ◌<◌, ◌≤◌, pos, List, [], ◌∷◌, length, sym, ap, ◌∙◌, subst, arith, get_or, map}
 use Rattle.std.proofs.lemmas.List.{get_or-map, length-map}
 use Rattle.std.proofs.lemmas.List.Elements.{Contains-append_left}
 use Rattle.std.proofs.lemmas.Bool.{lt-ltb, cond-true}
@@ -8,24 +8,16 @@ use Rattle.poly_num.specs.Vectors.{Vector, ◌·◌}
 use Rattle.poly_model.specs.Independence.{Vanish, taken}
 use Rattle.poly_model.specs.Systems.{Row, row_of, no_row, Polyhedron, cone_of}
 use Rattle.poly_model.specs.Cones.{coordinate}
-use Rattle.poly_model.specs.Spaces.{is_row, coordinate_label, label_form, cone_space}
-use Rattle.linear_laws.proofs.Members.{Contains-nil, Contains-first, Contains-later, Contains-cons_cases}
+use Rattle.poly_model.specs.Spaces.{is_row, coordinate_label, cone_space}
+use Rattle.linear_laws.proofs.Members.{Contains-nil, Contains-first, Contains-later}
 use Rattle.dictionary_laws.proofs.Filters.{range_has}
 use Rattle.dictionary_laws.proofs.Members.{by_cases}
-use Rattle.listing_laws.specs.ListedCone.{ListedCone}
+use Rattle.listing_laws.specs.ListedCone.{ListedCone, row_at}
 use Rattle.listing_laws.specs.Prefixes.{taken_at, next_row, labels_from, labels_of}
-use Rattle.listing_laws.specs.Directions.{row_at}
 use Rattle.listing_laws.proofs.FirstLists.{taken-nil}
-use Rattle.listing_laws.proofs.LocalTest.{AreRowsFrom, rows_by_label}
-use Rattle.plain_enum.specs.Standing.{HasRowsOf}
-
--- ---- labels of rows taken
-pub labels_below : (j : ℕ) (ms : List Bool) (k : ℕ) → Contains (labels_from j ms) k → k < j + length ms
-labels_below j [] k c = absurd (Contains-nil k c)
-labels_below j (true ∷ ms) k c =
-    ⊎_elim (λ e. omega (arith, e)) (λ d. let l = labels_below (suc j) ms k d in omega arith)
-    (Contains-cons_cases k j (labels_from (suc j) ms) c)
-labels_below j (false ∷ ms) k c = let l = labels_below (suc j) ms k c in omega arith
+use Rattle.listing_laws.proofs.StandingLemmas.{AreRowsFrom, rows_by_label}
+use Rattle.listing_laws.proofs.PrefixLemmas.{next_label}
+use Rattle.plain_enum.specs.Standing.{form_of, HasRowsOf}
 
 -- ---- a vector at which the rows taken are 0
 abbrev ZeroFrom : ListedCone → ℕ → List Bool → Vector → Type 0
@@ -62,7 +54,7 @@ module _ (p : Polyhedron) (cone : ListedCone) (over : HasRowsOf p cone) where
   pub as_many : length cone.rows ≡ length (cone_of p).rows
   as_many = ap length over.rows ∙ length-map (cone_of p).rows (λ row. row.entries)
 
-  pub row_form : (i : ℕ) → 0 < i → i ≤ length cone.rows → row_at cone i ≡ label_form (cone_of p).rows i
+  pub row_form : (i : ℕ) → 0 < i → i ≤ length cone.rows → row_at cone i ≡ form_of p i
   row_form i a b =
       let within : i - 1 < length (cone_of p).rows = omega (arith, as_many) in
       let below : i < 8192 = omega (arith, as_many, over.few) in
@@ -71,10 +63,8 @@ module _ (p : Polyhedron) (cone : ListedCone) (over : HasRowsOf p cone) where
       ∙ sym (cond-true (is_row i) (row_of (cone_of p).rows i).entries (coordinate (i - 8192)) (lt-ltb i 8192 below))
 
   pub next_form : (marks : List Bool) → length marks < length cone.rows →
-      next_row cone marks ≡ label_form (cone_of p).rows (length marks + 1)
-  next_form marks l =
-      let e : length marks ≡ length marks + 1 - 1 = omega arith in
-      ap (λ i. get_or cone.rows i []) e ∙ row_form (length marks + 1) (omega arith) (omega arith)
+      next_row cone marks ≡ form_of p (length marks + 1)
+  next_form marks l = sym (next_label cone marks) ∙ row_form (length marks + 1) (omega arith) (omega arith)
 
   pub row_is_label : (i : ℕ) → 0 < i → i ≤ length cone.rows → Contains (cone_space p).labels i
   row_is_label i a b =

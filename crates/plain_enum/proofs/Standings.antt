@@ -5,20 +5,19 @@ use Rattle.std.proofs.lemmas.List.Elements.{Contains-append_right}
 use Rattle.poly_num.specs.Vectors.{Vector, ◌·◌}
 use Rattle.poly_num.proofs.Order.{mul_nonzero}
 use Rattle.poly_model.specs.Independence.{Vanish, Follows, IsNew}
-use Rattle.poly_model.specs.Systems.{Polyhedron, cone_of}
-use Rattle.poly_model.specs.Spaces.{label_form, cone_space}
+use Rattle.poly_model.specs.Systems.{Polyhedron}
+use Rattle.poly_model.specs.Spaces.{cone_space}
 use Rattle.poly_model.specs.Dictionaries.{Table, IsDictionary}
 use Rattle.dictionary_laws.proofs.Directions.{times_zero, zero_times}
 use Rattle.dictionary_laws.proofs.SameLabels.{same_dictionary}
 use Rattle.dictionary.specs.Views.{Dictionary, table_of}
-use Rattle.listing_laws.specs.ListedCone.{ListedCone}
+use Rattle.listing_laws.specs.ListedCone.{ListedCone, row_at}
 use Rattle.listing_laws.specs.Prefixes.{taken_at, next_row, labels_of}
-use Rattle.listing_laws.specs.Directions.{row_at}
-use Rattle.listing_laws.proofs.LocalTest.{labels_at_least}
-use Rattle.plain_enum.specs.Standing.{AreZeroAt, parted, StandsAt}
+use Rattle.listing_laws.proofs.FirstLists.{labels_within}
+use Rattle.plain_enum.specs.Standing.{form_of, AreZeroAt, parted, StandsAt}
 use Rattle.plain_enum.proofs.ConeVectors.{DualOver, dual_over, value_at_dual, zero_by_terms}
 use Rattle.plain_enum.proofs.Parts.{AreApart, distinct_right, distinct_apart, in_parts, in_first, in_second, in_third}
-use Rattle.plain_enum.proofs.RowsTaken.{labels_below, vanish_at_taken, row_form, next_form, row_is_label}
+use Rattle.plain_enum.proofs.RowsTaken.{vanish_at_taken, row_form, next_form, row_is_label}
 
 value_nonzero : (e v a x : ℤ) → a ≢ pos 0 → x ≢ pos 0 → e *ℤ v ≡ a *ℤ x → v ≢ pos 0
 value_nonzero e v a x n m h z = mul_nonzero a x n m (sym h ∙ times_zero e v z)
@@ -34,12 +33,12 @@ module _ (p : Polyhedron) (cone : ListedCone) (d : Dictionary) (fixed left : Lis
 
   -- ---- the labels of the rows taken
   pub taken_from_one : (j : ℕ) → Contains (labels_of marks) j → 0 < j
-  taken_from_one j c = let l = labels_at_least 1 marks j c in omega arith
+  taken_from_one j c = let l = (labels_within 1 marks j c).0 in omega arith
 
   pub taken_within : (j : ℕ) → Contains (labels_of marks) j → j ≤ length cone.rows
-  taken_within j c = let l = labels_below 1 marks j c in omega (arith, s.within)
+  taken_within j c = let l = (labels_within 1 marks j c).1 in omega (arith, s.within)
 
-  pub taken_form : (j : ℕ) → Contains (labels_of marks) j → row_at cone j ≡ label_form (cone_of p).rows j
+  pub taken_form : (j : ℕ) → Contains (labels_of marks) j → row_at cone j ≡ form_of p j
   taken_form j c = row_form p cone s.over j (taken_from_one j c) (taken_within j c)
 
   -- ---- what is left stands in no other part
@@ -79,8 +78,8 @@ module _ (p : Polyhedron) (cone : ListedCone) (d : Dictionary) (fixed left : Lis
           (λ e. left_is_not_fixed k (subst (Contains fixed) e i) c))
           (λ j i. dual.elsewhere j (in_second fixed (labels_of marks) left j i)
           (λ e. left_is_not_taken k (subst (Contains (labels_of marks)) e i) c)),
-      λ z. value_nonzero d.denominator (label_form (cone_of p).rows (length marks + 1) · dual.vector)
-          (Table.entry (table_of d) (length marks + 1) k) (label_form (cone_of p).rows k · dual.vector) n dual.here
+      λ z. value_nonzero d.denominator (form_of p (length marks + 1) · dual.vector)
+          (Table.entry (table_of d) (length marks + 1) k) (form_of p k · dual.vector) n dual.here
           (value_at_dual p labels stands_dictionary.cobasis (table_of d) stands_dictionary.writes (length marks + 1)
           next_is_label k here dual)
           (ap (λ g. g · dual.vector) (sym (next_form p cone s.over marks l)) ∙ z),
@@ -96,11 +95,11 @@ module _ (p : Polyhedron) (cone : ListedCone) (d : Dictionary) (fixed left : Lis
         Follows cone.n (taken_at cone marks) (next_row cone marks)
     follows_by_entries h y e v =
         let wide : length y ≡ p.n = e ∙ s.over.width in
-        let term : (k : ℕ) → ℤ = λ k. Table.entry (table_of d) (length marks + 1) k *ℤ (label_form (cone_of p).rows k · y) in
+        let term : (k : ℕ) → ℤ = λ k. Table.entry (table_of d) (length marks + 1) k *ℤ (form_of p k · y) in
         ap (λ g. g · y) (next_form p cone s.over marks l)
         ∙ zero_by_terms p labels stands_dictionary.cobasis (table_of d) stands_dictionary.writes (length marks + 1) next_is_label
         y wide
         (in_parts (λ k. term k ≡ pos 0) fixed (labels_of marks) left
-        (λ k c. times_zero (Table.entry (table_of d) (length marks + 1) k) (label_form (cone_of p).rows k · y) (fixed_zero y wide v k c))
-        (λ k c. times_zero (Table.entry (table_of d) (length marks + 1) k) (label_form (cone_of p).rows k · y) (rows_taken_zero y v k c))
-        (λ k c. zero_times (Table.entry (table_of d) (length marks + 1) k) (label_form (cone_of p).rows k · y) (h k c)))
+        (λ k c. times_zero (Table.entry (table_of d) (length marks + 1) k) (form_of p k · y) (fixed_zero y wide v k c))
+        (λ k c. times_zero (Table.entry (table_of d) (length marks + 1) k) (form_of p k · y) (rows_taken_zero y v k c))
+        (λ k c. zero_times (Table.entry (table_of d) (length marks + 1) k) (form_of p k · y) (h k c)))

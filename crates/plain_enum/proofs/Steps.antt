@@ -6,8 +6,8 @@ use Rattle.std.proofs.lemmas.List.Elements.{Contains-append_left, Contains-appen
 use Rattle.poly_num.specs.Vectors.{◌·◌}
 use Rattle.poly_num.proofs.VectorLemmas.{dot-zero}
 use Rattle.poly_model.specs.Independence.{Vanish}
-use Rattle.poly_model.specs.Systems.{Polyhedron, cone_of}
-use Rattle.poly_model.specs.Spaces.{label_form, cone_space}
+use Rattle.poly_model.specs.Systems.{Polyhedron}
+use Rattle.poly_model.specs.Spaces.{cone_space}
 use Rattle.linear_laws.proofs.Members.{Contains-nil, Contains-first}
 use Rattle.dictionary_laws.specs.Keys.{AreDistinct, HaveSameLabels, Exchanges}
 use Rattle.dictionary_laws.proofs.CoordinateSpaces.{coordinate_keys}
@@ -16,12 +16,11 @@ use Rattle.dictionary_laws.proofs.PhasePoints.{phase_points}
 use Rattle.dictionary.specs.Views.{Dictionary, IsDictionaryIn, IsPivot}
 use Rattle.listing_laws.specs.ListedCone.{ListedCone}
 use Rattle.listing_laws.specs.Prefixes.{labels_of}
-use Rattle.listing_laws.proofs.FirstLists.{labels-true, labels-false}
-use Rattle.plain_enum.specs.Standing.{parted, StandsAt}
+use Rattle.listing_laws.proofs.FirstLists.{labels-with, labels-without, labels_within}
+use Rattle.plain_enum.specs.Standing.{form_of, parted, StandsAt}
 use Rattle.plain_enum.specs.Laws.{BeginsAtCoordinates, DictionaryStays}
 use Rattle.plain_enum.proofs.ConeVectors.{DualOver, dual_over, zero_over}
 use Rattle.plain_enum.proofs.Parts.{AreApart, distinct-append, distinct_left, distinct_right, distinct_apart, in_parts, in_first, in_second, in_third}
-use Rattle.plain_enum.proofs.RowsTaken.{labels_below}
 use Rattle.plain_enum.proofs.Standings.{left_is_not_fixed, left_is_not_taken}
 
 pub begins_at_coordinates : BeginsAtCoordinates
@@ -44,7 +43,7 @@ one_more marks m = length-append marks (m ∷ [])
 
 pub dictionary_stays : DictionaryStays
 dictionary_stays p cone d fixed left marks s l =
-    let same = sym (labels-false 1 marks) in
+    let same = sym (labels-without 1 marks) in
     record {
       over = s.over;
       dictionary = s.dictionary;
@@ -78,10 +77,10 @@ module _ (p : Polyhedron) (cone : ListedCone) (d new : Dictionary) (fixed left :
 
       by : r ≢ k → DualOver p d.key k → ⊥
       by n e =
-          e.here (dot-zero (label_form (cone_of p).rows k) e.vector
+          e.here (dot-zero (form_of p k) e.vector
           (zero_over p new.key is.dictionary.cobasis e.vector e.width
           (λ j i. ⊎_elim
-          (λ (f : j ≡ r). subst (λ (i : ℕ). label_form (cone_of p).rows i · e.vector ≡ pos 0) (sym f) (e.elsewhere r c n))
+          (λ (f : j ≡ r). subst (λ (i : ℕ). form_of p i · e.vector ≡ pos 0) (sym f) (e.elsewhere r c n))
           (λ (f : Contains d.key j × (j ≢ k)). e.elsewhere j f.0 f.1)
           (exchanges.only j i))))
 
@@ -142,7 +141,7 @@ module _ (p : Polyhedron) (cone : ListedCone) (d new : Dictionary) (fixed left :
   taken_distinct : AreDistinct taken_now
   taken_distinct =
       distinct-append (labels_of marks) (r ∷ []) (distinct_left (labels_of marks) left old_parts) (Contains-nil r, tt)
-      (λ j c e. ⊎_elim (λ (q : j ≡ r). absurd (omega (arith, labels_below 1 marks j c, q)))
+      (λ j c e. ⊎_elim (λ (q : j ≡ r). absurd (omega (arith, (labels_within 1 marks j c).1, q)))
       (λ (h : Contains [] j). absurd (Contains-nil j h)) (contains_cases r [] j e))
 
   taken_apart : AreApart taken_now (without k left)
@@ -172,7 +171,7 @@ module _ (p : Polyhedron) (cone : ListedCone) (d new : Dictionary) (fixed left :
 
   pub pivot_takes : length marks < length cone.rows → StandsAt p cone new fixed (without k left) (marks ++ true ∷ [])
   pivot_takes l =
-      let grown = sym (labels-true 1 marks) in
+      let grown = sym (labels-with 1 marks) in
       record {
         over = s.over;
         dictionary = is;

@@ -10,13 +10,17 @@ use Rattle.poly_model.specs.Dictionaries.{Table}
 use Rattle.dictionary_laws.specs.Keys.{AreDistinct, HaveSameLabels}
 use Rattle.dictionary.specs.Views.{Dictionary, IsDictionaryIn, table_of}
 use Rattle.hull_lift.specs.Facets.{column_of}
-use Rattle.listing_laws.specs.ListedCone.{ListedCone}
+use Rattle.listing_laws.specs.ListedCone.{ListedCone, row_at}
 use Rattle.listing_laws.specs.Prefixes.{labels_of}
-use Rattle.listing_laws.specs.Directions.{row_at, LeavesOne}
+use Rattle.listing_laws.specs.Directions.{LeavesOne}
+
+-- the form of a label over the coordinates of the cone
+abbrev pub form_of : Polyhedron → ℕ → Vector
+form_of p k = label_form (cone_of p).rows k
 
 -- each of these labels has the value 0 at z
 abbrev pub AreZeroAt : Polyhedron → List ℕ → Vector → Type 0
-AreZeroAt p labels z = (k : ℕ) → Contains labels k → label_form (cone_of p).rows k · z ≡ pos 0
+AreZeroAt p labels z = (k : ℕ) → Contains labels k → form_of p k · z ≡ pos 0
 
 -- the cone has the rows of the polyhedron's cone, with labels that are no coordinate's
 pub record HasRowsOf (p : Polyhedron) (cone : ListedCone) : Type 0 where
@@ -44,7 +48,7 @@ pub record StandsAt (p : Polyhedron) (cone : ListedCone) (d : Dictionary) (fixed
 pub record HasColumnValues (p : Polyhedron) (d : Dictionary) (col : ℕ) : Type 0 where
   pub width : length (column_of d col p.n) ≡ p.n
   pub values : (i : ℕ) → Contains (cone_space p).labels i →
-      label_form (cone_of p).rows i · column_of d col p.n ≡ Table.entry (table_of d) i col
+      form_of p i · column_of d col p.n ≡ Table.entry (table_of d) i col
 
 -- the column of k is the one direction that is left, the columns of the rows taken are dual to these, and the rows
 -- have their entries as values at both
