@@ -37,6 +37,7 @@ pub record DualOver (p : Polyhedron) (key : List ℕ) (k : ℕ) : Type 0 where
   pub elsewhere : (j : ℕ) → Contains key j → j ≢ k → form_of p j · vector ≡ pos 0
 
 module _ (p : Polyhedron) where
+  -- such a vector of the cone's space, without its first entry
   over : (key : List ℕ) (k : ℕ) (v : Vector) → length v ≡ suc p.n → in_front (form_of p k) · v ≢ pos 0 →
       ((j : ℕ) → Contains key j → j ≢ k → in_front (form_of p j) · v ≡ pos 0) → DualOver p key k
   over key k [] l h e = absurd (omega arith)
@@ -48,6 +49,7 @@ module _ (p : Polyhedron) where
   }
 
   module _ (key : List ℕ) (cobasis : IsCobasis (cone_space p) key) where
+    -- each label of a cobasis has one
     pub dual_over : (k : ℕ) → Contains key k → DualOver p key k
     dual_over k c =
         let d = dual_of (cone_space p) key cobasis k c in
