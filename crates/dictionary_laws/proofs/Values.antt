@@ -18,7 +18,7 @@ abbrev pub terms : Space → Table → ℕ → Vector → ℕ → ℤ
 terms space t i y k = t.entry i k *ℤ (space.form k · y)
 
 -- a value at infinity of 0 leaves the sum
-level_value : (c x s v : ℤ) → x ≡ pos 0 → v ≡ c *ℤ x +ℤ s → v ≡ s
+pub level_value : (c x s v : ℤ) → x ≡ pos 0 → v ≡ c *ℤ x +ℤ s → v ≡ s
 level_value c x s v e f = let a = ap (λ (t : ℤ). c *ℤ t) e ∙ mul_zero c in omega (arith, lin)
 
 same_factor : (d e v : ℤ) → v ≢ pos 0 → d *ℤ v ≡ e *ℤ v → e ≡ d

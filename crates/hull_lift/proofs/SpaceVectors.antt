@@ -79,6 +79,10 @@ with_labels space labels = record space { labels = labels }
 abbrev pub HasFrom : ℕ → ℕ → List ℕ → Type 0
 HasFrom first n labels = (j : ℕ) → first ≤ j → j < n → Contains labels (coordinate_label j)
 
+-- a form with 0 in front has the value of the form behind it
+pub with_front : (g : Vector) (x : ℤ) (v : Vector) → in_front g · (x ∷ v) ≡ g · v
+with_front g x v = omega (arith, lin, zero_mul x)
+
 module _ (p : Polyhedron) (fixed : List Vector) (labels : List ℕ) where
   abbrev vectors : Space
   vectors = with_labels (with_constants p.n fixed (file_rows p)) labels
@@ -105,9 +109,6 @@ module _ (p : Polyhedron) (fixed : List Vector) (labels : List ℕ) where
     values = λ k c. ap (λ (g : Vector). g · y) (same_form p 1 p.n k (old k c));
     coordinates = λ j l. ap (λ (g : Vector). g · y) (vectors_form has j l) ∙ coordinate_reads j y;
   }
-
-  with_front : (g : Vector) (x : ℤ) (v : Vector) → in_front g · (x ∷ v) ≡ g · v
-  with_front g x v = omega (arith, lin, zero_mul x)
 
   directions_form : HasFrom 0 p.n labels → (j : ℕ) → j < p.n → form_of_coordinate directions j ≡ in_front (coordinate j)
   directions_form has j l =

@@ -1,0 +1,34 @@
+//! What a dictionary of the cone's space tells at a prefix of rows: each law is the contract of a function with an
+//! empty body.
+//!
+//! What is stated stands in `specs/`.
+#![tactic(auto)]
+
+ghost use Rattle.plain_enum.specs.Laws.{ValuesAtColumns, NewByEntry, FollowsByEntries, OneIsLeft, TestByEntries, BeginsAtCoordinates, PivotTakes, DictionaryStays};
+
+/// The column of a label of the key is a vector at which each label has its entry there as value.
+pub fn values_at_columns()
+    ensures { ValuesAtColumns }
+{}
+
+/// The next row is new over base and rows taken where its entry at a label that is left is not 0, and follows from them
+/// where all are 0.
+pub fn next_row_by_entries()
+    ensures new { NewByEntry }
+    ensures follows { FollowsByEntries }
+{}
+
+/// Where one label is left, its column is the direction that is left, the columns of the rows taken are dual to them,
+/// and the local test goes by entries.
+pub fn where_one_is_left()
+    ensures left { OneIsLeft }
+    ensures tested { TestByEntries }
+{}
+
+/// From prefix to prefix: the dictionary of the coordinates stands at the empty one, a pivot takes the next row, and
+/// where it is not taken the dictionary stays.
+pub fn from_prefix_to_prefix()
+    ensures begins { BeginsAtCoordinates }
+    ensures takes { PivotTakes }
+    ensures stays { DictionaryStays }
+{}
