@@ -77,7 +77,8 @@ list_of_right = (
 )
   where
     inside : AtLeastZero right
-    inside = (omega (arith, ints), (omega (arith, ints), (omega (arith, ints), (omega (arith, ints), (omega (arith, ints), tt)))))
+    inside =
+        (omega (arith, ints), (omega (arith, ints), (omega (arith, ints), (omega (arith, ints), (omega (arith, ints), tt)))))
 
 -- ---- the rows 1 and 4
 list_of_top : IsUnder square_cone (true ∷ false ∷ false ∷ true ∷ false ∷ []) top
@@ -99,7 +100,8 @@ list_of_top = (
 )
   where
     inside : AtLeastZero top
-    inside = (omega (arith, ints), (omega (arith, ints), (omega (arith, ints), (omega (arith, ints), (omega (arith, ints), tt)))))
+    inside =
+        (omega (arith, ints), (omega (arith, ints), (omega (arith, ints), (omega (arith, ints), (omega (arith, ints), tt)))))
 
 -- ---- the rows 3 and 4
 list_of_far : IsUnder square_cone (false ∷ false ∷ true ∷ true ∷ false ∷ []) far
@@ -121,4 +123,5 @@ list_of_far = (
 )
   where
     inside : AtLeastZero far
-    inside = (omega (arith, ints), (omega (arith, ints), (omega (arith, ints), (omega (arith, ints), (omega (arith, ints), tt)))))
+    inside =
+        (omega (arith, ints), (omega (arith, ints), (omega (arith, ints), (omega (arith, ints), (omega (arith, ints), tt)))))
