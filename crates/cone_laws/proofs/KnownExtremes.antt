@@ -20,7 +20,7 @@ pub gone : (x y : ℤ) → x ≡ pos 0 → pos 1 *ℤ x ≡ y *ℤ pos 0
 gone x y e = omega (arith, ints)
 
 -- what holds of each (a, b, c) holds of each vector of width 3
-by_three : (P : Vector → Type 0) → ((a b c : ℤ) → P (a ∷ b ∷ c ∷ [])) → (z : Vector) → length z ≡ 3 → P z
+pub by_three : (P : Vector → Type 0) → ((a b c : ℤ) → P (a ∷ b ∷ c ∷ [])) → (z : Vector) → length z ≡ 3 → P z
 by_three P h [] w = absurd (omega arith)
 by_three P h (a ∷ []) w = absurd (omega arith)
 by_three P h (a ∷ b ∷ []) w = absurd (omega arith)

@@ -71,7 +71,8 @@ length-taken before (g ∷ gs) (true ∷ ms) k l = omega (arith, length-taken (g
 length-taken before (g ∷ gs) (false ∷ ms) k l = length-taken before gs ms (suc k) (omega arith)
 
 -- the row behind the marks: taken, or not
-pub first_with : (n : ℕ) (before : List Vector) (y : Vector) (gs : List Vector) (ms : List Bool) → length ms < length gs →
+pub first_with : (n : ℕ) (before : List Vector) (y : Vector) (gs : List Vector) (ms : List Bool) →
+    length ms < length gs →
     AreFirstTight n before y gs (ms ++ true ∷ [])
     ↔ (AreFirstTight n before y gs ms × (slice_index_or gs (length ms) [] · y ≡ pos 0)
     × IsNew n (taken before gs ms) (slice_index_or gs (length ms) []))
@@ -84,7 +85,8 @@ first_with n before y (g ∷ gs) (false ∷ ms) l =
     let go = first_with n before y gs ms (omega arith) in
     (λ h. let k = go.0 h.1 in ((h.0, k.0), k.1, k.2), λ h. (h.0.0, go.1 (h.0.1, h.1, h.2)))
 
-pub first_without : (n : ℕ) (before : List Vector) (y : Vector) (gs : List Vector) (ms : List Bool) → length ms < length gs →
+pub first_without : (n : ℕ) (before : List Vector) (y : Vector) (gs : List Vector) (ms : List Bool) →
+    length ms < length gs →
     AreFirstTight n before y gs (ms ++ false ∷ [])
     ↔ (AreFirstTight n before y gs ms
     × (slice_index_or gs (length ms) [] · y ≡ pos 0 → Follows n (taken before gs ms) (slice_index_or gs (length ms) [])))

@@ -98,7 +98,10 @@ strip_has_cone = first_basis_is_base strip (2 ∷ []) (true ∷ []) columns ((up
     columns : AreFreeColumns strip (2 ∷ [])
     columns = record {
       ascending = (tt, tt);
-      exactly = λ j. (λ f. subst (Contains (2 ∷ [])) (sym (only_height_is_free j f)) (Contains-first 2 []), free_at j);
+      exactly = λ j. (
+        λ f. subst (Contains (2 ∷ [])) (sym (only_height_is_free j f)) (Contains-first 2 []),
+        free_at j,
+      );
     }
 
 -- without a base it is not that of the strip: the line is 0 on nothing, and is not 0 at the free column

@@ -10,5 +10,6 @@ pub mod AlongLemmas
 pub mod ShownLemmas
 pub mod WholeLists
 pub mod KnownValues
+pub mod KnownCorners
 pub mod KnownListings
 pub mod ListingLemmas

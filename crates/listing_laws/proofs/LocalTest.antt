@@ -16,18 +16,19 @@ use Rattle.listing_laws.proofs.StandingLemmas.{Stands, VanishFrom, label, is_new
 use Rattle.listing_laws.proofs.ClearedVectors.{Cleared, clear_all}
 
 module _ {cone : ListedCone} {labels : List ℕ} (duals : DualVectors cone labels) where
-  -- ---- the test
   module _ (z : Vector) (left : IsLeft cone labels z) where
-    -- what is 0 at z is 0 where the rows before and those from j on are
+    -- what is 0 at z is 0 wherever the rows before and those of the labels from j on are
     abbrev pub LeavesOnly : ℕ → List Vector → Type 0
     LeavesOnly j before =
         (g w : Vector) → g · z ≡ pos 0 → length w ≡ cone.n → Vanish before w → VanishFrom duals j w → g · w ≡ pos 0
 
+    -- the test of the rows from the label j on
     abbrev pub PassesFrom : ℕ → Type 0
     PassesFrom j =
         (i : ℕ) → j ≤ i → row_at cone i · z ≡ pos 0 →
         (k : ℕ) (c : Contains labels k) → i < k → row_at cone i · (duals k c).vector ≡ pos 0
 
+    -- what is 0 at z and at the dual vectors of the labels from j on follows from the rows before
     follows : (j : ℕ) (before gs : List Vector) (ms : List Bool) → Stands duals j before gs ms → LeavesOnly j before →
         (g : Vector) → g · z ≡ pos 0 →
         ((k : ℕ) (c : Contains labels k) → j ≤ k → g · (duals k c).vector ≡ pos 0) → Follows cone.n before g
@@ -41,6 +42,7 @@ module _ {cone : ListedCone} {labels : List ℕ} (duals : DualVectors cone label
             let x = only g r.vector e r.width r.zero_before (λ k c m. r.cleared k (s.back k c m)) in
             zero_factor r.factor (g · w) (sym r.value ∙ x) r.nonzero
 
+    -- ---- it holds exactly where the marks are those of the first independent list
     pub test_is_first : (y : Vector) → HaveSameZeros y z → (j : ℕ) (before gs : List Vector) (ms : List Bool) →
         Stands duals j before gs ms → LeavesOnly j before → PassesFrom j ↔ AreFirstTight cone.n before y gs ms
     test_is_first y same j before gs [] s only =
