@@ -2,7 +2,7 @@
 ghost use Rattle.std.specs.Prelude.{◌≡◌, IfOk, length};
 
 use crate::Dict;
-use poly_model::{Kind, Label, Overflow, Phase, Place, RowKind, System};
+use poly_model::{Key, Kind, Label, Overflow, Phase, Place, RowKind, System};
 use poly_num::Num;
 use std::alloc::{AllocError, Global};
 use std::test::Fail;
@@ -129,51 +129,59 @@ const CASES: [Case; 3] = [
     },
 ];
 
+/// What a pivot makes of the dictionary of the coordinates, and what the pivot back makes of that.
+#[derive(Clone, Copy, PartialEq, Eq, Debug)]
+struct Outcome {
+    pivoted: Option<Result<(), Overflow>>,
+    key: Key,
+    denominator: i128,
+    first_row: [Option<i128>; 3],
+    second_row: [Option<i128>; 3],
+    x1: [Option<i128>; 3],
+    x2: [Option<i128>; 3],
+    back: Option<Result<(), Overflow>>,
+    first_again: [Option<i128>; 3],
+}
+
+fn outcome_of(alloc: Global, case: &Case) -> Result<Outcome, AllocError> {
+    let sys = system(alloc, case.first, case.second)?;
+    let mut dict = Dict::new(alloc, &sys, Phase::Prepare)?;
+    let pivoted = pivot(&mut dict, case.row, case.col);
+    let (key, denominator) = (dict.key(), dict.denominator().get());
+    let first_row = numbers(&dict, Label(1), case.key);
+    let second_row = numbers(&dict, Label(2), case.key);
+    let x1 = numbers(&dict, X1, case.key);
+    let x2 = numbers(&dict, X2, case.key);
+    let back = pivot(&mut dict, case.col, case.row);
+    Ok(Outcome {
+        pivoted,
+        key,
+        denominator,
+        first_row,
+        second_row,
+        x1,
+        x2,
+        back,
+        first_again: numbers(&dict, Label(1), [8193, 8194]),
+    })
+}
+
 #[test]
 fn pivots_worked_out_by_hand(rt: HostRuntime) -> Result<(), Fail> {
-    let alloc = rt.alloc();
     for case in CASES {
-        let sys = system(alloc, case.first, case.second)?;
-        let mut dict = Dict::new(alloc, &sys, Phase::Prepare)?;
-        let mut copy = dict.copy()?;
-        assert_eq!(rt; dict.key().labels(), [8193, 8194].as_slice());
-        assert_eq!(rt;
-            pivot(&mut dict, case.row, case.col),
-            Some(Ok(())),
-            "{}",
-            case.name
-        );
-        assert_eq!(rt; dict.key().labels(), case.key.as_slice(), "{}", case.name);
-        assert_eq!(rt; dict.denominator().get(), case.denominator, "{}", case.name);
-        let labels = [Label(1), Label(2), X1, X2];
-        for (label, want) in labels.into_iter().zip(case.numbers) {
-            assert_eq!(rt;
-                numbers(&dict, label, case.key),
-                known(want),
-                "{}",
-                case.name
-            );
-        }
-        assert_eq!(rt;
-            pivot(&mut copy, case.row, case.col),
-            Some(Ok(())),
-            "{}",
-            case.name
-        );
-        assert_eq!(rt;
-            pivot(&mut dict, case.col, case.row),
-            Some(Ok(())),
-            "{}",
-            case.name
-        );
-        assert_eq!(rt; dict.denominator(), Num::ONE, "{}", case.name);
-        assert_eq!(rt;
-            numbers(&dict, Label(1), [8193, 8194]),
-            known(case.first),
-            "{}",
-            case.name
-        );
-        assert_eq!(rt; copy.key().labels(), case.key.as_slice(), "{}", case.name);
+        let [a, b, c, d] = case.numbers;
+        let want = Outcome {
+            pivoted: Some(Ok(())),
+            key: Key::from_ascending(&case.key).unwrap_or(Key::empty()),
+            denominator: case.denominator,
+            first_row: known(a),
+            second_row: known(b),
+            x1: known(c),
+            x2: known(d),
+            back: Some(Ok(())),
+            first_again: known(case.first),
+        };
+        assert_eq!(rt; outcome_of(rt.alloc(), &case)?, want, "{}", case.name);
     }
     Ok(())
 }
