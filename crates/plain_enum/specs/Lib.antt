@@ -1,2 +1,4 @@
 pub mod Standing
 pub mod Laws
+pub mod Columns
+pub mod Listed
