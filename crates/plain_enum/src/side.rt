@@ -86,11 +86,24 @@ fn is_zero_at_later(at: &Dict, row: Label, labels: &[u16]) -> bool
     ensures { IsTrue result ↔ ((k : ℕ) → Contains at.now.key k → k < 8192 → row.0 < k → Table.entry (table_of at.now) row.0 k ≡ pos 0) }
 {
     'labels: for label in labels {
-        if row.0 < *label && *label < 8192 && at.entry(row, Label(*label)).get() != 0 {
+        if !is_zero_if_later(at, row, Label(*label)) {
             return false;
         }
     }
     true
+}
+
+// Whether a row is 0 at a label of the cobasis, if that is a later row.
+fn is_zero_if_later(at: &Dict, row: Label, label: Label) -> bool
+    requires row { Contains at.now.labels row.0 }
+    requires label { Contains at.now.key label.0 }
+    ensures { IsTrue result ↔ (label.0 < 8192 → row.0 < label.0 → Table.entry (table_of at.now) row.0 label.0 ≡ pos 0) }
+{
+    if label.0 < 8192 && row.0 < label.0 {
+        at.entry(row, label).get() == 0
+    } else {
+        true
+    }
 }
 
 /// A coordinate in the cobasis at which a row is not 0: the last one, since numbers are smallest while `x0` is
