@@ -30,3 +30,8 @@ abbrev pub IsFirst : Dictionary → ℕ → ℕ → Type 0
 IsFirst d rows col =
     (i : ℕ) → 0 < i → i ≤ rows → Table.entry (table_of d) i col ≡ pos 0 →
     (k : ℕ) → Contains d.key k → k < 8192 → i < k → Table.entry (table_of d) i k ≡ pos 0
+
+-- a label of the cobasis, and no other is above it
+pub record IsLastLabel (d : Dictionary) (col : ℕ) : Type 0 where
+  pub inside : Contains d.key col
+  pub last : (k : ℕ) → Contains d.key k → k ≤ col

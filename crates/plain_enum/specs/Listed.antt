@@ -1,6 +1,6 @@
 -- What the lister writes under a prefix of rows.
-use Rattle.std.specs.Prelude.{◌≡◌, ℕ, suc, ◌+◌, ◌<◌, Bool, List, length, Option, Result, OnOk, OnErr}
-use Rattle.std.specs.List.{Contains, flat_map}
+use Rattle.std.specs.Prelude.{◌≡◌, ℕ, suc, ◌+◌, ◌<◌, Bool, List, [], length, Option, Result, OnOk, OnErr}
+use Rattle.std.specs.List.{flat_map}
 use Rattle.std.specs.Io.KnownBytes.{Appends}
 use Rattle.poly_num.specs.Vectors.{Vector}
 use Rattle.poly_model.specs.declared.kind.Kind.{Kind}
@@ -13,15 +13,15 @@ use Rattle.listing_laws.specs.Lists.{Lists, Begins}
 use Rattle.listing_laws.specs.Prefixes.{IsUnder}
 use Rattle.plain_enum.specs.Standing.{StandsAt}
 
--- the dictionary stands at a prefix of the rows before `from`, with so many coordinates left beside one; no
--- coordinate is fixed
+-- the dictionary stands at a prefix of the rows before `from`, with so many coordinates left beside one; nothing is
+-- fixed
 pub record IsAt (sys : System) (d : Dictionary) (from depth : ℕ) (p : Polyhedron) (cone : ListedCone) (fixed left : List ℕ) (marks : List Bool) : Type 0 where
   pub file : sys ≡ cone_of p
   pub is_cone : IsConeOf sys cone
   pub stands : StandsAt p cone d fixed left marks
-  pub rows_fixed : (k : ℕ) → Contains fixed k → k < 8192
+  pub nothing_fixed : fixed ≡ []
   pub next : from ≡ length marks + 1
-  pub depth : length left ≡ suc depth
+  pub count : length left ≡ suc depth
 
 -- known bytes grow by the rows of a list of the vectors with P at Ok, and by first bytes of the rows of the
 -- beginning of one at Err

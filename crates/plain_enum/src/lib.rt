@@ -5,6 +5,7 @@
 #![tactic(auto)]
 
 mod list;
+mod shown;
 mod side;
 
 pub use list::PlainStop;

@@ -13,12 +13,12 @@ ghost use Rattle.listing_laws.specs.ListedCone.{ListedCone};
 ghost use Rattle.plain_enum.specs.Columns.{HasRows};
 ghost use Rattle.plain_enum.specs.Listed.{IsAt, WritesUnder, HasShapeOf};
 
-use crate::side::{Side, column_of, is_first, last_coordinate, side_of};
+use crate::shown::{shown_side, write_direction};
+use crate::side::{column_of, last_coordinate};
 use dictionary::Dict;
-use hull_lift::facet_row;
 use poly_io::{Sink, WriteFault};
 use poly_model::{Label, Overflow, System};
-use poly_num::{Num, negate};
+use poly_num::Num;
 use row_printer::Listing;
 
 /// Why a listing was given up. What was written by then is left as it is.
@@ -82,7 +82,7 @@ pub fn list_under<S: Sink>(
     }
 }
 
-// Shows the direction that is left, where it lies in the cone and the rows taken are its first list.
+// Shows the direction that is left, if its column is shown on some side.
 fn show<S: Sink>(
     sys: &System,
     at: &Dict,
@@ -101,19 +101,14 @@ fn show<S: Sink>(
     ensures later { S.faults out.old ≤ S.faults out.new }
     ensures fault { IsErrOf result PlainStop.WriteFault → Rose (S.faults out.old) (S.faults out.new) }
 {
+    let _n = sys.n();
     let Some(col) = last_coordinate(at) else {
         return Ok(shown);
     };
-    let Some(side) = side_of(at, sys.rows(), col) else {
+    let Some(side) = shown_side(sys, at, col) else {
         return Ok(shown);
     };
-    if !is_first(at, sys.rows(), col) {
-        return Ok(shown);
-    }
-    facet_row(at, col, vector);
-    if side == Side::Against {
-        negate(vector);
-    }
+    write_direction(at, col, side, vector);
     let Shown { listing, rows } = shown;
     match listing.row(out, vector) {
         Ok(listing) => Ok(Shown {

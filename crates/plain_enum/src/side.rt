@@ -1,9 +1,9 @@
 //! Which way along a column the cone lies, and whether the rows of the cobasis are its first list.
-ghost use Rattle.std.specs.Prelude.{◌≡◌, ◌≤◌, ◌<◌, ◌↔◌, ℕ, IsTrue, IsNone, IfSome, pos, ◌≤ℤ◌};
+ghost use Rattle.std.specs.Prelude.{◌≡◌, ◌≤◌, ◌<◌, ◌↔◌, ℕ, IsTrue, IsNone, IfSome, pos, ◌≤ℤ◌, []};
 ghost use Rattle.std.specs.List.{Contains};
 ghost use Rattle.poly_model.specs.Dictionaries.{Table};
 ghost use Rattle.dictionary.specs.Views.{table_of};
-ghost use Rattle.plain_enum.specs.Columns.{HasRows, IsOnSide, IsFirst, IsColumnOf, HasNoColumn};
+ghost use Rattle.plain_enum.specs.Columns.{HasRows, IsOnSide, IsFirst, IsColumnOf, HasNoColumn, IsLastLabel};
 
 use dictionary::Dict;
 use poly_model::Label;
@@ -125,12 +125,15 @@ pub fn column_of(at: &Dict, row: Label) -> Option<Label>
 
 /// The last coordinate in the cobasis.
 pub fn last_coordinate(at: &Dict) -> Option<Label>
-    ensures { IfSome result (λ k. Contains at.now.key k.0) }
+    ensures some { IfSome result (λ k. IsLastLabel at.now k.0) }
+    ensures none { IsNone result → at.now.key ≡ [] }
 {
     let key = at.key();
     let labels = key.labels();
-    match labels.last() {
-        Some(label) => Some(Label(*label)),
-        None => None,
+    let count = labels.len();
+    if count == 0 {
+        None
+    } else {
+        Some(Label(labels[count - 1]))
     }
 }
