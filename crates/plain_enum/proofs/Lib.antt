@@ -5,3 +5,5 @@ pub mod RowsTaken
 pub mod Standings
 pub mod OneLeft
 pub mod Steps
+pub mod ColumnShown
+pub mod ShowUnder

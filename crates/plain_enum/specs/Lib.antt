@@ -1,2 +1,5 @@
 pub mod Standing
 pub mod Laws
+pub mod Columns
+pub mod Shown
+pub mod Listed

@@ -4,6 +4,12 @@
 //! What is stated stands in `specs/`.
 #![tactic(auto)]
 
+mod list;
+mod shown;
+mod side;
+
+pub use list::PlainStop;
+
 ghost use Rattle.plain_enum.specs.Laws.{ValuesAtColumns, NewByEntry, FollowsByEntries, OneIsLeft, TestByEntries, BeginsAtCoordinates, PivotTakes, DictionaryStays};
 
 /// The column of a label of the key is a vector at which each label has its entry there as value.

@@ -1,0 +1,121 @@
+-- What is shown where the dictionary stands and one label is left: the last label of the key is the one that is left.
+use Rattle.std.proofs.Common.{◌≡◌, ⊎_elim, Bool, ℕ, ◌+◌, ◌-◌, ◌<◌, ◌≤◌, List, [], ◌∷◌, ◌++◌, length, map, refl, sym, ap, subst, ◌∙◌, arith, append-nil, Option, Ok, Err}
+use Rattle.std.specs.List.{Contains, flat_map, range_with_len}
+use Rattle.std.specs.Io.KnownBytes.{Appends}
+use Rattle.std.proofs.KnownBytes.{Appends-nil}
+use Rattle.std.proofs.lemmas.List.Concat.{flat_map-cons}
+use Rattle.std.proofs.lemmas.List.Elements.{Contains-append_cases}
+use Rattle.poly_num.specs.Vectors.{Vector}
+use Rattle.poly_model.specs.declared.kind.Kind.{Kind}
+use Rattle.poly_model.specs.Systems.{System, Polyhedron, cone_of}
+use Rattle.poly_model.specs.Spaces.{coordinate_label, cone_space}
+use Rattle.poly_model.specs.ListingText.{row_text}
+use Rattle.poly_io.specs.Written.{AppendsPart}
+use Rattle.linear_laws.proofs.Members.{Contains-nil, Contains-first, Contains-cons_cases}
+use Rattle.dictionary_laws.proofs.Filters.{range_only, map_only}
+use Rattle.dictionary_laws.proofs.Values.{is_label}
+use Rattle.dictionary.specs.Views.{Dictionary}
+use Rattle.hull_lift.specs.Facets.{constant_label}
+use Rattle.listing_laws.specs.ListedCone.{ListedCone, IsConeOf}
+use Rattle.listing_laws.specs.Lists.{Lists}
+use Rattle.listing_laws.specs.Prefixes.{labels_of, IsUnder}
+use Rattle.plain_enum.specs.declared.side.Side.{Side}
+use Rattle.plain_enum.specs.Columns.{IsLastLabel}
+use Rattle.plain_enum.specs.Shown.{IsShownOn, primitive_column, vector_on}
+use Rattle.plain_enum.specs.Listed.{IsAt, WritesRows}
+use Rattle.plain_enum.specs.Standing.{StandsAt, LeavesColumn}
+use Rattle.plain_enum.proofs.Parts.{in_third}
+use Rattle.plain_enum.proofs.RowsTaken.{as_many}
+use Rattle.plain_enum.proofs.Standings.{taken_within}
+use Rattle.plain_enum.proofs.OneLeft.{one_is_left}
+use Rattle.plain_enum.proofs.ColumnShown.{one_on, none_on}
+
+-- ---- rows written
+pub writes_none : {T E : Type 0} (kind : Kind) (old : Option (List ℕ)) (x : T) (P : Vector → Type 0) → Lists P [] →
+    WritesRows {T = T} {E = E} kind old old (Ok x) P
+writes_none kind old x P l = record { whole = ([], l, Appends-nil old); part = tt }
+
+one_text : (kind : Kind) (y : Vector) → flat_map (row_text kind) (y ∷ []) ≡ row_text kind y
+one_text kind y = flat_map-cons (row_text kind) y [] ∙ append-nil (row_text kind y)
+
+pub writes_one : {T E : Type 0} (kind : Kind) (old new : Option (List ℕ)) (x : T) (y : Vector) (P : Vector → Type 0) →
+    Lists P (y ∷ []) → Appends old new (row_text kind y) → WritesRows {T = T} {E = E} kind old new (Ok x) P
+writes_one kind old new x y P l a =
+    record { whole = (y ∷ [], l, subst (λ t. Appends old new t) (sym (one_text kind y)) a); part = tt }
+
+pub writes_part : {T E : Type 0} (kind : Kind) (old new : Option (List ℕ)) (e : E) (y : Vector) (P : Vector → Type 0) →
+    Lists P (y ∷ []) → AppendsPart old new (row_text kind y) → WritesRows {T = T} {E = E} kind old new (Err e) P
+writes_part kind old new e y P l a =
+    record { whole = tt; part = (y ∷ [], ([], l), subst (λ t. AppendsPart old new t) (sym (one_text kind y)) a) }
+
+-- ---- the label that is left
+one_only : (left : List ℕ) → length left ≡ 1 → (k : ℕ) × (left ≡ k ∷ [])
+one_only [] e = absurd (omega (arith, e))
+one_only (k ∷ []) e = (k, refl)
+one_only (k ∷ j ∷ ks) e = absurd (omega (arith, e))
+
+module _ (sys : System) (d : Dictionary) (from : ℕ) (p : Polyhedron) (cone : ListedCone) (fixed left : List ℕ)
+    (marks : List Bool) (at : IsAt sys d from 0 p cone fixed left marks) where
+  abbrev k : ℕ
+  k = (one_only left at.count).0
+
+  stands : StandsAt p cone d [] (k ∷ []) marks
+  stands =
+      subst (λ ks. StandsAt p cone d [] ks marks) (one_only left at.count).1
+      (subst (λ ks. StandsAt p cone d ks left marks) at.nothing_fixed at.stands)
+
+  in_key : Contains d.key k
+  in_key = stands.key.back k (in_third [] (labels_of marks) (k ∷ []) k (Contains-first k []))
+
+  pub has_label : d.key ≡ [] → ⊥
+  has_label e = Contains-nil k (subst (λ ks. Contains ks k) e in_key)
+
+  -- a label of a row taken is no coordinate's, so the last label is the one that is left
+  last_is_left : (col : ℕ) → IsLastLabel d col → col ≡ k
+  last_is_left col l =
+      ⊎_elim
+      (λ c. absurd (
+      let high = stands.coordinates k (Contains-first k []) in
+      let above = l.last k in_key in
+      let low = taken_within p cone d [] (k ∷ []) marks stands col c in
+      let few = stands.over.few in
+      omega (arith, as_many p cone stands.over)))
+      (λ c. ⊎_elim (λ e. sym e) (λ n. absurd (Contains-nil col n)) (Contains-cons_cases col k [] c))
+      (Contains-append_cases (labels_of marks) (k ∷ []) col (stands.key.there col l.inside))
+
+  left_below : p.n ≤ 256 → k < constant_label
+  left_below narrow =
+      ⊎_elim
+      (λ c. let r = (range_only 1 (length (cone_of p).rows) k c).1 in let few = stands.over.few in omega arith)
+      (λ c.
+      let m = map_only coordinate_label (range_with_len 0 (p.n - 0)) k c in
+      let r = (range_only 0 (p.n - 0) m.0 m.1).1 in
+      let e = m.2 in
+      omega arith)
+      (Contains-append_cases (range_with_len 1 (length (cone_of p).rows)) (map coordinate_label (range_with_len 0 (p.n - 0))) k
+      (is_label (cone_space p) d.key stands.dictionary.dictionary.cobasis k in_key))
+
+  module _ (narrow : sys.n ≤ 256) (col : ℕ) (last : IsLastLabel d col) where
+    same_width : sys.n ≡ p.n
+    same_width = ap (λ (s : System). s.n) at.file
+
+    leaves : LeavesColumn p cone d marks k
+    leaves = one_is_left p cone d [] k marks stands (left_below (subst (λ n. n ≤ 256) same_width narrow))
+
+    listed : IsConeOf (cone_of p) cone
+    listed = subst (λ s. IsConeOf s cone) at.file at.is_cone
+
+    pub nothing_here : ((side : Side) → IsShownOn sys d col side → ⊥) → Lists (IsUnder cone marks) []
+    nothing_here n =
+        none_on p cone d k marks stands leaves listed
+        (λ side h. n side (subst (λ s. IsShownOn s d col side) (sym at.file)
+        (subst (λ j. IsShownOn (cone_of p) d j side) (sym (last_is_left col last)) h)))
+
+    pub one_here : (side : Side) → IsShownOn sys d col side →
+        Lists (IsUnder cone marks) (vector_on side (primitive_column d col sys.n) ∷ [])
+    one_here side h =
+        subst (λ n. Lists (IsUnder cone marks) (vector_on side (primitive_column d col n) ∷ [])) (sym same_width)
+        (subst (λ j. Lists (IsUnder cone marks) (vector_on side (primitive_column d j p.n) ∷ [])) (sym (last_is_left col last))
+        (one_on p cone d k marks stands leaves listed side
+        (subst (λ j. IsShownOn (cone_of p) d j side) (last_is_left col last)
+        (subst (λ s. IsShownOn s d col side) at.file h))))

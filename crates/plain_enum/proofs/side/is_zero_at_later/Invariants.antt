@@ -1,0 +1,11 @@
+use Rattle.std.proofs.Common.{◌≡◌, ℕ, ◌<◌, pos}
+use Rattle.std.specs.List.{Contains}
+use Rattle.poly_model.specs.Dictionaries.{Table}
+use Rattle.dictionary.specs.Views.{table_of}
+use Rattle.plain_enum.proofs.side.is_zero_at_later.Given as goal
+
+-- it is 0 at the later rows among the labels before this one
+abbrev pub invariant-labels : goal.invariant-labels
+invariant-labels l =
+    (k : ℕ) (c : Contains l.labels k) → c.0 < l.label-index → k < 8192 → l.row.0 < k →
+    Table.entry (table_of l.at) l.row.0 k ≡ pos 0

@@ -1,0 +1,42 @@
+//! Which way the direction that is left is shown, and its vector.
+ghost use Rattle.std.specs.Prelude.{◌≡◌, ◌≤◌, IfSome, IsNone, length};
+ghost use Rattle.std.specs.List.{Contains};
+ghost use Rattle.plain_enum.specs.declared.side.Side.{Side as AnySide};
+ghost use Rattle.plain_enum.specs.Columns.{HasRows};
+ghost use Rattle.plain_enum.specs.Shown.{IsShownOn, primitive_column, vector_on};
+
+use crate::side::{Side, is_first, side_of};
+use dictionary::Dict;
+use hull_lift::{facet_row, is_shown};
+use poly_model::{Label, System};
+use poly_num::{Num, negate};
+
+/// The side on which a column is shown, if any.
+pub fn shown_side(sys: &System, at: &Dict, col: Label) -> Option<Side>
+    requires rows { HasRows (length sys.now.rows) at.now }
+    requires column { Contains at.now.key col.0 }
+    ensures some { IfSome result (IsShownOn sys.now at.now col.0) }
+    ensures none { IsNone result → (side : AnySide) → IsShownOn sys.now at.now col.0 side → ⊥ }
+{
+    let rows = sys.rows();
+    let side = side_of(at, rows, col)?;
+    if is_shown(sys, at, col) && is_first(at, rows, col) {
+        Some(side)
+    } else {
+        None
+    }
+}
+
+/// Writes the vector without common divisor of a column, or its opposite.
+pub fn write_direction(at: &Dict, col: Label, side: Side, vector: &mut [Num])
+    requires column { Contains at.now.key col.0 }
+    requires narrow { length vector.old ≤ 256 }
+    ensures value { vector.new ≡ vector_on side (primitive_column at.now col.0 (length vector.old)) }
+    ensures width { length vector.new ≡ length vector.old }
+{
+    facet_row(at, col, vector);
+    match side {
+        Side::Along => {}
+        Side::Against => negate(vector),
+    }
+}

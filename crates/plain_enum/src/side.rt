@@ -1,0 +1,139 @@
+//! Which way along a column the cone lies, and whether the rows of the cobasis are its first list.
+ghost use Rattle.std.specs.Prelude.{◌≡◌, ◌≤◌, ◌<◌, ◌↔◌, ℕ, IsTrue, IsNone, IfSome, pos, ◌≤ℤ◌, []};
+ghost use Rattle.std.specs.List.{Contains};
+ghost use Rattle.poly_model.specs.Dictionaries.{Table};
+ghost use Rattle.dictionary.specs.Views.{table_of};
+ghost use Rattle.plain_enum.specs.Columns.{HasRows, IsOnSide, IsFirst, IsColumnOf, HasNoColumn, IsLastLabel};
+
+use dictionary::Dict;
+use poly_model::Label;
+use poly_num::Num;
+
+/// Which way all rows are at least 0: along a column, or against it.
+#[derive(Clone, Copy, PartialEq, Eq, Debug)]
+pub enum Side {
+    Along,
+    Against,
+}
+
+/// The side of the cone; none where both ways break a row. A column at which all rows are 0 counts as along.
+pub fn side_of(at: &Dict, rows: u32, col: Label) -> Option<Side>
+    requires rows { HasRows rows at.now }
+    requires few { rows < 8192 }
+    requires column { Contains at.now.key col.0 }
+    ensures some { IfSome result (IsOnSide at.now rows col.0) }
+    ensures along { IsNone result → IsOnSide at.now rows col.0 Side.Along → ⊥ }
+    ensures against { IsNone result → IsOnSide at.now rows col.0 Side.Against → ⊥ }
+{
+    if is_along(at, rows, col) {
+        Some(Side::Along)
+    } else if is_against(at, rows, col) {
+        Some(Side::Against)
+    } else {
+        None
+    }
+}
+
+fn is_along(at: &Dict, rows: u32, col: Label) -> bool
+    requires rows { HasRows rows at.now }
+    requires few { rows < 8192 }
+    requires column { Contains at.now.key col.0 }
+    ensures { IsTrue result ↔ IsOnSide at.now rows col.0 Side.Along }
+{
+    'rows: for i in 0..rows {
+        if at.entry(Label(i as u16 + 1), col).get() < 0 {
+            return false;
+        }
+    }
+    true
+}
+
+fn is_against(at: &Dict, rows: u32, col: Label) -> bool
+    requires rows { HasRows rows at.now }
+    requires few { rows < 8192 }
+    requires column { Contains at.now.key col.0 }
+    ensures { IsTrue result ↔ IsOnSide at.now rows col.0 Side.Against }
+{
+    'rows: for i in 0..rows {
+        if at.entry(Label(i as u16 + 1), col).get() > 0 {
+            return false;
+        }
+    }
+    true
+}
+
+/// Whether each row that is 0 in the column is 0 at each later row of the cobasis.
+pub fn is_first(at: &Dict, rows: u32, col: Label) -> bool
+    requires rows { HasRows rows at.now }
+    requires few { rows < 8192 }
+    requires column { Contains at.now.key col.0 }
+    ensures { IsTrue result ↔ IsFirst at.now rows col.0 }
+{
+    let key = at.key();
+    'rows: for i in 0..rows {
+        let row = Label(i as u16 + 1);
+        if at.entry(row, col).get() == 0 && !is_zero_at_later(at, row, key.labels()) {
+            return false;
+        }
+    }
+    true
+}
+
+// Whether a row is 0 at each later row among these labels of the cobasis.
+fn is_zero_at_later(at: &Dict, row: Label, labels: &[u16]) -> bool
+    requires row { Contains at.now.labels row.0 }
+    requires labels { labels.now ≡ at.now.key }
+    ensures { IsTrue result ↔ ((k : ℕ) → Contains at.now.key k → k < 8192 → row.0 < k → Table.entry (table_of at.now) row.0 k ≡ pos 0) }
+{
+    'labels: for label in labels {
+        if !is_zero_if_later(at, row, Label(*label)) {
+            return false;
+        }
+    }
+    true
+}
+
+// Whether a row is 0 at a label of the cobasis, if that is a later row.
+fn is_zero_if_later(at: &Dict, row: Label, label: Label) -> bool
+    requires row { Contains at.now.labels row.0 }
+    requires label { Contains at.now.key label.0 }
+    ensures { IsTrue result ↔ (label.0 < 8192 → row.0 < label.0 → Table.entry (table_of at.now) row.0 label.0 ≡ pos 0) }
+{
+    if label.0 < 8192 && row.0 < label.0 {
+        at.entry(row, label).get() == 0
+    } else {
+        true
+    }
+}
+
+/// A coordinate in the cobasis at which a row is not 0: the last one, since numbers are smallest while `x0` is
+/// in the cobasis.
+pub fn column_of(at: &Dict, row: Label) -> Option<Label>
+    requires { Contains at.now.labels row.0 }
+    ensures some { IfSome result (λ k. IsColumnOf at.now row.0 k.0) }
+    ensures none { IsNone result → HasNoColumn at.now row.0 }
+{
+    let key = at.key();
+    let mut found = None;
+    'labels: for label in key.labels() {
+        if *label >= 8192 && at.entry(row, Label(*label)).get() != 0 {
+            found = Some(Label(*label));
+        }
+    }
+    found
+}
+
+/// The last coordinate in the cobasis.
+pub fn last_coordinate(at: &Dict) -> Option<Label>
+    ensures some { IfSome result (λ k. IsLastLabel at.now k.0) }
+    ensures none { IsNone result → at.now.key ≡ [] }
+{
+    let key = at.key();
+    let labels = key.labels();
+    let count = labels.len();
+    if count == 0 {
+        None
+    } else {
+        Some(Label(labels[count - 1]))
+    }
+}
