@@ -1,11 +1,11 @@
 -- Where one label is left and nothing is fixed: the primitive vector of its column, its opposite, and what is shown.
-use Rattle.std.proofs.Common.{◌≡◌, ◌≢◌, ◌↔◌, ⊎_elim, Bool, true, ℕ, suc, ◌-◌, ◌<◌, ◌≤◌, ℤ, pos, neg_ℤ, ◌*ℤ◌, ◌<ℤ◌, List, [], ◌∷◌, map, length, get_or, refl, sym, ap, subst, ◌∙◌, arith}
+use Rattle.std.proofs.Common.{◌≡◌, ◌≢◌, ◌↔◌, ⊎_elim, Bool, ℕ, suc, ◌-◌, ◌<◌, ◌≤◌, ℤ, pos, neg_ℤ, ◌*ℤ◌, ◌<ℤ◌, List, [], ◌∷◌, length, get_or, sym, ap, subst, ◌∙◌, arith}
 use Rattle.std.specs.Prelude.{◌≤ℤ◌, int_div}
-use Rattle.std.specs.List.{AllByRecursion, Contains}
+use Rattle.std.specs.List.{Contains}
 use Rattle.std.proofs.lemmas.Int.{ints}
 use Rattle.std.proofs.lemmas.List.{get_or-map, get_or_default, length-map}
 use Rattle.std.proofs.lemmas.List.Elements.{Contains-get_or, Contains-append_left, Contains-append_cases}
-use Rattle.poly_num.specs.Vectors.{Vector, ◌·◌, scale, IsZero, IsPrimitive, IsMultipleOf}
+use Rattle.poly_num.specs.Vectors.{Vector, ◌·◌, IsPrimitive, IsMultipleOf}
 use Rattle.poly_num.specs.Divisors.{MakesPrimitive, gcd_of_all}
 use Rattle.poly_num.proofs.Ring.{mul_zero, mul-neg, neg-mul, one_mul}
 use Rattle.poly_num.proofs.Order.{zero_factor, positive_nonzero, gives_at_most, keeps_at_most}
@@ -19,9 +19,9 @@ use Rattle.poly_model.specs.Extreme.{TouchesPoint, IsShown}
 use Rattle.poly_model.specs.Dictionaries.{Table}
 use Rattle.linear_laws.specs.Corners.{IsInConeOf}
 use Rattle.linear_laws.proofs.Members.{all_at}
-use Rattle.linear_laws.proofs.Proportions.{vanish_from_multiple, values_from_multiples, multiples_from_values}
+use Rattle.linear_laws.proofs.Proportions.{vanish_from_multiple, multiples_from_values}
 use Rattle.dictionary.specs.Views.{Dictionary, table_of}
-use Rattle.hull_lift.specs.Facets.{column_of, IsTouchedAt, IsShownAs, IsShownAt}
+use Rattle.hull_lift.specs.Facets.{column_of, IsTouchedAt, IsShownAs}
 use Rattle.listing_laws.specs.ListedCone.{ListedCone, row_at, IsListable, IsConeOf}
 use Rattle.listing_laws.specs.Lists.{Lists}
 use Rattle.listing_laws.specs.Prefixes.{labels_of, IsUnder}
@@ -35,7 +35,7 @@ use Rattle.plain_enum.specs.declared.side.Side.{Side}
 use Rattle.plain_enum.specs.declared.side.Side.TheVariants.{Along, Against}
 use Rattle.plain_enum.specs.Columns.{IsOnSide, IsFirst}
 use Rattle.plain_enum.specs.Shown.{IsShownOn, primitive_column, vector_on}
-use Rattle.plain_enum.specs.Standing.{StandsAt, LeavesColumn, PassesByEntries}
+use Rattle.plain_enum.specs.Standing.{StandsAt, LeavesColumn}
 use Rattle.plain_enum.proofs.RowsTaken.{as_many}
 use Rattle.plain_enum.proofs.OneLeft.{test_by_entries}
 

@@ -1,5 +1,5 @@
 -- What is shown where the dictionary stands and one label is left: the last label of the key is the one that is left.
-use Rattle.std.proofs.Common.{◌≡◌, ⊎_elim, Bool, ℕ, ◌+◌, ◌-◌, ◌<◌, ◌≤◌, List, [], ◌∷◌, ◌++◌, length, map, refl, sym, ap, subst, ◌∙◌, arith, append-nil, Option, Ok, Err}
+use Rattle.std.proofs.Common.{◌≡◌, ⊎_elim, Bool, ℕ, ◌-◌, ◌<◌, ◌≤◌, List, [], ◌∷◌, length, map, refl, sym, ap, subst, ◌∙◌, arith, append-nil, Option, Ok, Err}
 use Rattle.std.specs.List.{Contains, flat_map, range_with_len}
 use Rattle.std.specs.Io.KnownBytes.{Appends}
 use Rattle.std.proofs.KnownBytes.{Appends-nil}

@@ -1,5 +1,5 @@
 -- What the lister reads off a dictionary: the column of a coordinate, and the signs of the rows in it.
-use Rattle.std.specs.Prelude.{◌≡◌, ◌≢◌, ℕ, ◌<◌, ◌≤◌, pos, ◌≤ℤ◌, List}
+use Rattle.std.specs.Prelude.{◌≡◌, ◌≢◌, ℕ, ◌<◌, ◌≤◌, pos, ◌≤ℤ◌}
 use Rattle.std.specs.List.{Contains}
 use Rattle.poly_model.specs.Dictionaries.{Table}
 use Rattle.dictionary.specs.Views.{Dictionary, table_of}

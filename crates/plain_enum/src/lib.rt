@@ -1,5 +1,5 @@
-//! What a dictionary of the cone's space tells at a prefix of rows: each law is the contract of a function with an
-//! empty body.
+//! What a dictionary of the cone's space tells at a prefix of rows, as laws (functions with an empty body), and what
+//! is listed where one direction is left.
 //!
 //! What is stated stands in `specs/`.
 #![tactic(auto)]
@@ -8,9 +8,10 @@ mod list;
 mod shown;
 mod side;
 
-pub use list::PlainStop;
-
 ghost use Rattle.plain_enum.specs.Laws.{ValuesAtColumns, NewByEntry, FollowsByEntries, OneIsLeft, TestByEntries, BeginsAtCoordinates, PivotTakes, DictionaryStays};
+
+pub use list::{PlainStop, Shown, show};
+pub use side::{Side, column_of};
 
 /// The column of a label of the key is a vector at which each label has its entry there as value.
 pub fn values_at_columns()
