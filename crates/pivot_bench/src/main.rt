@@ -1,4 +1,4 @@
-//! Pivots of a dictionary, or of a plain table of i128, for bench/pivot to time.
+//! Pivots of a dictionary, or of a plain table of i128, for bench/pivot to time and bench/walk to compare.
 #![tactic(auto)]
 
 mod plan;
@@ -6,6 +6,7 @@ mod prepare;
 mod random;
 mod spots;
 mod table;
+mod walk;
 
 use plan::{Mode, Plan, plan_of};
 use prepare::prepared;
@@ -15,6 +16,7 @@ use std::alloc::{AllocError, Global};
 use std::io;
 use std::process::ExitCode;
 use table::Table;
+use walk::walked;
 
 fn main(rt: HostRuntime) -> ExitCode {
     match run(&rt) {
@@ -34,7 +36,7 @@ fn run(rt: &HostRuntime) -> io::Result<bool> {
         .map(|word| word.as_str())
         .collect::<Vec<&str>>(alloc)?;
     let Some(plan) = plan_of(&words) else {
-        eprintln!(rt; "usage: pivot_bench dictionary|checked ROWS COLUMNS BITS PIVOTS SEED")?;
+        eprintln!(rt; "usage: pivot_bench dictionary|checked|walk ROWS COLUMNS BITS PIVOTS SEED")?;
         return Ok(false);
     };
     let (pivots, table) = carried_out(alloc, &plan)?;
@@ -48,16 +50,22 @@ fn run(rt: &HostRuntime) -> io::Result<bool> {
 fn carried_out(alloc: Global, plan: &Plan) -> Result<(u64, Table), AllocError> {
     let mut random = Random { state: plan.seed };
     let mut dict = prepared(alloc, plan, &mut random)?;
-    let mut table = Table::of(alloc, &dict, plan)?;
-    let spots = spots_of(alloc, &dict, &table, &mut random)?;
     match plan.mode {
         Mode::Dictionary => {
+            let table = Table::of(alloc, &dict, plan)?;
+            let spots = spots_of(alloc, &dict, &table, &mut random)?;
             let done = turns(&mut dict, &spots, plan.pivots / 2);
             Ok((2 * done, Table::of(alloc, &dict, plan)?))
         }
         Mode::Checked => {
+            let mut table = Table::of(alloc, &dict, plan)?;
+            let spots = spots_of(alloc, &dict, &table, &mut random)?;
             let done = turns(&mut table, &spots, plan.pivots / 2);
             Ok((2 * done, table))
+        }
+        Mode::Walk => {
+            let done = walked(&mut dict, plan, &mut random);
+            Ok((done, Table::of(alloc, &dict, plan)?))
         }
     }
 }

@@ -1,11 +1,13 @@
 //! What the words of a call ask for.
 ghost use Rattle.std.specs.Prelude.{◌<◌, ◌≤◌};
 
-/// Which pivots are done: those of a dictionary, or of a plain table with each number checked.
+/// Which pivots are done: those of a dictionary, or of a plain table with each number checked, there and
+/// back; or those of a dictionary that goes on at random, from the coordinates.
 #[derive(Clone, Copy)]
 pub enum Mode {
     Dictionary,
     Checked,
+    Walk,
 }
 
 /// The pivots that are asked for, and the table that they are done in.
@@ -31,6 +33,7 @@ pub fn plan_of(words: &[&str]) -> Option<Plan> {
     let mode = match *mode {
         "dictionary" => Mode::Dictionary,
         "checked" => Mode::Checked,
+        "walk" => Mode::Walk,
         _ => return None,
     };
     let rows = rows.parse().ok()?;
