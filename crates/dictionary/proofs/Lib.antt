@@ -19,3 +19,4 @@ pub mod WrittenOver
 pub mod UndividedLemmas
 pub mod LeastOver
 pub mod NarrowCells
+pub mod UnitRows

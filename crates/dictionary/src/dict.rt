@@ -1,5 +1,5 @@
 //! The dictionary of a cobasis in one table, with pivots in place.
-ghost use Rattle.std.specs.Prelude.{◌≡◌, ◌<◌, ◌<ℤ◌, ◌↔◌, IsTrue, suc, pos, IfOk, length};
+ghost use Rattle.std.specs.Prelude.{◌≡◌, ◌≢◌, ◌<◌, ◌<ℤ◌, ◌↔◌, IsTrue, suc, pos, IfOk, length};
 ghost use Rattle.std.specs.List.{Contains};
 ghost use Rattle.poly_model.specs.Dictionaries.{Table};
 ghost use Rattle.dictionary_laws.specs.Keys.{place_in};
@@ -96,9 +96,13 @@ impl Dict {
     pub fn entry(&self, row: Label, col: Label) -> Num
         requires row { Contains self.now.labels row.0 }
         requires column { Contains self.now.key col.0 }
-        ensures { result ≡ Table.entry (table_of self.now) row.0 col.0 }
+        ensures value { result ≡ Table.entry (table_of self.now) row.0 col.0 }
+        ensures own { row.0 ≡ col.0 → result ≡ self.now.denominator }
+        ensures unit { Contains self.now.key row.0 → row.0 ≢ col.0 → result ≡ pos 0 }
     {
-        self.number(self.row_of(row), self.column_of(col))
+        let i = self.row_of(row);
+        let j = self.column_of(col);
+        cell_at(&self.cells, self.labels.len(), self.pivot_row.len(), i, j)
     }
 
     /// A dictionary that is equal.
