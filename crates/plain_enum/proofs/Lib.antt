@@ -7,3 +7,4 @@ pub mod OneLeft
 pub mod Steps
 pub mod ColumnShown
 pub mod ShowUnder
+pub mod LoopUnder

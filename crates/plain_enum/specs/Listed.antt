@@ -4,6 +4,7 @@ use Rattle.std.specs.List.{flat_map}
 use Rattle.std.specs.Io.KnownBytes.{Appends}
 use Rattle.poly_num.specs.Vectors.{Vector}
 use Rattle.poly_model.specs.declared.kind.Kind.{Kind}
+use Rattle.poly_model.specs.declared.overflow.Phase.TheVariants.{Cone}
 use Rattle.poly_model.specs.Systems.{System, Polyhedron, cone_of}
 use Rattle.poly_model.specs.ListingText.{row_text}
 use Rattle.poly_io.specs.Written.{AppendsPart}
@@ -13,11 +14,12 @@ use Rattle.listing_laws.specs.Lists.{Lists, Begins}
 use Rattle.listing_laws.specs.Prefixes.{IsUnder}
 use Rattle.plain_enum.specs.Standing.{StandsAt}
 
--- the dictionary stands at a prefix of the rows before `from`, with so many coordinates left beside one; nothing is
--- fixed
+-- the dictionary stands, in the phase of the cone, at a prefix of the rows before `from`, with so many coordinates
+-- left beside one; nothing is fixed
 pub record IsAt (sys : System) (d : Dictionary) (from depth : ℕ) (p : Polyhedron) (cone : ListedCone) (fixed left : List ℕ) (marks : List Bool) : Type 0 where
   pub file : sys ≡ cone_of p
   pub is_cone : IsConeOf sys cone
+  pub phase : d.phase ≡ Cone
   pub stands : StandsAt p cone d fixed left marks
   pub nothing_fixed : fixed ≡ []
   pub next : from ≡ length marks + 1

@@ -10,7 +10,7 @@ mod side;
 
 ghost use Rattle.plain_enum.specs.Laws.{ValuesAtColumns, NewByEntry, FollowsByEntries, OneIsLeft, TestByEntries, BeginsAtCoordinates, PivotTakes, DictionaryStays};
 
-pub use list::{PlainStop, Shown, show};
+pub use list::{PlainStop, Shown, list_under, show};
 pub use side::{Side, column_of};
 
 /// The column of a label of the key is a vector at which each label has its entry there as value.

@@ -1,16 +1,21 @@
 //! What is listed where one direction is left: at a list of rows that leaves just one coordinate in the
 //! cobasis, the column of that coordinate is the direction on which all rows taken are 0.
-ghost use Rattle.std.specs.Prelude.{◌≡◌, ◌≤◌, length, IfOk, IsErrOf};
+ghost use Rattle.std.specs.Prelude.{◌≡◌, ◌≤◌, ◌<◌, ℕ, Bool, List, length, IfOk, IfErr, IsErrOf};
+ghost use Rattle.std.specs.List.{All};
 ghost use Rattle.poly_io.specs.Causes.{Rose};
 ghost use Rattle.poly_model.specs.declared.overflow.Overflow.{Overflow as Passed};
+ghost use Rattle.poly_model.specs.Overflows.{Passes};
+ghost use Rattle.poly_model.specs.Systems.{Polyhedron};
+ghost use Rattle.dictionary.specs.Views.{CanPivot, IsPivot, IsOverflow};
+ghost use Rattle.listing_laws.specs.ListedCone.{ListedCone};
 ghost use Rattle.plain_enum.specs.Columns.{HasRows};
-ghost use Rattle.plain_enum.specs.Listed.{WritesUnder};
+ghost use Rattle.plain_enum.specs.Listed.{WritesUnder, HasShapeOf, IsAt};
 
 use crate::shown::{shown_side, write_direction};
-use crate::side::last_coordinate;
+use crate::side::{column_of, last_coordinate};
 use dictionary::Dict;
 use poly_io::{Sink, WriteFault};
-use poly_model::{Overflow, System};
+use poly_model::{Label, Overflow, System};
 use poly_num::Num;
 use row_printer::Listing;
 
@@ -64,5 +69,63 @@ pub fn show<S: Sink>(
             rows: rows.saturating_add(1),
         }),
         Err(WriteFault) => Err(PlainStop::WriteFault),
+    }
+}
+
+// Makes the next dictionary the one of the cobasis in which a row has taken the place of a column. Where that overflows,
+// the next one is as this one.
+fn take_row(at: &Dict, row: Label, col: Label, next: &mut Dict) -> Result<(), Overflow>
+    requires can { CanPivot at.now row.0 col.0 }
+    requires shape { HasShapeOf at.now next.old }
+    ensures pivoted { IfOk result (λ _. IsPivot at.now row.0 col.0 next.new) }
+    ensures passes { IfErr result (λ o. IsOverflow at.now row.0 col.0 o) }
+    ensures shape { HasShapeOf at.now next.new }
+{
+    at.copy_into(next);
+    next.pivot(row, col)
+}
+
+/// Shows the vectors under a prefix of rows: those whose first list of tight rows has, of the rows before the label
+/// `from`, exactly the ones that `at` has in its cobasis. `deeper` has a dictionary of the same shape for each further
+/// row that a list takes; what they hold is written over.
+pub fn list_under<S: Sink>(
+    sys: &System,
+    at: &Dict,
+    deeper: &mut [Dict],
+    from: u32,
+    vector: &mut [Num],
+    shown: Shown,
+    out: &mut S,
+) -> Result<Shown, PlainStop>
+    requires rows { HasRows (length sys.now.rows) at.now }
+    requires from { 0 < from }
+    requires shapes { All (HasShapeOf at.now) deeper.old }
+    requires vector { length vector.old ≡ sys.now.n }
+    requires kind { shown.listing ≡ sys.now.kind }
+    ensures written { WritesUnder sys.now at.now from (length deeper.old) sys.now.kind (S.written out.old) (S.written out.new) result }
+    ensures passes { (o : Passed) → IsErrOf result (PlainStop.Overflow o) → (p : Polyhedron) (cone : ListedCone) (fixed left : List ℕ) (marks : List Bool) →
+        IsAt sys.now at.now from (length deeper.old) p cone fixed left marks → Passes p o }
+    ensures shapes { All (HasShapeOf at.now) deeper.new }
+    ensures depth { length deeper.new ≡ length deeper.old }
+    ensures vector { length vector.new ≡ sys.now.n }
+    ensures kind { IfOk result (λ s. s.listing ≡ sys.now.kind) }
+    ensures later { S.faults out.old ≤ S.faults out.new }
+    ensures fault { IsErrOf result PlainStop.WriteFault → Rose (S.faults out.old) (S.faults out.new) }
+{
+    match deeper.split_first_mut() {
+        None => show(sys, at, from, vector, shown, out),
+        Some((next, others)) => {
+            let mut shown = shown;
+            'rows: for i in from..sys.rows() + 1 {
+                let row = Label(i as u16);
+                if let Some(col) = column_of(at, row) {
+                    if let Err(overflow) = take_row(at, row, col, next) {
+                        return Err(PlainStop::Overflow(overflow));
+                    }
+                    shown = list_under(sys, next, others, i + 1, vector, shown, out)?;
+                }
+            }
+            Ok(shown)
+        }
     }
 }

@@ -1,8 +1,8 @@
 //! Which way along a column the cone lies, and whether the rows of the cobasis are its first list.
-ghost use Rattle.std.specs.Prelude.{◌≡◌, ◌≤◌, ◌<◌, ◌↔◌, ℕ, IsTrue, IsNone, IfSome, pos, ◌≤ℤ◌, []};
+ghost use Rattle.std.specs.Prelude.{◌≡◌, ◌≤◌, ◌<◌, ◌↔◌, ℕ, IsTrue, IsFalse, IsNone, IfSome, pos, ◌≤ℤ◌, []};
 ghost use Rattle.std.specs.List.{Contains};
 ghost use Rattle.poly_model.specs.Dictionaries.{Table};
-ghost use Rattle.dictionary.specs.Views.{table_of};
+ghost use Rattle.dictionary.specs.Views.{table_of, CanPivot};
 ghost use Rattle.plain_enum.specs.Columns.{HasRows, IsOnSide, IsFirst, IsColumnOf, HasNoColumn, IsLastLabel};
 
 use dictionary::Dict;
@@ -106,17 +106,31 @@ fn is_zero_if_later(at: &Dict, row: Label, label: Label) -> bool
     }
 }
 
-/// A coordinate in the cobasis at which a row is not 0: the last one, since numbers are smallest while `x0` is
-/// in the cobasis.
+// Whether a label of the cobasis is a coordinate at which a row is not 0: then the row can take its place.
+fn is_column(at: &Dict, row: Label, label: Label) -> bool
+    requires label { Contains at.now.labels row.0 }
+    requires row { row.0 < 8192 }
+    requires column { Contains at.now.key label.0 }
+    ensures column { IsTrue result → IsColumnOf at.now row.0 label.0 }
+    ensures pivots { IsTrue result → CanPivot at.now row.0 label.0 }
+    ensures zero { IsFalse result → 8192 ≤ label.0 → Table.entry (table_of at.now) row.0 label.0 ≡ pos 0 }
+{
+    label.0 >= 8192 && at.entry(row, label).get() != 0
+}
+
+/// A coordinate in the cobasis at which a row is not 0, so that the row can take its place: the last one, since
+/// numbers are smallest while `x0` is in the cobasis.
 pub fn column_of(at: &Dict, row: Label) -> Option<Label>
-    requires { Contains at.now.labels row.0 }
+    requires label { Contains at.now.labels row.0 }
+    requires row { row.0 < 8192 }
     ensures some { IfSome result (λ k. IsColumnOf at.now row.0 k.0) }
+    ensures pivots { IfSome result (λ k. CanPivot at.now row.0 k.0) }
     ensures none { IsNone result → HasNoColumn at.now row.0 }
 {
     let key = at.key();
     let mut found = None;
     'labels: for label in key.labels() {
-        if *label >= 8192 && at.entry(row, Label(*label)).get() != 0 {
+        if is_column(at, row, Label(*label)) {
             found = Some(Label(*label));
         }
     }

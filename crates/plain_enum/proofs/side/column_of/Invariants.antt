@@ -1,7 +1,7 @@
 use Rattle.std.proofs.Common.{◌≡◌, ℕ, ◌≤◌, pos, take, IsNone, IfSome}
 use Rattle.std.specs.List.{Contains}
 use Rattle.poly_model.specs.Dictionaries.{Table}
-use Rattle.dictionary.specs.Views.{table_of}
+use Rattle.dictionary.specs.Views.{table_of, CanPivot}
 use Rattle.plain_enum.specs.Columns.{IsColumnOf}
 use Rattle.plain_enum.proofs.side.column_of.Given as goal
 
@@ -10,6 +10,7 @@ abbrev pub invariant-labels : goal.invariant-labels
 invariant-labels l =
     record {
       some : IfSome l.found (λ k. IsColumnOf l.at l.row.0 k.0);
+      pivots : IfSome l.found (λ k. CanPivot l.at l.row.0 k.0);
       none : IsNone l.found → (k : ℕ) → Contains (take l.label-index l.label-items) k → 8192 ≤ k →
           Table.entry (table_of l.at) l.row.0 k ≡ pos 0;
     }
