@@ -1,7 +1,7 @@
 -- The loop over the rows behind a prefix: what is written when it begins, after a row, where it ends and where it stops.
 use Rattle.std.specs.Prelude.{Result, IsErrOf}
 use Rattle.poly_model.specs.Independence.{IsNew}
-use Rattle.std.proofs.Common.{◌≡◌, ◌≢◌, ⊎_elim, Bool, true, false, ℕ, zero, suc, ◌+◌, ◌<◌, ◌≤◌, List, [], ◌∷◌, ◌++◌, length, length-append, Option, Ok, Err, refl, sym, ap, subst, ◌∙◌, arith, pos, append-nil}
+use Rattle.std.proofs.Common.{◌≡◌, ◌≢◌, ⊎_elim, Bool, true, false, ℕ, zero, suc, ◌+◌, ◌^◌, ◌<◌, ◌≤◌, List, [], ◌∷◌, ◌++◌, length, length-append, Option, Ok, Err, refl, sym, ap, subst, ◌∙◌, arith, pos, append-nil}
 use Rattle.std.specs.Result.{IsErr}
 use Rattle.std.specs.List.{All, Contains, flat_map}
 use Rattle.std.specs.Io.KnownBytes.{Appends}
@@ -29,13 +29,15 @@ use Rattle.listing_laws.proofs.ConeLemmas.{is_listable}
 use Rattle.listing_laws.proofs.FirstLists.{length-taken, labels-with}
 use Rattle.listing_laws.proofs.PrefixLemmas.{loop_begins, loop_skips, loop_takes, loop_ends}
 use Rattle.listing_laws.proofs.WholeLists.{loop_stops, loop_stops_within}
+use Rattle.plain_enum.specs.declared.answers.Shown.{Shown}
 use Rattle.plain_enum.specs.Columns.{HasRows, IsColumnOf, HasNoColumn}
-use Rattle.plain_enum.specs.Listed.{IsAt, WritesRows, WritesUnder, HasShapeOf}
+use Rattle.plain_enum.specs.Listed.{IsAt, counted, HasWritten, WritesRows, WritesUnder, HasShapeOf}
 use Rattle.plain_enum.specs.Standing.{parted, StandsAt}
 use Rattle.plain_enum.proofs.Counting.{length_of_cobasis}
 use Rattle.plain_enum.proofs.Parts.{in_third}
 use Rattle.plain_enum.proofs.RowsTaken.{as_many}
 use Rattle.plain_enum.proofs.Standings.{stands_dictionary, taken_within, new_by_entry, follows_by_entries}
+use Rattle.plain_enum.proofs.ShowUnder.{counted_none}
 use Rattle.plain_enum.proofs.Steps.{pivot_takes, dictionary_stays}
 
 -- ---- dictionaries of one shape
@@ -85,6 +87,18 @@ rows_then kind a b c xs ys f g =
     subst (λ t. Appends a c t) (sym (flat_map-append (row_text kind) xs ys))
     (Appends-trans a b c (flat_map (row_text kind) xs) (flat_map (row_text kind) ys) f g)
 
+-- a count goes on
+counted_on : (rows a b : ℕ) → counted (counted rows a) b ≡ counted rows (a + b)
+counted_on rows a b = omega arith
+
+written_on : (kind : Kind) (a b c : Option (List ℕ)) (rows now then : ℕ) (xs ys : List Vector) → HasWritten kind a b rows now xs →
+    HasWritten kind b c now then ys → HasWritten kind a c rows then (xs ++ ys)
+written_on kind a b c rows now then xs ys f g = record {
+  bytes = rows_then kind a b c xs ys f.bytes g.bytes;
+  count = g.count ∙ ap (λ n. counted n (length ys)) f.count ∙ counted_on rows (length xs) (length ys)
+      ∙ ap (counted rows) (sym (length-append xs ys));
+}
+
 rows_part : (kind : Kind) (a b c : Option (List ℕ)) (xs ys : List Vector) → Appends a b (flat_map (row_text kind) xs) →
     AppendsPart b c (flat_map (row_text kind) ys) → AppendsPart a c (flat_map (row_text kind) (xs ++ ys))
 rows_part kind a b c xs ys f g =
@@ -100,43 +114,43 @@ rows_all kind a b xs f = record {
   bytes = f;
 }
 
-writes_beginning : {T E : Type 0} (kind : Kind) (old new : Option (List ℕ)) (xs : List Vector) (P : Vector → Type 0)
-    (result : Result T E) → IsErr result → Begins P xs → AppendsPart old new (flat_map (row_text kind) xs) →
-    WritesRows kind old new result P
-writes_beginning kind old new xs P (Ok x) r b a = absurd (let e : false ≡ true = r in cc)
-writes_beginning kind old new xs P (Err y) r b a = record { whole = tt; part = (xs, b, a) }
+writes_beginning : {E : Type 0} (kind : Kind) (rows : ℕ) (old new : Option (List ℕ)) (xs : List Vector) (P : Vector → Type 0)
+    (result : Result Shown E) → IsErr result → Begins P xs → AppendsPart old new (flat_map (row_text kind) xs) →
+    WritesRows kind rows old new result P
+writes_beginning kind rows old new xs P (Ok x) r b a = absurd (let e : false ≡ true = r in cc)
+writes_beginning kind rows old new xs P (Err y) r b a = record { whole = tt; part = (xs, b, a) }
 
 -- ---- the loop
 -- of the vectors under the prefix these are written, and those under the marks, at which the dictionary stands, are left
-pub record IsInLoop (p : Polyhedron) (cone : ListedCone) (d : Dictionary) (fixed left : List ℕ) (prefix : List Bool) (kind : Kind) (old now : Option (List ℕ)) (i : ℕ) : Type 0 where
+pub record IsInLoop (p : Polyhedron) (cone : ListedCone) (d : Dictionary) (fixed left : List ℕ) (prefix : List Bool) (kind : Kind) (rows count : ℕ) (old now : Option (List ℕ)) (i : ℕ) : Type 0 where
   pub marks : List Bool
   pub next : i ≡ length marks + 1
   pub stands : StandsAt p cone d fixed left marks
   pub shown : List Vector
   pub listed : IsListedUpTo cone prefix marks shown
-  pub written : Appends old now (flat_map (row_text kind) shown)
+  pub written : HasWritten kind old now rows count shown
 
 -- so it is wherever the dictionary stands
-abbrev pub InLoop : System → Dictionary → ℕ → ℕ → Kind → Option (List ℕ) → Option (List ℕ) → ℕ → Type 0
-InLoop sys d from depth kind old now i =
+abbrev pub InLoop : System → Dictionary → ℕ → ℕ → ℕ → ℕ → Option (List ℕ) → Option (List ℕ) → ℕ → Type 0
+InLoop sys d from depth rows count old now i =
     (p : Polyhedron) (cone : ListedCone) (fixed left : List ℕ) (prefix : List Bool) →
-    IsAt sys d from depth p cone fixed left prefix → IsInLoop p cone d fixed left prefix kind old now i
+    IsAt sys d from depth p cone fixed left prefix → IsInLoop p cone d fixed left prefix sys.kind rows count old now i
 
-pub loop_start : (sys : System) (d : Dictionary) (from depth : ℕ) (kind : Kind) (old : Option (List ℕ)) →
-    InLoop sys d from depth kind old old from
-loop_start sys d from depth kind old p cone fixed left prefix at = record {
+pub loop_start : (sys : System) (d : Dictionary) (from depth : ℕ) (rows : ℕ) (old : Option (List ℕ)) → rows < 2 ^ 64 →
+    InLoop sys d from depth rows rows old old from
+loop_start sys d from depth rows old few p cone fixed left prefix at = record {
   marks = prefix;
   next = at.next;
   stands = at.stands;
   shown = [];
   listed = loop_begins cone prefix;
-  written = Appends-nil old;
+  written = record { bytes = Appends-nil old; count = counted_none rows few };
 }
 
-module _ (sys : System) (d : Dictionary) (from depth : ℕ) (kind : Kind) (old now : Option (List ℕ)) (i : ℕ)
+module _ (sys : System) (d : Dictionary) (from depth rows count : ℕ) (old now : Option (List ℕ)) (i : ℕ)
     (p : Polyhedron) (cone : ListedCone) (fixed left : List ℕ) (prefix : List Bool)
     (at : IsAt sys d from depth p cone fixed left prefix)
-    (s : IsInLoop p cone d fixed left prefix kind old now i) where
+    (s : IsInLoop p cone d fixed left prefix sys.kind rows count old now i) where
   listable : IsListable cone
   listable = is_listable sys cone at.is_cone
 
@@ -148,7 +162,7 @@ module _ (sys : System) (d : Dictionary) (from depth : ℕ) (kind : Kind) (old n
         let same = ap (λ (t : System). length t.rows) at.file in
         omega (arith, rows, same, s.next)
 
-    pub skipped : HasNoColumn d i → IsInLoop p cone d fixed left prefix kind old now (i + 1)
+    pub skipped : HasNoColumn d i → IsInLoop p cone d fixed left prefix sys.kind rows count old now (i + 1)
     skipped none = record {
       marks = s.marks ++ false ∷ [];
       next = omega (arith, length-append s.marks (false ∷ []), s.next);
@@ -205,15 +219,15 @@ module _ (sys : System) (d : Dictionary) (from depth : ℕ) (kind : Kind) (old n
 
       -- what the deeper dictionary writes
       module _ (less : ℕ) (e : suc less ≡ depth) (later : Option (List ℕ)) where
-        abbrev Below : {T E : Type 0} → Result T E → Type 0
-        Below result = WritesUnder sys new (i + 1) less kind now later result
+        abbrev Below : {E : Type 0} → Result Shown E → Type 0
+        Below result = WritesUnder sys new (i + 1) less count now later result
 
-        rows_below : {T E : Type 0} (result : Result T E) → Below result →
-            WritesRows kind now later result (IsUnder cone (s.marks ++ true ∷ []))
+        rows_below : {E : Type 0} (result : Result Shown E) → Below result →
+            WritesRows sys.kind count now later result (IsUnder cone (s.marks ++ true ∷ []))
         rows_below result w = w p cone fixed (without k left) (s.marks ++ true ∷ []) (deeper less e)
 
-        pub goes_on : {T E : Type 0} (x : T) → Below {T = T} {E = E} (Ok x) →
-            IsInLoop p cone d fixed left prefix kind old later (i + 1)
+        pub goes_on : {E : Type 0} (x : Shown) → Below {E = E} (Ok x) →
+            IsInLoop p cone d fixed left prefix sys.kind rows x.rows old later (i + 1)
         goes_on x w =
             let more = (rows_below (Ok x) w).whole in
             record {
@@ -222,30 +236,30 @@ module _ (sys : System) (d : Dictionary) (from depth : ℕ) (kind : Kind) (old n
               stands = dictionary_stays p cone d fixed left s.marks s.stands before;
               shown = s.shown ++ more.0;
               listed = loop_takes cone s.marks before prefix s.shown more.0 is_new s.listed more.1;
-              written = rows_then kind old now later s.shown more.0 s.written more.2;
+              written = written_on sys.kind old now later rows count x.rows s.shown more.0 s.written more.2;
             }
 
-        pub breaks : {T E U F : Type 0} (x : E) (result : Result U F) → IsErr result → Below {T = T} {E = E} (Err x) →
-            WritesRows kind old later result (IsUnder cone prefix)
+        pub breaks : {E F : Type 0} (x : E) (result : Result Shown F) → IsErr result → Below {E = E} (Err x) →
+            WritesRows sys.kind rows old later result (IsUnder cone prefix)
         breaks x result r w =
             let more = (rows_below (Err x) w).part in
-            writes_beginning kind old later (s.shown ++ more.0) (IsUnder cone prefix) result r
+            writes_beginning sys.kind rows old later (s.shown ++ more.0) (IsUnder cone prefix) result r
             (loop_stops_within cone listable prefix s.marks s.shown more.0 before is_new s.listed more.1)
-            (rows_part kind old now later s.shown more.0 s.written more.2)
+            (rows_part sys.kind old now later s.shown more.0 s.written.bytes more.2)
 
   -- ---- where it stops and where it ends
-  pub stops : {T E : Type 0} (y : E) → WritesRows {T = T} {E = E} kind old now (Err y) (IsUnder cone prefix)
+  pub stops : {E : Type 0} (y : E) → WritesRows {E = E} sys.kind rows old now (Err y) (IsUnder cone prefix)
   stops y =
-      writes_beginning kind old now s.shown (IsUnder cone prefix) (Err y) refl
-      (loop_stops cone listable prefix s.marks s.shown s.stands.within s.listed) (rows_all kind old now s.shown s.written)
+      writes_beginning sys.kind rows old now s.shown (IsUnder cone prefix) (Err y) refl
+      (loop_stops cone listable prefix s.marks s.shown s.stands.within s.listed) (rows_all sys.kind old now s.shown s.written.bytes)
 
-  pub ends : {T E : Type 0} (x : T) → length sys.rows < i → 0 < depth →
-      WritesRows {T = T} {E = E} kind old now (Ok x) (IsUnder cone prefix)
-  ends x behind some = record {
+  pub ends : {E : Type 0} (x : Shown) → x.rows ≡ count → length sys.rows < i → 0 < depth →
+      WritesRows {E = E} sys.kind rows old now (Ok x) (IsUnder cone prefix)
+  ends x same behind some = record {
     whole = (
       s.shown,
       loop_ends cone listable prefix s.marks s.shown all short s.listed,
-      s.written,
+      subst (λ n. HasWritten sys.kind old now rows n s.shown) (sym same) s.written,
     );
     part = tt;
   }

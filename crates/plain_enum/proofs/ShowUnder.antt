@@ -1,5 +1,5 @@
 -- What is shown where the dictionary stands and one label is left: the last label of the key is the one that is left.
-use Rattle.std.proofs.Common.{◌≡◌, ⊎_elim, Bool, ℕ, ◌-◌, ◌<◌, ◌≤◌, List, [], ◌∷◌, length, map, refl, sym, ap, subst, ◌∙◌, arith, append-nil, Option, Ok, Err}
+use Rattle.std.proofs.Common.{◌≡◌, ⊎_elim, Bool, ℕ, ◌-◌, ◌^◌, ◌<◌, ◌≤◌, List, [], ◌∷◌, length, map, refl, sym, ap, subst, ◌∙◌, arith, append-nil, Option, Ok, Err}
 use Rattle.std.specs.List.{Contains, flat_map, range_with_len}
 use Rattle.std.specs.Io.KnownBytes.{Appends}
 use Rattle.std.proofs.KnownBytes.{Appends-nil}
@@ -20,9 +20,10 @@ use Rattle.listing_laws.specs.ListedCone.{ListedCone, IsConeOf}
 use Rattle.listing_laws.specs.Lists.{Lists}
 use Rattle.listing_laws.specs.Prefixes.{labels_of, IsUnder}
 use Rattle.plain_enum.specs.declared.side.Side.{Side}
+use Rattle.plain_enum.specs.declared.answers.Shown.{Shown}
 use Rattle.plain_enum.specs.Columns.{IsLastLabel}
 use Rattle.plain_enum.specs.Shown.{IsShownOn, primitive_column, vector_on}
-use Rattle.plain_enum.specs.Listed.{IsAt, WritesRows}
+use Rattle.plain_enum.specs.Listed.{IsAt, counted, HasWritten, WritesRows}
 use Rattle.plain_enum.specs.Standing.{StandsAt, LeavesColumn}
 use Rattle.plain_enum.proofs.Parts.{in_third}
 use Rattle.plain_enum.proofs.RowsTaken.{as_many}
@@ -31,21 +32,34 @@ use Rattle.plain_enum.proofs.OneLeft.{one_is_left}
 use Rattle.plain_enum.proofs.ColumnShown.{one_on, none_on}
 
 -- ---- rows written
-pub writes_none : {T E : Type 0} (kind : Kind) (old : Option (List ℕ)) (x : T) (P : Vector → Type 0) → Lists P [] →
-    WritesRows {T = T} {E = E} kind old old (Ok x) P
-writes_none kind old x P l = record { whole = ([], l, Appends-nil old); part = tt }
+pub counted_none : (rows : ℕ) → rows < 2 ^ 64 → rows ≡ counted rows 0
+counted_none rows l = omega arith
+
+pub writes_none : {E : Type 0} (kind : Kind) (old : Option (List ℕ)) (s : Shown) (P : Vector → Type 0) → s.rows < 2 ^ 64 →
+    Lists P [] → WritesRows {E = E} kind s.rows old old (Ok s) P
+writes_none kind old s P few l = record {
+  whole = ([], l, record { bytes = Appends-nil old; count = counted_none s.rows few });
+  part = tt;
+}
 
 one_text : (kind : Kind) (y : Vector) → flat_map (row_text kind) (y ∷ []) ≡ row_text kind y
 one_text kind y = flat_map-cons (row_text kind) y [] ∙ append-nil (row_text kind y)
 
-pub writes_one : {T E : Type 0} (kind : Kind) (old new : Option (List ℕ)) (x : T) (y : Vector) (P : Vector → Type 0) →
-    Lists P (y ∷ []) → Appends old new (row_text kind y) → WritesRows {T = T} {E = E} kind old new (Ok x) P
-writes_one kind old new x y P l a =
-    record { whole = (y ∷ [], l, subst (λ t. Appends old new t) (sym (one_text kind y)) a); part = tt }
+pub writes_one : {E : Type 0} (kind : Kind) (rows : ℕ) (old new : Option (List ℕ)) (s : Shown) (y : Vector) (P : Vector → Type 0) →
+    s.rows ≡ counted rows 1 → Lists P (y ∷ []) → Appends old new (row_text kind y) →
+    WritesRows {E = E} kind rows old new (Ok s) P
+writes_one kind rows old new s y P count l a = record {
+  whole = (
+    y ∷ [],
+    l,
+    record { bytes = subst (λ t. Appends old new t) (sym (one_text kind y)) a; count = count },
+  );
+  part = tt;
+}
 
-pub writes_part : {T E : Type 0} (kind : Kind) (old new : Option (List ℕ)) (e : E) (y : Vector) (P : Vector → Type 0) →
-    Lists P (y ∷ []) → AppendsPart old new (row_text kind y) → WritesRows {T = T} {E = E} kind old new (Err e) P
-writes_part kind old new e y P l a =
+pub writes_part : {E : Type 0} (kind : Kind) (rows : ℕ) (old new : Option (List ℕ)) (e : E) (y : Vector) (P : Vector → Type 0) →
+    Lists P (y ∷ []) → AppendsPart old new (row_text kind y) → WritesRows {E = E} kind rows old new (Err e) P
+writes_part kind rows old new e y P l a =
     record { whole = tt; part = (y ∷ [], ([], l), subst (λ t. AppendsPart old new t) (sym (one_text kind y)) a) }
 
 -- ---- the label that is left

@@ -4,13 +4,15 @@
 //! What is stated stands in `specs/`.
 #![tactic(auto)]
 
+mod answers;
 mod list;
 mod shown;
 mod side;
 
 ghost use Rattle.plain_enum.specs.Laws.{ValuesAtColumns, NewByEntry, FollowsByEntries, OneIsLeft, TestByEntries, BeginsAtCoordinates, PivotTakes, DictionaryStays};
 
-pub use list::{PlainStop, Shown, list_under, show};
+pub use answers::{PlainStop, Shown};
+pub use list::{list_under, show};
 pub use side::{Side, column_of};
 
 /// The column of a label of the key is a vector at which each label has its entry there as value.

@@ -11,28 +11,13 @@ ghost use Rattle.listing_laws.specs.ListedCone.{ListedCone};
 ghost use Rattle.plain_enum.specs.Columns.{HasRows};
 ghost use Rattle.plain_enum.specs.Listed.{WritesUnder, HasShapeOf, IsAt};
 
+use crate::answers::{PlainStop, Shown};
 use crate::shown::{shown_side, write_direction};
 use crate::side::{column_of, last_coordinate};
 use dictionary::Dict;
 use poly_io::{Sink, WriteFault};
 use poly_model::{Label, Overflow, System};
 use poly_num::Num;
-use row_printer::Listing;
-
-/// Why a listing was given up. What was written by then is left as it is.
-#[derive(Clone, Copy, PartialEq, Eq, Debug)]
-pub enum PlainStop {
-    Overflow(Overflow),
-    WriteFault,
-    Memory,
-}
-
-/// A listing on its way, and how many rows it has.
-#[derive(Drop)]
-pub struct Shown {
-    pub listing: Listing,
-    pub rows: u64,
-}
 
 /// Shows the direction that is left, if its column is shown on some side. `from` is the label of the first row
 /// that is not decided yet.
@@ -47,7 +32,7 @@ pub fn show<S: Sink>(
     requires rows { HasRows (length sys.now.rows) at.now }
     requires vector { length vector.old ≡ sys.now.n }
     requires kind { shown.listing ≡ sys.now.kind }
-    ensures written { WritesUnder sys.now at.now from 0 sys.now.kind (S.written out.old) (S.written out.new) result }
+    ensures written { WritesUnder sys.now at.now from 0 shown.rows (S.written out.old) (S.written out.new) result }
     ensures passes { (o : Passed) → IsErrOf result (PlainStop.Overflow o) → ⊥ }
     ensures vector { length vector.new ≡ sys.now.n }
     ensures kind { IfOk result (λ s. s.listing ≡ sys.now.kind) }
@@ -102,7 +87,7 @@ pub fn list_under<S: Sink>(
     requires shapes { All (HasShapeOf at.now) deeper.old }
     requires vector { length vector.old ≡ sys.now.n }
     requires kind { shown.listing ≡ sys.now.kind }
-    ensures written { WritesUnder sys.now at.now from (length deeper.old) sys.now.kind (S.written out.old) (S.written out.new) result }
+    ensures written { WritesUnder sys.now at.now from (length deeper.old) shown.rows (S.written out.old) (S.written out.new) result }
     ensures passes { (o : Passed) → IsErrOf result (PlainStop.Overflow o) → (p : Polyhedron) (cone : ListedCone) (fixed left : List ℕ) (marks : List Bool) →
         IsAt sys.now at.now from (length deeper.old) p cone fixed left marks → Passes p o }
     ensures shapes { All (HasShapeOf at.now) deeper.new }

@@ -3,7 +3,8 @@ use Rattle.std.proofs.lemmas.Result.{err_from_is_err_and}
 use Rattle.std.specs.List.{All}
 use Rattle.poly_model.specs.declared.overflow.Overflow.{Overflow}
 use Rattle.dictionary.specs.Views.{IsOverflow}
-use Rattle.plain_enum.specs.declared.list.PlainStop.TheVariants as PlainStop
+use Rattle.plain_enum.specs.declared.answers.PlainStop.TheVariants as PlainStop
+use Rattle.plain_enum.specs.declared.answers.Shown.{Shown}
 use Rattle.plain_enum.specs.Listed.{HasShapeOf, IsAt}
 use Rattle.plain_enum.proofs.LoopUnder.{IsInLoop, err_of, loop_start, skipped, goes_on, breaks, stops, ends, overflows, deeper, shape_first, shapes_rest, shapes_move, shapes_back, shapes_joined, rows_stay}
 use Rattle.plain_enum.proofs.list.+list_under.Goals.{in-Some-column_of+in_default-take_row+in_ok-shown-in-Some, in_default}
@@ -18,20 +19,20 @@ rows-init g t c =
       vector = c.requires.vector;
       kind = c.requires.kind;
       later = omega arith;
-      written = loop_start c.args.sys.now c.args.at.now c.args.from (length c.args.deeper.now) c.args.sys.now.kind
-          (g.S.Sink.written c.args.out.now);
+      written = loop_start c.args.sys.now c.args.at.now c.args.from (length c.args.deeper.now) c.args.shown.rows
+          (g.S.Sink.written c.args.out.now) c.args.shown.few;
     }
 
 pub returns-in-Err-clause-written : goal.returns-in-Err-clause-written
 returns-in-Err-clause-written g t c p cone fixed left marks at =
-    stops c.args.sys.now c.args.at.now c.args.from (length c.args.deeper.now) c.args.sys.now.kind
+    stops c.args.sys.now c.args.at.now c.args.from (length c.args.deeper.now) c.args.shown.rows c.rows.shown.rows
     (g.S.Sink.written c.args.out.now) (g.S.Sink.written c.rows.out) c.rows.i p cone fixed left marks at
     (c.rows.invariant.written p cone fixed left marks at) _
 
 pub returns-in-Err-clause-passes : goal.returns-in-Err-clause-passes
 returns-in-Err-clause-passes g t c o e p cone fixed left marks at =
     let same : c.in-Err.overflow ≡ o = cc in
-    overflows c.args.sys.now c.args.at.now c.args.from (length c.args.deeper.now) c.args.sys.now.kind
+    overflows c.args.sys.now c.args.at.now c.args.from (length c.args.deeper.now) c.args.shown.rows c.rows.shown.rows
     (g.S.Sink.written c.args.out.now) (g.S.Sink.written c.rows.out) c.rows.i p cone fixed left marks at
     (c.rows.invariant.written p cone fixed left marks at) c.in-Some-column_of.col.0 o
     c.in-Some-column_of.ensures.pivots
@@ -62,7 +63,7 @@ list_under-requires g t c κs within = (
 
 pub returns-in_err-shown-in-Some-clause-written : goal.returns-in_err-shown-in-Some-clause-written
 returns-in_err-shown-in-Some-clause-written g t c p cone fixed left marks at =
-    breaks c.args.sys.now c.args.at.now c.args.from (length c.args.deeper.now) c.args.sys.now.kind
+    breaks c.args.sys.now c.args.at.now c.args.from (length c.args.deeper.now) c.args.shown.rows c.rows.shown.rows
     (g.S.Sink.written c.args.out.now) (g.S.Sink.written c.rows.out) c.rows.i p cone fixed left marks at
     (c.rows.invariant.written p cone fixed left marks at) (omega (arith, c.rows-test.true, c.rows-i-end.ensures.value))
     c.in-Some-column_of.col.0 c.in-Some-column_of.ensures.some c.take_row.new.next c.in_default-take_row.ensures.pivoted
@@ -75,7 +76,7 @@ returns-in_err-shown-in-Some-clause-passes g t c o e p cone fixed left marks at 
     let far : c.in_err-shown-in-Some.field-0.0 ≡ PlainStop.Overflow o = sym q.2 ∙ err_of c.from_residual.result (PlainStop.Overflow o) q.0 e q.1 in
     let now = c.rows.invariant.written p cone fixed left marks at in
     c.in_err-shown-in-Some.ensures.passes o (ap (λ v. Err v) far) p cone fixed _ _
-    (deeper c.args.sys.now c.args.at.now c.args.from (length c.args.deeper.now) c.args.sys.now.kind
+    (deeper c.args.sys.now c.args.at.now c.args.from (length c.args.deeper.now) c.args.shown.rows c.rows.shown.rows
     (g.S.Sink.written c.args.out.now) (g.S.Sink.written c.rows.out) c.rows.i p cone fixed left marks at now
     (omega (arith, c.rows-test.true, c.rows-i-end.ensures.value)) c.in-Some-column_of.col.0 c.in-Some-column_of.ensures.some
     c.take_row.new.next c.in_default-take_row.ensures.pivoted (length c.rows.others) (omega (arith, c.rows.invariant.depth)))
@@ -93,15 +94,17 @@ rows-preserved g t c =
         kind = ap (λ s. s.listing) w.shown-is ∙ w.in_ok-shown-in-Some.ensures.kind;
         later = omega (arith, ap g.S.Sink.faults w.out-is, w.in_ok-shown-in-Some.ensures.later, c.rows.invariant.later);
         written = λ p cone fixed left prefix at.
-            subst (λ o. IsInLoop p cone c.args.at.now fixed left prefix c.args.sys.now.kind (g.S.Sink.written c.args.out.now)
-            (g.S.Sink.written o) (c.rows.i + 1)) (sym w.out-is)
-            (goes_on c.args.sys.now c.args.at.now c.args.from (length c.args.deeper.now) c.args.sys.now.kind
+            subst (λ (s : Shown). IsInLoop p cone c.args.at.now fixed left prefix c.args.sys.now.kind c.args.shown.rows s.rows
+            (g.S.Sink.written c.args.out.now) (g.S.Sink.written c.match-column_of.out) (c.rows.i + 1)) (sym w.shown-is)
+            (subst (λ o. IsInLoop p cone c.args.at.now fixed left prefix c.args.sys.now.kind c.args.shown.rows w.in_ok-shown-in-Some.shown.rows
+            (g.S.Sink.written c.args.out.now) (g.S.Sink.written o) (c.rows.i + 1)) (sym w.out-is)
+            (goes_on c.args.sys.now c.args.at.now c.args.from (length c.args.deeper.now) c.args.shown.rows c.rows.shown.rows
             (g.S.Sink.written c.args.out.now) (g.S.Sink.written c.rows.out) c.rows.i p cone fixed left prefix at
             (c.rows.invariant.written p cone fixed left prefix at)
             (omega (arith, c.rows-test.true, c.rows-i-end.ensures.value)) w.in-Some-column_of.col.0
             w.in-Some-column_of.ensures.some w.take_row.new.next w.in_default-take_row.ensures.pivoted
             (length c.rows.others) (omega (arith, c.rows.invariant.depth)) (g.S.Sink.written w.list_under.new.out) _
-            w.in_ok-shown-in-Some.ensures.written);
+            w.in_ok-shown-in-Some.ensures.written));
       }
       | in_default w ↦ record {
         shape = subst (HasShapeOf c.args.at.now) (sym w.next-is) c.rows.invariant.shape;
@@ -111,12 +114,14 @@ rows-preserved g t c =
         kind = ap (λ s. s.listing) w.shown-is ∙ c.rows.invariant.kind;
         later = omega (arith, ap g.S.Sink.faults w.out-is, c.rows.invariant.later);
         written = λ p cone fixed left prefix at.
-            subst (λ o. IsInLoop p cone c.args.at.now fixed left prefix c.args.sys.now.kind (g.S.Sink.written c.args.out.now)
-            (g.S.Sink.written o) (c.rows.i + 1)) (sym w.out-is)
-            (skipped c.args.sys.now c.args.at.now c.args.from (length c.args.deeper.now) c.args.sys.now.kind
+            subst (λ (s : Shown). IsInLoop p cone c.args.at.now fixed left prefix c.args.sys.now.kind c.args.shown.rows s.rows
+            (g.S.Sink.written c.args.out.now) (g.S.Sink.written c.match-column_of.out) (c.rows.i + 1)) (sym w.shown-is)
+            (subst (λ o. IsInLoop p cone c.args.at.now fixed left prefix c.args.sys.now.kind c.args.shown.rows c.rows.shown.rows
+            (g.S.Sink.written c.args.out.now) (g.S.Sink.written o) (c.rows.i + 1)) (sym w.out-is)
+            (skipped c.args.sys.now c.args.at.now c.args.from (length c.args.deeper.now) c.args.shown.rows c.rows.shown.rows
             (g.S.Sink.written c.args.out.now) (g.S.Sink.written c.rows.out) c.rows.i p cone fixed left prefix at
             (c.rows.invariant.written p cone fixed left prefix at)
-            (omega (arith, c.rows-test.true, c.rows-i-end.ensures.value)) (w.in_default.ensures.none refl));
+            (omega (arith, c.rows-test.true, c.rows-i-end.ensures.value)) (w.in_default.ensures.none refl)));
       }
     ]
 
@@ -127,6 +132,6 @@ returns-in-None-clause-written g t c p cone fixed left marks at =
 
 pub returns-after-rows-clause-written : goal.returns-after-rows-clause-written
 returns-after-rows-clause-written g t c p cone fixed left marks at =
-    ends c.args.sys.now c.args.at.now c.args.from (length c.args.deeper.now) c.args.sys.now.kind
+    ends c.args.sys.now c.args.at.now c.args.from (length c.args.deeper.now) c.args.shown.rows c.rows.shown.rows
     (g.S.Sink.written c.args.out.now) (g.S.Sink.written c.rows.out) c.rows.i p cone fixed left marks at
-    (c.rows.invariant.written p cone fixed left marks at) _ (omega (arith, c.rows-test.false, c.rows-i-end.ensures.value)) (omega (arith, c.rows.invariant.depth))
+    (c.rows.invariant.written p cone fixed left marks at) c.rows.shown refl (omega (arith, c.rows-test.false, c.rows-i-end.ensures.value)) (omega (arith, c.rows.invariant.depth))

@@ -13,7 +13,7 @@ returns-in_default-clause-written g c p cone fixed left marks at =
 
 pub returns-in_default-shown_side-clause-written : goal.returns-in_default-shown_side-clause-written
 returns-in_default-shown_side-clause-written g c p cone fixed left marks at =
-    writes_none c.args.sys.now.kind (g.S.Sink.written c.args.out.now) c.args.shown (IsUnder cone marks)
+    writes_none c.args.sys.now.kind (g.S.Sink.written c.args.out.now) c.args.shown (IsUnder cone marks) c.args.shown.few
     (nothing_here c.args.sys.now c.args.at.now c.args.from p cone fixed left marks at
     (subst (λ n. n ≤ 256) c.n-n.ensures.value c.n-n.ensures.narrow) c.in-Some.col.0
     c.in-Some.ensures.some (c.in_default-shown_side.ensures.none refl))
@@ -28,9 +28,9 @@ returns-in-Ok-clause-written g c p cone fixed left marks at =
     c.write_direction.ensures.value ∙ ap (λ w. vector_on side (primitive_column now col w)) c.requires.vector in
     let text = ap (λ kind. row_text kind c.write_direction.new.vector) c.requires.kind
     ∙ ap (row_text c.args.sys.now.kind) same in
-    writes_one c.args.sys.now.kind (g.S.Sink.written c.args.out.now) (g.S.Sink.written c.row.new.out)
-    (record { listing = c.in-Ok.listing; rows = c.saturating_add.result })
-    (vector_on side (primitive_column now col n)) (IsUnder cone marks)
+    writes_one c.args.sys.now.kind c.args.shown.rows (g.S.Sink.written c.args.out.now) (g.S.Sink.written c.row.new.out)
+    _
+    (vector_on side (primitive_column now col n)) (IsUnder cone marks) c.saturating_add.ensures
     (one_here c.args.sys.now now c.args.from p cone fixed left marks at
     (subst (λ w. w ≤ 256) c.n-n.ensures.value c.n-n.ensures.narrow) col c.in-Some.ensures.some
     side c.in-Some-shown_side.ensures.some)
@@ -46,7 +46,7 @@ returns-in-Err-clause-written g c p cone fixed left marks at =
     c.write_direction.ensures.value ∙ ap (λ w. vector_on side (primitive_column now col w)) c.requires.vector in
     let text = ap (λ kind. row_text kind c.write_direction.new.vector) c.requires.kind
     ∙ ap (row_text c.args.sys.now.kind) same in
-    writes_part c.args.sys.now.kind (g.S.Sink.written c.args.out.now) (g.S.Sink.written c.row.new.out) _
+    writes_part c.args.sys.now.kind c.args.shown.rows (g.S.Sink.written c.args.out.now) (g.S.Sink.written c.row.new.out) _
     (vector_on side (primitive_column now col n)) (IsUnder cone marks)
     (one_here c.args.sys.now now c.args.from p cone fixed left marks at
     (subst (λ w. w ≤ 256) c.n-n.ensures.value c.n-n.ensures.narrow) col c.in-Some.ensures.some
