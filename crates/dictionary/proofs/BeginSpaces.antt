@@ -116,5 +116,6 @@ module _ (sys : System) (phase : Phase) (early : (phase ≡ Cone) ⊎ (phase ≡
     phase_is = refl;
     denominator = refl;
     key = refl;
+    labels = ap (λ k. range_with_len 1 k ++ new_columns) em;
     dictionary = λ p is space at. begins p phase space sys early is at m em some narrow few widths;
   }

@@ -1,5 +1,5 @@
 -- The dictionary with which a phase begins.
-use Rattle.std.specs.Prelude.{◌≡◌, ℕ, ◌-◌, ◌<◌, ◌≤◌, ◌==◌, Bool, true, false, if◌then◌else◌, pos, map, length}
+use Rattle.std.specs.Prelude.{◌≡◌, ℕ, ◌-◌, ◌<◌, ◌≤◌, ◌==◌, Bool, true, false, if◌then◌else◌, pos, map, length, ◌++◌}
 use Rattle.std.specs.List.{range_with_len}
 use Rattle.poly_num.specs.Vectors.{Vector}
 use Rattle.poly_model.specs.declared.kind.Kind.{Kind}
@@ -39,11 +39,12 @@ unit_row width c = map (λ j. if j == c then pos 1 else pos 0) (range_with_len 0
 abbrev pub HasWidths : System → ℕ → Type 0
 HasWidths sys m = (i : ℕ) → 0 < i → i ≤ m → length (row_of sys.rows i).entries ≡ sys.n
 
--- the dictionary of the coordinates, over the denominator 1, in each space of this phase of a
--- polyhedron with this cone
+-- the dictionary of the coordinates, over the denominator 1, with the labels of the rows and of the coordinates; in
+-- each space of this phase of a polyhedron with this cone
 pub record IsNew (sys : System) (phase : Phase) (d : Dictionary) : Type 0 where
   pub phase_is : d.phase ≡ phase
   pub denominator : d.denominator ≡ pos 1
   pub key : d.key ≡ coordinate_key (first_label (has_constants phase sys.kind)) sys.n
+  pub labels : d.labels ≡ range_with_len 1 (row_count (has_constants phase sys.kind) (length sys.rows)) ++ d.key
   pub dictionary : (p : Polyhedron) → sys ≡ cone_of p → (space : Space) → IsSpaceOf p phase space →
       IsDictionaryIn space d
