@@ -6,6 +6,7 @@
 
 mod answers;
 mod list;
+mod plain;
 mod shown;
 mod side;
 

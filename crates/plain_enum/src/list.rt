@@ -34,6 +34,7 @@ pub fn show<S: Sink>(
     requires kind { shown.listing ≡ sys.now.kind }
     ensures written { WritesUnder sys.now at.now from 0 shown.rows (S.written out.old) (S.written out.new) result }
     ensures passes { (o : Passed) → IsErrOf result (PlainStop.Overflow o) → ⊥ }
+    ensures memory { IsErrOf result PlainStop.Memory → ⊥ }
     ensures vector { length vector.new ≡ sys.now.n }
     ensures kind { IfOk result (λ s. s.listing ≡ sys.now.kind) }
     ensures later { S.faults out.old ≤ S.faults out.new }
@@ -90,6 +91,7 @@ pub fn list_under<S: Sink>(
     ensures written { WritesUnder sys.now at.now from (length deeper.old) shown.rows (S.written out.old) (S.written out.new) result }
     ensures passes { (o : Passed) → IsErrOf result (PlainStop.Overflow o) → (p : Polyhedron) (cone : ListedCone) (fixed left : List ℕ) (marks : List Bool) →
         IsAt sys.now at.now from (length deeper.old) p cone fixed left marks → Passes p o }
+    ensures memory { IsErrOf result PlainStop.Memory → ⊥ }
     ensures shapes { All (HasShapeOf at.now) deeper.new }
     ensures depth { length deeper.new ≡ length deeper.old }
     ensures vector { length vector.new ≡ sys.now.n }

@@ -1,0 +1,95 @@
+-- A listing without lines, written piece by piece: its head, its rows, its end.
+use Rattle.std.specs.Prelude.{Result, min}
+use Rattle.std.specs.Result.{IsErr}
+use Rattle.std.proofs.Common.{◌≡◌, ◌≤◌, Bool, true, false, ℕ, List, [], ◌∷◌, ◌++◌, length, append-nil, append_assoc, Option, Ok, Err, refl, sym, ap, subst, ◌∙◌, arith}
+use Rattle.std.specs.List.{flat_map}
+use Rattle.std.specs.Io.KnownBytes.{Appends}
+use Rattle.std.proofs.KnownBytes.{Appends-nil, Appends-trans}
+use Rattle.std.proofs.lemmas.List.Concat.{flat_map-append}
+use Rattle.poly_num.specs.Vectors.{Vector}
+use Rattle.poly_model.specs.declared.kind.Kind.{Kind}
+use Rattle.poly_model.specs.declared.listed.Listed.{Listed}
+use Rattle.poly_model.specs.Systems.{System, Polyhedron, cone_of}
+use Rattle.poly_model.specs.FreeColumns.{AreLines}
+use Rattle.poly_model.specs.Listing.{IsListing, listing_text}
+use Rattle.poly_model.specs.ListingText.{head_text, row_text, end_text}
+use Rattle.poly_io.specs.Written.{AppendsPart}
+use Rattle.poly_io.proofs.Parts.{part_before, part_after}
+use Rattle.dictionary.specs.Views.{Dictionary}
+use Rattle.listing_laws.specs.ListedCone.{ListedCone, IsConeOf}
+use Rattle.listing_laws.specs.Lists.{Lists, Begins}
+use Rattle.listing_laws.specs.Prefixes.{IsUnder}
+use Rattle.listing_laws.proofs.ConeLemmas.{is_listable}
+use Rattle.listing_laws.proofs.ListingLemmas.{whole_listing}
+use Rattle.listing_laws.proofs.WholeLists.{prefix_has_list}
+use Rattle.plain_enum.specs.Listed.{IsAt, HasWritten, counted}
+use Rattle.plain_enum.specs.Plain.{IsCountedListing, WritesListing}
+
+module _ (sys : System) (d : Dictionary) (depth : ℕ) (p : Polyhedron) (cone : ListedCone) (left : List ℕ)
+    (at : IsAt sys d 1 depth p cone [] left []) (lines : AreLines (cone_of p) []) where
+  same_width : sys.n ≡ p.n
+  same_width = ap (λ (s : System). s.n) at.file
+
+  same_kind : sys.kind ≡ p.kind
+  same_kind = ap (λ (s : System). s.kind) at.file
+
+  -- the text of a listing of these vectors
+  abbrev text_of : List Vector → List ℕ
+  text_of shown = head_text sys.kind sys.n 0 ++ (flat_map (row_text sys.kind) shown ++ end_text)
+
+  is_listing : (shown : List Vector) → Lists (IsUnder cone []) shown → IsListing p (text_of shown)
+  is_listing shown l = record {
+    lines = [];
+    shown = shown;
+    are_lines = lines;
+    are_extreme = whole_listing (cone_of p) cone (subst (λ s. IsConeOf s cone) at.file at.is_cone) shown l;
+    is_text = ap (λ k. head_text k sys.n 0 ++ (flat_map (row_text k) shown ++ end_text)) same_kind
+        ∙ ap (λ n. head_text p.kind n 0 ++ (flat_map (row_text p.kind) shown ++ end_text)) same_width;
+  }
+
+  part_of : {E : Type 0} (old new : Option (List ℕ)) (result : Result Listed E) → IsErr result → (shown : List Vector) →
+      Lists (IsUnder cone []) shown → AppendsPart old new (text_of shown) → WritesListing p old new result
+  part_of old new (Ok x) r shown l a = absurd (let e : false ≡ true = r in cc)
+  part_of old new (Err y) r shown l a = record { whole = tt; part = (text_of shown, is_listing shown l, a) }
+
+  -- ---- where it stops
+  pub stops_in_head : {E : Type 0} (old new : Option (List ℕ)) (result : Result Listed E) → IsErr result →
+      AppendsPart old new (head_text sys.kind sys.n 0) → WritesListing p old new result
+  stops_in_head old new result r a =
+      let all = prefix_has_list cone (is_listable sys cone at.is_cone) [] (omega arith) in
+      part_of old new result r all.0 all.1 (part_before (flat_map (row_text sys.kind) all.0 ++ end_text) a)
+
+  pub stops_in_rows : {E : Type 0} (old mid new : Option (List ℕ)) (result : Result Listed E) → IsErr result →
+      Appends old mid (head_text sys.kind sys.n 0) →
+      (shown : List Vector) × Begins (IsUnder cone []) shown × AppendsPart mid new (flat_map (row_text sys.kind) shown) →
+      WritesListing p old new result
+  stops_in_rows old mid new result r head (shown, (rest, l), a) =
+      let rows = flat_map (row_text sys.kind) in
+      let split = flat_map-append (row_text sys.kind) shown rest in
+      part_of old new result r (shown ++ rest) l
+      (part_after old mid new (head_text sys.kind sys.n 0) (rows (shown ++ rest) ++ end_text) head
+      (part_before end_text (subst (λ t. AppendsPart mid new t) (sym split) (part_before (rows rest) a))))
+
+  pub stops_in_end : {E : Type 0} (old mid then new : Option (List ℕ)) (result : Result Listed E) → IsErr result →
+      Appends old mid (head_text sys.kind sys.n 0) → (shown : List Vector) → Lists (IsUnder cone []) shown →
+      Appends mid then (flat_map (row_text sys.kind) shown) → AppendsPart then new end_text → WritesListing p old new result
+  stops_in_end old mid then new result r head shown l rows a =
+      part_of old new result r shown l
+      (part_after old mid new (head_text sys.kind sys.n 0) (flat_map (row_text sys.kind) shown ++ end_text) head
+      (part_after mid then new (flat_map (row_text sys.kind) shown) end_text rows a))
+
+  -- ---- where it ends
+  pub ends_whole : {E : Type 0} (old mid then new : Option (List ℕ)) (listed : Listed) → listed.lines ≡ 0 →
+      Appends old mid (head_text sys.kind sys.n 0) →
+      (shown : List Vector) × Lists (IsUnder cone []) shown × HasWritten sys.kind mid then 0 listed.rows shown →
+      Appends then new end_text → WritesListing {E = E} p old new (Ok listed)
+  unfolding is_listing
+  ends_whole old mid then new listed none head (shown, l, h) a = record {
+    whole = (
+      text_of shown,
+      record { listing = is_listing shown l; rows = h.count; lines = none },
+      Appends-trans old mid new (head_text sys.kind sys.n 0) (flat_map (row_text sys.kind) shown ++ end_text) head
+          (Appends-trans mid then new (flat_map (row_text sys.kind) shown) end_text h.bytes a),
+    );
+    part = tt;
+  }

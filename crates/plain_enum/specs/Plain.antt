@@ -1,0 +1,26 @@
+-- What the listing of a system by subsets of its rows writes.
+use Rattle.std.specs.Prelude.{◌≡◌, ℕ, Bool, true, List, [], length, Option, Result, IfOk, OnErr}
+use Rattle.std.specs.List.{All}
+use Rattle.std.specs.Io.KnownBytes.{Appends}
+use Rattle.poly_model.specs.declared.listed.Listed.{Listed}
+use Rattle.poly_model.specs.Systems.{Polyhedron, cone_of}
+use Rattle.poly_model.specs.FreeColumns.{AreFreeColumns}
+use Rattle.poly_model.specs.Listing.{IsListing}
+use Rattle.poly_io.specs.Written.{AppendsPart}
+use Rattle.plain_enum.specs.Listed.{counted}
+
+-- no column of the cone is free, and none of its rows is linear
+pub record IsPlain (p : Polyhedron) : Type 0 where
+  pub columns : AreFreeColumns (cone_of p) []
+  pub rows : All (λ row. row.linear ≡ true → ⊥) (cone_of p).rows
+
+-- the text is a listing with so many rows and lines
+pub record IsCountedListing (p : Polyhedron) (text : List ℕ) (listed : Listed) : Type 0 where
+  pub listing : IsListing p text
+  pub rows : listed.rows ≡ counted 0 (length listing.shown)
+  pub lines : listed.lines ≡ length listing.lines
+
+-- known bytes grow by a listing at Ok, and by first bytes of one at Err
+pub record WritesListing {E : Type 0} (p : Polyhedron) (old new : Option (List ℕ)) (result : Result Listed E) : Type 0 where
+  pub whole : IfOk result (λ listed. (text : List ℕ) × IsCountedListing p text listed × Appends old new text)
+  pub part : OnErr result ((text : List ℕ) × IsListing p text × AppendsPart old new text)
