@@ -8,3 +8,4 @@ pub mod Steps
 pub mod ColumnShown
 pub mod ShowUnder
 pub mod LoopUnder
+pub mod BeginAt

@@ -3,3 +3,4 @@ pub mod Laws
 pub mod Columns
 pub mod Shown
 pub mod Listed
+pub mod Feasible

@@ -4,6 +4,7 @@
 //! What is stated stands in `specs/`.
 #![tactic(auto)]
 
+mod begin;
 mod list;
 mod shown;
 mod side;
