@@ -1,37 +1,40 @@
 -- A listing without lines, written piece by piece: its head, its rows, its end.
-use Rattle.std.specs.Prelude.{Result, min}
+use Rattle.std.specs.Prelude.{Result}
 use Rattle.std.specs.Result.{IsErr}
-use Rattle.std.proofs.Common.{◌≡◌, ◌≤◌, Bool, true, false, ℕ, List, [], ◌∷◌, ◌++◌, length, append-nil, append_assoc, Option, Ok, Err, refl, sym, ap, subst, ◌∙◌, arith}
+use Rattle.std.proofs.Common.{◌≡◌, true, false, ℕ, List, [], ◌++◌, Option, Ok, Err, refl, sym, ap, subst, ◌∙◌, arith}
 use Rattle.std.specs.List.{flat_map}
 use Rattle.std.specs.Io.KnownBytes.{Appends}
 use Rattle.std.proofs.KnownBytes.{Appends-nil, Appends-trans}
 use Rattle.std.proofs.lemmas.List.Concat.{flat_map-append}
 use Rattle.poly_num.specs.Vectors.{Vector}
-use Rattle.poly_model.specs.declared.kind.Kind.{Kind}
 use Rattle.poly_model.specs.declared.listed.Listed.{Listed}
 use Rattle.poly_model.specs.Systems.{System, Polyhedron, cone_of}
 use Rattle.poly_model.specs.FreeColumns.{AreLines}
-use Rattle.poly_model.specs.Listing.{IsListing, listing_text}
+use Rattle.poly_model.specs.Listing.{IsListing}
 use Rattle.poly_model.specs.ListingText.{head_text, row_text, end_text}
 use Rattle.poly_io.specs.Written.{AppendsPart}
 use Rattle.poly_io.proofs.Parts.{part_before, part_after}
-use Rattle.dictionary.specs.Views.{Dictionary}
 use Rattle.listing_laws.specs.ListedCone.{ListedCone, IsConeOf}
 use Rattle.listing_laws.specs.Lists.{Lists, Begins}
 use Rattle.listing_laws.specs.Prefixes.{IsUnder}
 use Rattle.listing_laws.proofs.ConeLemmas.{is_listable}
 use Rattle.listing_laws.proofs.ListingLemmas.{whole_listing}
 use Rattle.listing_laws.proofs.WholeLists.{prefix_has_list}
-use Rattle.plain_enum.specs.Listed.{IsAt, HasWritten, counted}
-use Rattle.plain_enum.specs.Plain.{IsCountedListing, WritesListing}
+use Rattle.plain_enum.specs.Listed.{HasWritten}
+use Rattle.plain_enum.specs.Feasible.{IsPlain}
+use Rattle.plain_enum.specs.Plain.{WritesListing}
 
-module _ (sys : System) (d : Dictionary) (depth : ℕ) (p : Polyhedron) (cone : ListedCone) (left : List ℕ)
-    (at : IsAt sys d 1 depth p cone [] left []) (lines : AreLines (cone_of p) []) where
+-- where no column is free there are no lines
+pub no_lines : (p : Polyhedron) → IsPlain p → AreLines (cone_of p) []
+no_lines p plain = record { columns = []; free = plain.columns; each = tt }
+
+module _ (sys : System) (p : Polyhedron) (cone : ListedCone) (file : sys ≡ cone_of p) (is_cone : IsConeOf sys cone)
+    (lines : AreLines (cone_of p) []) where
   same_width : sys.n ≡ p.n
-  same_width = ap (λ (s : System). s.n) at.file
+  same_width = ap (λ (s : System). s.n) file
 
   same_kind : sys.kind ≡ p.kind
-  same_kind = ap (λ (s : System). s.kind) at.file
+  same_kind = ap (λ (s : System). s.kind) file
 
   -- the text of a listing of these vectors
   abbrev text_of : List Vector → List ℕ
@@ -42,7 +45,7 @@ module _ (sys : System) (d : Dictionary) (depth : ℕ) (p : Polyhedron) (cone : 
     lines = [];
     shown = shown;
     are_lines = lines;
-    are_extreme = whole_listing (cone_of p) cone (subst (λ s. IsConeOf s cone) at.file at.is_cone) shown l;
+    are_extreme = whole_listing (cone_of p) cone (subst (λ s. IsConeOf s cone) file is_cone) shown l;
     is_text = ap (λ k. head_text k sys.n 0 ++ (flat_map (row_text k) shown ++ end_text)) same_kind
         ∙ ap (λ n. head_text p.kind n 0 ++ (flat_map (row_text p.kind) shown ++ end_text)) same_width;
   }
@@ -53,10 +56,17 @@ module _ (sys : System) (d : Dictionary) (depth : ℕ) (p : Polyhedron) (cone : 
   part_of old new (Err y) r shown l a = record { whole = tt; part = (text_of shown, is_listing shown l, a) }
 
   -- ---- where it stops
+  pub stops_at_once : {E : Type 0} (old : Option (List ℕ)) (result : Result Listed E) → IsErr result →
+      WritesListing p old old result
+  stops_at_once old result r =
+      let all = prefix_has_list cone (is_listable sys cone is_cone) [] (omega arith) in
+      part_of old old result r all.0 all.1
+      (record { sent = []; unsent = text_of all.0; split = refl; bytes = Appends-nil old })
+
   pub stops_in_head : {E : Type 0} (old new : Option (List ℕ)) (result : Result Listed E) → IsErr result →
       AppendsPart old new (head_text sys.kind sys.n 0) → WritesListing p old new result
   stops_in_head old new result r a =
-      let all = prefix_has_list cone (is_listable sys cone at.is_cone) [] (omega arith) in
+      let all = prefix_has_list cone (is_listable sys cone is_cone) [] (omega arith) in
       part_of old new result r all.0 all.1 (part_before (flat_map (row_text sys.kind) all.0 ++ end_text) a)
 
   pub stops_in_rows : {E : Type 0} (old mid new : Option (List ℕ)) (result : Result Listed E) → IsErr result →

@@ -23,7 +23,7 @@ use Rattle.plain_enum.specs.declared.side.Side.{Side}
 use Rattle.plain_enum.specs.declared.answers.Shown.{Shown}
 use Rattle.plain_enum.specs.Columns.{IsLastLabel}
 use Rattle.plain_enum.specs.Shown.{IsShownOn, primitive_column, vector_on}
-use Rattle.plain_enum.specs.Listed.{IsAt, counted, HasWritten, WritesRows}
+use Rattle.plain_enum.specs.Listed.{IsAt, counted, WritesRows}
 use Rattle.plain_enum.specs.Standing.{StandsAt, LeavesColumn}
 use Rattle.plain_enum.proofs.Parts.{in_third}
 use Rattle.plain_enum.proofs.RowsTaken.{as_many}

@@ -4,3 +4,4 @@ pub mod Columns
 pub mod Shown
 pub mod Listed
 pub mod Plain
+pub mod Feasible

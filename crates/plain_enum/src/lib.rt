@@ -5,6 +5,7 @@
 #![tactic(auto)]
 
 mod answers;
+mod begin;
 mod list;
 mod plain;
 mod shown;
@@ -14,6 +15,7 @@ ghost use Rattle.plain_enum.specs.Laws.{ValuesAtColumns, NewByEntry, FollowsByEn
 
 pub use answers::{PlainStop, Shown};
 pub use list::{list_under, show};
+pub use plain::list_plain;
 pub use side::{Side, column_of};
 
 /// The column of a label of the key is a vector at which each label has its entry there as value.

@@ -10,15 +10,40 @@ ghost use Rattle.poly_model.specs.FreeColumns.{AreLines};
 ghost use Rattle.listing_laws.specs.ListedCone.{ListedCone};
 ghost use Rattle.plain_enum.specs.Columns.{HasRows};
 ghost use Rattle.plain_enum.specs.Listed.{HasShapeOf, IsAt};
-ghost use Rattle.plain_enum.specs.Plain.{IsPlain, WritesListing};
+ghost use Rattle.plain_enum.specs.Feasible.{IsPlain};
+ghost use Rattle.plain_enum.specs.Plain.{WritesListing};
 
 use crate::answers::{PlainStop, Shown};
+use crate::begin::{Beginning, at_coordinates};
 use crate::list::list_under;
 use dictionary::Dict;
 use poly_io::{Sink, WriteFault};
 use poly_model::{Listed, System};
 use poly_num::Num;
 use row_printer::Listing;
+use std::alloc::Global;
+
+/// Writes the listing of a system: its head, the rows of its extreme vectors, its end. The answer says how many rows
+/// and lines it has. Where it stops, what was written is the beginning of a listing; want of memory comes before
+/// anything is written.
+pub fn list_plain<S: Sink>(alloc: Global, sys: &System, out: &mut S) -> Result<Listed, PlainStop>
+    ensures written { (p : Polyhedron) → sys.now ≡ cone_of p → IsPlain p → WritesListing p (S.written out.old) (S.written out.new) result }
+    ensures overflow { (o : Passed) → IsErrOf result (PlainStop.Overflow o) → (p : Polyhedron) → sys.now ≡ cone_of p → IsPlain p → Passes p o }
+    ensures memory { IsErrOf result PlainStop.Memory → out.new ≡ out.old }
+    ensures later { S.faults out.old ≤ S.faults out.new }
+    ensures fault { IsErrOf result PlainStop.WriteFault → Rose (S.faults out.old) (S.faults out.new) }
+{
+    let (_n, _rows) = (sys.n(), sys.rows());
+    let Ok(begin) = at_coordinates(alloc, sys) else {
+        return Err(PlainStop::Memory);
+    };
+    let Beginning {
+        at,
+        mut deeper,
+        mut vector,
+    } = begin;
+    print(sys, &at, &mut deeper, &mut vector, out)
+}
 
 // Writes the listing, with no lines, from a dictionary that stands at the empty prefix.
 fn print<S: Sink>(

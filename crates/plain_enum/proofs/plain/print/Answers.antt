@@ -1,4 +1,4 @@
-use Rattle.std.proofs.Common.{◌≡◌, length, Err, refl, sym, ap, subst, ◌∙◌, []}
+use Rattle.std.proofs.Common.{◌≡◌, Err, refl, sym, ap, subst, ◌∙◌, []}
 use Rattle.std.proofs.lemmas.Result.{err_from_is_err_and}
 use Rattle.std.specs.Io.KnownBytes.{Appends}
 use Rattle.poly_io.specs.Written.{AppendsPart}
@@ -14,7 +14,7 @@ returns-in-Err-clause-written g c p cone left at lines =
     let mid = g.S.Sink.written c.head.new.out in
     let same = ap (λ k. head_text k c.n-n.result 0) c.kind-kind.ensures
     ∙ ap (λ n. head_text c.args.sys.now.kind n 0) c.n-n.ensures.value in
-    stops_in_head c.args.sys.now c.args.at.now (length c.args.deeper.now) p cone left at lines old mid _ refl
+    stops_in_head c.args.sys.now p cone at.file at.is_cone lines old mid _ refl
     (subst (λ t. AppendsPart old mid t) same c.in-Err.ensures.text.part)
 
 pub returns-in_err-listing-clause-written : goal.returns-in_err-listing-clause-written
@@ -23,7 +23,7 @@ returns-in_err-listing-clause-written g c p cone left at lines =
     let mid = g.S.Sink.written c.head.new.out in
     let same = ap (λ k. head_text k c.n-n.result 0) c.kind-kind.ensures
     ∙ ap (λ n. head_text c.args.sys.now.kind n 0) c.n-n.ensures.value in
-    stops_in_rows c.args.sys.now c.args.at.now (length c.args.deeper.now) p cone left at lines
+    stops_in_rows c.args.sys.now p cone at.file at.is_cone lines
     old mid (g.S.Sink.written c.list_under.new.out) c.from_residual.result c.from_residual.ensures.0
     (subst (λ t. Appends old mid t) same c.in-Ok.ensures.text.whole)
     (c.in_err-listing.ensures.written p cone [] left [] at).part
@@ -40,7 +40,7 @@ returns-in-Ok-finish-clause-written g c p cone left at lines =
     let mid = g.S.Sink.written c.head.new.out in
     let same = ap (λ k. head_text k c.n-n.result 0) c.kind-kind.ensures
     ∙ ap (λ n. head_text c.args.sys.now.kind n 0) c.n-n.ensures.value in
-    ends_whole c.args.sys.now c.args.at.now (length c.args.deeper.now) p cone left at lines
+    ends_whole c.args.sys.now p cone at.file at.is_cone lines
     old mid (g.S.Sink.written c.list_under.new.out) (g.S.Sink.written c.finish.new.out) _ refl
     (subst (λ t. Appends old mid t) same c.in-Ok.ensures.text.whole)
     (c.in_ok-listing.ensures.written p cone [] left [] at).whole
@@ -53,7 +53,7 @@ returns-in-Err-finish-clause-written g c p cone left at lines =
     let same = ap (λ k. head_text k c.n-n.result 0) c.kind-kind.ensures
     ∙ ap (λ n. head_text c.args.sys.now.kind n 0) c.n-n.ensures.value in
     let rows = (c.in_ok-listing.ensures.written p cone [] left [] at).whole in
-    stops_in_end c.args.sys.now c.args.at.now (length c.args.deeper.now) p cone left at lines
+    stops_in_end c.args.sys.now p cone at.file at.is_cone lines
     old mid (g.S.Sink.written c.list_under.new.out) (g.S.Sink.written c.finish.new.out) _ refl
     (subst (λ t. Appends old mid t) same c.in-Ok.ensures.text.whole)
     rows.0 rows.1 rows.2.bytes c.in-Err-finish.ensures.text.part
