@@ -1,11 +1,18 @@
 -- Which answer of the program comes when.
 use Rattle.std.specs.Prelude.{◌≡◌, ℕ, List, [], ◌∷◌, codes, Option, Some, None, Ok, Err, true, false, ⊤}
-use Rattle.poly_model.specs.Systems.{Polyhedron}
+use Rattle.std.specs.Io.KnownBytes.{Appends}
+use Rattle.poly_model.specs.declared.overflow.Overflow.{Overflow as Passed}
+use Rattle.poly_model.specs.Systems.{Polyhedron, cone_of}
+use Rattle.poly_model.specs.Extreme.{IsFeasible}
+use Rattle.poly_model.specs.Overflows.{Passes}
+use Rattle.poly_model.specs.Listing.{IsListing}
+use Rattle.poly_io.specs.Written.{AppendsPart}
 use Rattle.poly_reader.specs.declared.bad.BadFile.{BadFile as Fault}
 use Rattle.poly_reader.specs.Reading.{reading}
+use Rattle.plain_enum.specs.Plain.{IsCountedListing}
 use Rattle.lrs_cli.specs.Supported.{is_supported}
 use Rattle.lrs_cli.specs.declared.status.Status.{Status}
-use Rattle.lrs_cli.specs.declared.status.Status.TheVariants.{Done, Usage, BadFile, Overflow, ReadFault, WriteFault, OutOfMemory, Unsupported}
+use Rattle.lrs_cli.specs.declared.status.Status.TheVariants.{Done, Usage, BadFile, Infeasible, Overflow, ReadFault, WriteFault, OutOfMemory, Unsupported}
 
 -- the words are the one command that there is so far
 abbrev pub IsLine : List (List ℕ) → Type 0
@@ -16,25 +23,61 @@ abbrev pub Told : Option (List ℕ) → (List ℕ → Type 0) → Type 0
 Told None P = ⊤
 Told (Some bytes) P = P bytes
 
--- the text describes a polyhedron that is listed so far
-pub record IsSupported (text : List ℕ) : Type 0 where
+-- the text describes this polyhedron
+abbrev pub IsTextOf : Polyhedron → List ℕ → Type 0
+IsTextOf p text = reading text ≡ Ok p
+
+-- the text describes a polyhedron with P
+pub record Describes (P : Polyhedron → Type 0) (text : List ℕ) : Type 0 where
   pub polyhedron : Polyhedron
   pub read : reading text ≡ Ok polyhedron
-  pub supported : is_supported polyhedron ≡ true
+  pub holds : P polyhedron
+
+-- the text describes a polyhedron that is listed so far
+abbrev pub IsSupported : List ℕ → Type 0
+IsSupported text = Describes (λ p. is_supported p ≡ true) text
 
 -- the text describes a polyhedron that is not listed yet
-pub record IsUnsupported (text : List ℕ) : Type 0 where
-  pub polyhedron : Polyhedron
-  pub read : reading text ≡ Ok polyhedron
-  pub unsupported : is_supported polyhedron ≡ false
+abbrev pub IsUnsupported : List ℕ → Type 0
+IsUnsupported text = Describes (λ p. is_supported p ≡ false) text
+
+-- the text describes a polyhedron without a point
+abbrev pub IsInfeasible : List ℕ → Type 0
+IsInfeasible text = Describes (λ p. IsFeasible (cone_of p) → ⊥) text
+
+-- a product that a pivot needs passes, at a dictionary of the polyhedron that the text describes
+abbrev pub IsOverflow : Passed → List ℕ → Type 0
+IsOverflow o text = Describes (λ p. Passes p o) text
 
 -- the text describes no polyhedron, and this is the first fault
 abbrev pub IsBadFile : Fault → List ℕ → Type 0
 IsBadFile fault text = reading text ≡ Err fault
 
--- the answers of a listing that was begun
+-- p has a point, and what is known of the output grew by a listing of it, with so many rows and lines
+pub record WritesWhole (old new : Option (List ℕ)) (rows lines : ℕ) (p : Polyhedron) : Type 0 where
+  pub feasible : IsFeasible (cone_of p)
+  pub listing : List ℕ
+  pub counted : IsCountedListing p listing (record { rows = rows; lines = lines })
+  pub written : Appends old new listing
+
+-- what is known of the output grew by the first bytes of a listing of p
+pub record WritesPart (old new : Option (List ℕ)) (p : Polyhedron) : Type 0 where
+  pub listing : List ℕ
+  pub is_listing : IsListing p listing
+  pub written : AppendsPart old new listing
+
+-- the text describes a polyhedron, and a listing of it was written
+abbrev pub IsListed : Option (List ℕ) → Option (List ℕ) → ℕ → ℕ → List ℕ → Type 0
+IsListed old new rows lines text = Describes (WritesWhole old new rows lines) text
+
+-- the text describes a polyhedron, and first bytes of a listing of it were written
+abbrev pub IsPartlyListed : Option (List ℕ) → Option (List ℕ) → List ℕ → Type 0
+IsPartlyListed old new text = Describes (WritesPart old new) text
+
+-- the answers of a polyhedron that is listed so far
 abbrev pub Lists : Status → Type 0
 Lists (Done rows lines) = Unit {0}
+Lists Infeasible = Unit {0}
 Lists (Overflow o) = Unit {0}
 Lists WriteFault = Unit {0}
 Lists (BadFile f) = ⊥
@@ -43,12 +86,25 @@ Lists ReadFault = ⊥
 Lists OutOfMemory = ⊥
 Lists Unsupported = ⊥
 
+-- the answers of a listing that was given up
+abbrev pub StopsListing : Status → Type 0
+StopsListing (Overflow o) = Unit {0}
+StopsListing WriteFault = Unit {0}
+StopsListing (Done rows lines) = ⊥
+StopsListing Infeasible = ⊥
+StopsListing OutOfMemory = ⊥
+StopsListing (BadFile f) = ⊥
+StopsListing Usage = ⊥
+StopsListing ReadFault = ⊥
+StopsListing Unsupported = ⊥
+
 -- the answers before which nothing is written
 abbrev pub WritesNothing : Status → Type 0
 WritesNothing (Done rows lines) = ⊥
 WritesNothing (Overflow o) = ⊥
 WritesNothing WriteFault = ⊥
-WritesNothing OutOfMemory = ⊥
+WritesNothing Infeasible = Unit {0}
+WritesNothing OutOfMemory = Unit {0}
 WritesNothing (BadFile f) = Unit {0}
 WritesNothing Usage = Unit {0}
 WritesNothing ReadFault = Unit {0}

@@ -5,7 +5,7 @@ use Rattle.poly_model.specs.LabelText.{key_text, place_text, phase_text}
 use Rattle.poly_reader.specs.declared.bad.BadKind.{BadKind}
 use Rattle.poly_reader.specs.declared.bad.BadKind.TheVariants as kinds
 use Rattle.lrs_cli.specs.declared.status.Status.{Status}
-use Rattle.lrs_cli.specs.declared.status.Status.TheVariants.{Done, Usage, BadFile, Overflow as Overflowed, ReadFault, WriteFault, OutOfMemory, Unsupported}
+use Rattle.lrs_cli.specs.declared.status.Status.TheVariants.{Done, Usage, BadFile, Infeasible, Overflow as Overflowed, ReadFault, WriteFault, OutOfMemory, Unsupported}
 
 -- the name of what is wrong with a file
 abbrev pub kind_text : BadKind → List ℕ
@@ -41,6 +41,7 @@ unfoldable pub line_of : Status → List ℕ
 line_of (Done rows lines) = codes "lrs: done " ++ (decimal rows ++ (codes " rows " ++ (decimal lines ++ codes " lines\n")))
 line_of Usage = codes "lrs: usage: lrs convert / run LEDGER / resume LEDGER / status LEDGER / job / demo KIND N\n"
 line_of (BadFile bad) = codes "lrs: bad file: " ++ (kind_text bad.kind ++ (codes " at line " ++ (decimal bad.line ++ codes "\n")))
+line_of Infeasible = codes "lrs: infeasible\n"
 line_of (Overflowed o) = codes "lrs: overflow " ++ (overflow_text o ++ codes "\n")
 line_of ReadFault = codes "lrs: read fault\n"
 line_of WriteFault = codes "lrs: write fault\n"
@@ -51,6 +52,7 @@ abbrev pub number_of : Status → ℕ
 number_of (Done rows lines) = 0
 number_of Usage = 2
 number_of (BadFile bad) = 3
+number_of Infeasible = 4
 number_of (Overflowed o) = 5
 number_of ReadFault = 6
 number_of WriteFault = 7

@@ -39,18 +39,14 @@ has_unit_at rows j = list_any (λ row. is_unit_at j row.entries) rows
 abbrev pub is_bounded : Polyhedron → Bool
 is_bounded p = list_all (has_unit_at p.rows) (range_with_len 1 (p.n - 1))
 
--- the first number is not negative
-abbrev pub starts_nonnegative : Vector → Bool
-starts_nonnegative row = not (int_lt (slice_index_or row 0 (pos 0)) (pos 0))
-
--- an inequality that the origin meets
-abbrev pub holds_at_origin : FileRow → Bool
-holds_at_origin row = not row.linear && starts_nonnegative row.entries
+-- not linear
+abbrev pub is_inequality : FileRow → Bool
+is_inequality row = not row.linear
 
 abbrev pub is_h : Kind → Bool
 is_h H = true
 is_h V = false
 
--- an H file of inequalities that the origin meets, some of which bound each coordinate from below
+-- an H file of inequalities, some of which bound each coordinate from below
 abbrev pub is_supported : Polyhedron → Bool
-is_supported p = is_h p.kind && (list_all holds_at_origin p.rows && is_bounded p)
+is_supported p = is_h p.kind && (list_all is_inequality p.rows && is_bounded p)

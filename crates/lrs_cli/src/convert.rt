@@ -1,25 +1,35 @@
 //! `convert`: a file from the input, its listing to the output.
-ghost use Rattle.std.specs.Prelude.{◌≡◌, ◌⊎◌, ◌≤◌, ℕ, OnOk, IfOk, IsErrOf};
+ghost use Rattle.std.specs.Prelude.{◌≡◌, ◌⊎◌, ◌≤◌, ℕ, true, OnOk, IfOk, IsErrOf};
 ghost use Rattle.std.specs.Io.KnownBytes.{IsAtEnd};
 ghost use Rattle.poly_io.specs.Causes.{Rose};
 ghost use Rattle.poly_io.specs.Taken.{TakesAtMost};
+ghost use Rattle.poly_model.specs.declared.overflow.Overflow.{Overflow as Passed};
+ghost use Rattle.poly_model.specs.Systems.{Polyhedron, cone_of};
+ghost use Rattle.poly_model.specs.Extreme.{IsFeasible};
+ghost use Rattle.poly_model.specs.Overflows.{Passes};
 ghost use Rattle.poly_reader.specs.declared.bad.BadFile.{BadFile};
-ghost use Rattle.lrs_cli.specs.Answers.{Told, IsSupported, IsUnsupported, IsBadFile, Lists, WritesNothing};
+ghost use Rattle.plain_enum.specs.Feasible.{IsPlain};
+ghost use Rattle.lrs_cli.specs.Supported.{is_supported};
+ghost use Rattle.lrs_cli.specs.Answers.{Told, IsSupported, IsUnsupported, IsBadFile, IsInfeasible, IsOverflow, IsListed, IsPartlyListed, IsTextOf, WritesWhole, WritesPart, Lists, StopsListing, WritesNothing};
 
-use crate::dictionary::Dictionary;
-use crate::lister::{ListStop, list};
 use crate::status::Status;
 use crate::supported::is_supported;
+use hull_lift::system_of;
+use plain_enum::{FeasibleStop, PlainStop, feasible_plain, list_plain};
 use poly_io::{Sink, Source};
-use poly_model::Poly;
-use poly_num::Num;
+use poly_model::{Poly, System};
 use poly_reader::{BadFile, ReadStop, read_poly};
-use std::alloc::{AllocError, Global};
+use std::alloc::Global;
 
 /// Reads a file to its end and prints its listing.
 pub fn convert<I: Source, O: Sink>(alloc: Global, input: &mut I, out: &mut O) -> Status
     ensures line { result ≡ Status.Usage → ⊥ }
-    ensures done { (rows lines : ℕ) → result ≡ Status.Done rows lines → IsAtEnd (I.left input.new) }
+    ensures end { (rows lines : ℕ) → result ≡ Status.Done rows lines → IsAtEnd (I.left input.new) }
+    ensures done { (rows lines : ℕ) → result ≡ Status.Done rows lines →
+        Told (I.left input.old) (IsListed (O.written out.old) (O.written out.new) rows lines) }
+    ensures stopped { StopsListing result → Told (I.left input.old) (IsPartlyListed (O.written out.old) (O.written out.new)) }
+    ensures infeasible { result ≡ Status.Infeasible → Told (I.left input.old) IsInfeasible }
+    ensures overflow { (o : Passed) → result ≡ Status.Overflow o → Told (I.left input.old) (IsOverflow o) }
     ensures supported { Lists result → Told (I.left input.old) IsSupported }
     ensures unsupported { result ≡ Status.Unsupported → Told (I.left input.old) IsUnsupported }
     ensures bad { (f : BadFile) → result ≡ Status.BadFile f → Told (I.left input.old) (IsBadFile f) }
@@ -47,7 +57,8 @@ enum InputStop {
 }
 
 fn read_supported<I: Source>(alloc: Global, input: &mut I) -> Result<Poly, InputStop>
-    ensures supported { OnOk result (Told (I.left input.old) IsSupported) }
+    ensures read { IfOk result (λ poly. Told (I.left input.old) (IsTextOf poly)) }
+    ensures supported { IfOk result (λ poly. is_supported poly ≡ true) }
     ensures end { OnOk result (IsAtEnd (I.left input.new)) }
     ensures bad { (f : BadFile) → IsErrOf result (InputStop.Bad f) → Told (I.left input.old) (IsBadFile f) }
     ensures unsupported { IsErrOf result InputStop.Unsupported → Told (I.left input.old) IsUnsupported }
@@ -68,33 +79,46 @@ fn read_supported<I: Source>(alloc: Global, input: &mut I) -> Result<Poly, Input
     }
 }
 
+// Prints the listing of a polyhedron that is feasible.
 fn print_listing<O: Sink>(alloc: Global, poly: &Poly, out: &mut O) -> Status
+    requires { is_supported poly.now ≡ true }
     ensures lists { Lists result ⊎ (result ≡ Status.OutOfMemory) }
+    ensures done { (rows lines : ℕ) → result ≡ Status.Done rows lines → WritesWhole (O.written out.old) (O.written out.new) rows lines poly.now }
+    ensures stopped { StopsListing result → WritesPart (O.written out.old) (O.written out.new) poly.now }
+    ensures infeasible { result ≡ Status.Infeasible → IsFeasible (cone_of poly.now) → ⊥ }
+    ensures overflow { (o : Passed) → result ≡ Status.Overflow o → Passes poly.now o }
     ensures write { result ≡ Status.WriteFault → Rose (O.faults out.old) (O.faults out.new) }
+    ensures unwritten { WritesNothing result → out.new ≡ out.old }
 {
-    let Ok(cone) = cone_of(alloc, poly) else {
+    let Ok(cone) = system_of(alloc, poly) else {
         return Status::OutOfMemory;
     };
-    match list(alloc, &cone, out) {
+    match feasible_plain(alloc, &cone) {
+        Ok(true) => print_cone(alloc, &cone, out),
+        Ok(false) => Status::Infeasible,
+        Err(FeasibleStop::Overflow(overflow)) => Status::Overflow(overflow),
+        Err(FeasibleStop::Memory) => Status::OutOfMemory,
+    }
+}
+
+// Prints the listing of a cone.
+fn print_cone<O: Sink>(alloc: Global, cone: &System, out: &mut O) -> Status
+    ensures lists { Lists result ⊎ (result ≡ Status.OutOfMemory) }
+    ensures feasible { result ≡ Status.Infeasible → ⊥ }
+    ensures done { (rows lines : ℕ) → result ≡ Status.Done rows lines → (p : Polyhedron) → cone.now ≡ cone_of p → IsPlain p →
+        IsFeasible (cone_of p) → WritesWhole (O.written out.old) (O.written out.new) rows lines p }
+    ensures stopped { StopsListing result → (p : Polyhedron) → cone.now ≡ cone_of p → IsPlain p → WritesPart (O.written out.old) (O.written out.new) p }
+    ensures overflow { (o : Passed) → result ≡ Status.Overflow o → (p : Polyhedron) → cone.now ≡ cone_of p → IsPlain p → Passes p o }
+    ensures write { result ≡ Status.WriteFault → Rose (O.faults out.old) (O.faults out.new) }
+    ensures unwritten { WritesNothing result → out.new ≡ out.old }
+{
+    match list_plain(alloc, cone, out) {
         Ok(listed) => Status::Done {
             rows: listed.rows,
             lines: listed.lines,
         },
-        Err(ListStop::Overflow(overflow)) => Status::Overflow(overflow),
-        Err(ListStop::WriteFault) => Status::WriteFault,
-        Err(ListStop::Memory) => Status::OutOfMemory,
+        Err(PlainStop::Overflow(overflow)) => Status::Overflow(overflow),
+        Err(PlainStop::WriteFault) => Status::WriteFault,
+        Err(PlainStop::Memory) => Status::OutOfMemory,
     }
-}
-
-// The dictionary of the cone: the file's rows, and then the row at infinity `1 0 .. 0`.
-fn cone_of(alloc: Global, poly: &Poly) -> Result<Dictionary, AllocError> {
-    let width = poly.n() as usize;
-    let mut cells = Vec::new(alloc);
-    for i in 0..poly.rows() {
-        cells.extend_from_slice(poly.row(i + 1))?;
-    }
-    for j in 0..width {
-        cells.push(if j == 0 { Num::ONE } else { Num::ZERO })?;
-    }
-    Dictionary::new(alloc, &cells, poly.rows() as usize + 1, width)
 }

@@ -2,8 +2,6 @@
 #![tactic(auto)]
 
 mod convert;
-mod dictionary;
-mod lister;
 mod status;
 mod supported;
 #[cfg(test)]

@@ -18,6 +18,8 @@ pub enum Status {
     Usage,
     /// The input describes no polyhedron: what is wrong first, and on which line.
     BadFile(BadFile),
+    /// No point satisfies the rows of the input.
+    Infeasible,
     /// A product that the listing needs does not fit 127 bits and a sign.
     Overflow(Overflow),
     /// The input could not be read.
@@ -39,6 +41,7 @@ impl Status {
             Status::Done { .. } => 0,
             Status::Usage => 2,
             Status::BadFile(_) => 3,
+            Status::Infeasible => 4,
             Status::Overflow(_) => 5,
             Status::ReadFault => 6,
             Status::WriteFault => 7,
@@ -61,6 +64,7 @@ pub fn status_line<S: Sink>(status: &Status, out: &mut S) -> Result<(), WriteFau
             b"lrs: usage: lrs convert / run LEDGER / resume LEDGER / status LEDGER / job / demo KIND N\n",
         ),
         Status::BadFile(bad) => bad_file_line(*bad, out),
+        Status::Infeasible => write_all(out, b"lrs: infeasible\n"),
         Status::Overflow(overflow) => overflow_line(overflow, out),
         Status::ReadFault => write_all(out, b"lrs: read fault\n"),
         Status::WriteFault => write_all(out, b"lrs: write fault\n"),

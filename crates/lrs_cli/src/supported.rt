@@ -2,7 +2,7 @@
 ghost use Rattle.std.specs.Prelude.{◌≡◌, ◌<◌, ◌≤◌, ◌+◌, ◌||◌, ◌&&◌, ℕ, false, int_lt, pos, length, slice_index_or, get_or, IfSome, position};
 ghost use Rattle.std.specs.List.{list_all};
 ghost use Rattle.poly_model.specs.Systems.{no_file_row};
-ghost use Rattle.lrs_cli.specs.Supported.{is_zero, is_nonzero, is_positive_then_zeros, is_unit_at, is_place, has_unit_at, starts_nonnegative, holds_at_origin, is_bounded, is_h, is_supported};
+ghost use Rattle.lrs_cli.specs.Supported.{is_zero, is_nonzero, is_positive_then_zeros, is_unit_at, is_place, has_unit_at, is_inequality, is_bounded, is_h, is_supported};
 
 use poly_model::{Kind, Poly};
 use poly_num::Num;
@@ -10,8 +10,8 @@ use poly_num::Num;
 /// The most numbers in a row.
 const MAX_WIDTH: usize = 256;
 
-/// Whether the program lists this polyhedron: an H file without equations, whose rows all hold at the
-/// origin, and which has for each coordinate a row that bounds it alone from below.
+/// Whether the program lists this polyhedron: an H file without equations that has for each coordinate a
+/// row that bounds it alone from below, so that no line lies in it.
 pub fn is_supported(poly: &Poly) -> bool
     ensures { result ≡ is_supported poly.now }
 {
@@ -19,9 +19,9 @@ pub fn is_supported(poly: &Poly) -> bool
 }
 
 fn rows_are_supported(poly: &Poly) -> bool
-    ensures { result ≡ (list_all holds_at_origin poly.now.rows && is_bounded poly.now) }
+    ensures { result ≡ (list_all is_inequality poly.now.rows && is_bounded poly.now) }
 {
-    hold_at_origin(poly) && is_bounded(poly)
+    are_inequalities(poly) && is_bounded(poly)
 }
 
 fn is_h(kind: Kind) -> bool
@@ -33,23 +33,16 @@ fn is_h(kind: Kind) -> bool
     }
 }
 
-// Whether each row is an inequality that the origin meets.
-fn hold_at_origin(poly: &Poly) -> bool
-    ensures { result ≡ list_all holds_at_origin poly.now.rows }
+// Whether no row is linear.
+fn are_inequalities(poly: &Poly) -> bool
+    ensures { result ≡ list_all is_inequality poly.now.rows }
 {
     'rows: for i in 0..poly.rows() {
-        if !holds_at_origin(poly, i) {
+        if is_linear_at(poly, i) {
             return false;
         }
     }
     true
-}
-
-fn holds_at_origin(poly: &Poly, i: u32) -> bool
-    requires { i < length poly.now.rows }
-    ensures { result ≡ holds_at_origin (slice_index_or poly.now.rows i no_file_row) }
-{
-    !is_linear_at(poly, i) && starts_nonnegative(row_at(poly, i))
 }
 
 // Whether row i, counted from 0, is linear.
@@ -72,13 +65,6 @@ fn row_at(poly: &Poly, i: u32) -> &[Num]
     poly.row(i + 1)
 }
 
-fn starts_nonnegative(row: &[Num]) -> bool
-    requires { 0 < length row.now }
-    ensures { result ≡ starts_nonnegative row.now }
-{
-    !is_negative(row[0])
-}
-
 // Whether each place from 1 on is that of a row that is zero elsewhere and positive there.
 fn is_bounded(poly: &Poly) -> bool
     ensures { result ≡ is_bounded poly.now }
@@ -96,12 +82,6 @@ fn unit_places(poly: &Poly) -> [bool; MAX_WIDTH]
         mark_unit_place(&mut found, row_at(poly, i));
     }
     found
-}
-
-fn is_negative(x: Num) -> bool
-    ensures { result ≡ int_lt x (pos 0) }
-{
-    x.get() < 0
 }
 
 fn is_positive(x: Num) -> bool

@@ -3,8 +3,9 @@ ghost use Rattle.std.specs.Prelude.{◌≡◌, ℕ, map};
 ghost use Rattle.std.specs.Io.KnownBytes.{IsAtEnd};
 ghost use Rattle.poly_io.specs.Causes.{Rose};
 ghost use Rattle.poly_io.specs.Taken.{TakesAtMost};
+ghost use Rattle.poly_model.specs.declared.overflow.Overflow.{Overflow as Passed};
 ghost use Rattle.poly_reader.specs.declared.bad.BadFile.{BadFile};
-ghost use Rattle.lrs_cli.specs.Answers.{IsLine, Told, IsSupported, IsUnsupported, IsBadFile, Lists, WritesNothing};
+ghost use Rattle.lrs_cli.specs.Answers.{IsLine, Told, IsSupported, IsUnsupported, IsBadFile, IsInfeasible, IsOverflow, IsListed, IsPartlyListed, Lists, StopsListing, WritesNothing};
 
 use crate::convert::convert;
 use crate::status::Status;
@@ -17,7 +18,12 @@ pub fn lrs<I: Source, O: Sink>(alloc: Global, words: &[&str], input: &mut I, out
     ensures line { ¬ (result ≡ Status.Usage) → IsLine (map (λ w. w.now) words.now) }
     ensures unread { result ≡ Status.Usage → input.new ≡ input.old }
     ensures unwritten { WritesNothing result → out.new ≡ out.old }
-    ensures done { (rows lines : ℕ) → result ≡ Status.Done rows lines → IsAtEnd (I.left input.new) }
+    ensures end { (rows lines : ℕ) → result ≡ Status.Done rows lines → IsAtEnd (I.left input.new) }
+    ensures done { (rows lines : ℕ) → result ≡ Status.Done rows lines →
+        Told (I.left input.old) (IsListed (O.written out.old) (O.written out.new) rows lines) }
+    ensures stopped { StopsListing result → Told (I.left input.old) (IsPartlyListed (O.written out.old) (O.written out.new)) }
+    ensures infeasible { result ≡ Status.Infeasible → Told (I.left input.old) IsInfeasible }
+    ensures overflow { (o : Passed) → result ≡ Status.Overflow o → Told (I.left input.old) (IsOverflow o) }
     ensures supported { Lists result → Told (I.left input.old) IsSupported }
     ensures unsupported { result ≡ Status.Unsupported → Told (I.left input.old) IsUnsupported }
     ensures bad { (f : BadFile) → result ≡ Status.BadFile f → Told (I.left input.old) (IsBadFile f) }
