@@ -9,3 +9,4 @@ pub mod ColumnShown
 pub mod ShowUnder
 pub mod LoopUnder
 pub mod BeginAt
+pub mod FeasibleUnder

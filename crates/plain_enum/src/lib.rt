@@ -5,6 +5,7 @@
 #![tactic(auto)]
 
 mod begin;
+mod feasible;
 mod list;
 mod shown;
 mod side;
