@@ -10,3 +10,4 @@ pub mod ShowUnder
 pub mod LoopUnder
 pub mod BeginAt
 pub mod FeasibleUnder
+pub mod FeasiblePlain

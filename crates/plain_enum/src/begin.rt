@@ -1,14 +1,38 @@
-//! With what a listing begins: dictionaries to write over, one for each further row that a list takes, and room for a
-//! vector.
-ghost use Rattle.std.specs.Prelude.{◌≡◌, ◌<◌, ◌↔◌, IfOk, IsTrue, length};
+//! With what a recursion over prefixes of rows begins.
+ghost use Rattle.std.specs.Prelude.{◌≡◌, ◌<◌, ◌+◌, ◌↔◌, IfOk, IsTrue, length};
 ghost use Rattle.std.specs.List.{All};
+ghost use Rattle.poly_model.specs.declared.overflow.Phase.TheVariants.{Cone};
+ghost use Rattle.dictionary.specs.New.{IsNew};
 ghost use Rattle.plain_enum.specs.Columns.{HasRows};
 ghost use Rattle.plain_enum.specs.Listed.{HasShapeOf};
 
 use dictionary::Dict;
-use poly_model::Label;
+use poly_model::{Label, Phase, System};
 use poly_num::Num;
 use std::alloc::{AllocError, Global};
+
+/// What a recursion over prefixes of rows begins with: the dictionary of the coordinates, one more of its shape for each
+/// further row that a list takes, and room for a vector.
+#[derive(Drop)]
+pub(crate) struct Beginning {
+    pub(crate) at: Dict,
+    pub(crate) deeper: Vec<Dict>,
+    pub(crate) vector: Vec<Num>,
+}
+
+/// The beginning for a system. The answer is `Err` only for want of memory.
+pub(crate) fn beginning_of(alloc: Global, sys: &System) -> Result<Beginning, AllocError>
+    ensures new { IfOk result (λ b. IsNew sys.now Cone b.at) }
+    ensures depth { IfOk result (λ b. length b.deeper.items + 1 ≡ sys.now.n) }
+    ensures shapes { IfOk result (λ b. All (HasShapeOf b.at) b.deeper.items) }
+    ensures width { IfOk result (λ b. length b.vector.items ≡ sys.now.n) }
+{
+    let n = sys.n();
+    let at = Dict::new(alloc, sys, Phase::Cone)?;
+    let deeper = copies(alloc, &at, n as usize - 1)?;
+    let vector = zero_vector(alloc, n)?;
+    Ok(Beginning { at, deeper, vector })
+}
 
 /// So many copies of a dictionary. The answer is `Err` only for want of memory.
 pub(crate) fn copies(alloc: Global, at: &Dict, count: usize) -> Result<Vec<Dict>, AllocError>

@@ -3,19 +3,57 @@ ghost use Rattle.std.specs.Prelude.{◌≡◌, ◌≤◌, ◌<◌, ◌↔◌, �
 ghost use Rattle.std.specs.List.{All};
 ghost use Rattle.poly_model.specs.declared.overflow.Overflow.{Overflow as Passed};
 ghost use Rattle.poly_model.specs.Overflows.{Passes};
-ghost use Rattle.poly_model.specs.Systems.{Polyhedron};
+ghost use Rattle.poly_model.specs.Systems.{Polyhedron, cone_of};
+ghost use Rattle.poly_model.specs.declared.kind.Kind.TheVariants.{H};
+ghost use Rattle.poly_model.specs.Extreme.{IsFeasible};
 ghost use Rattle.poly_model.specs.Cones.{at};
 ghost use Rattle.listing_laws.specs.ListedCone.{ListedCone};
 ghost use Rattle.plain_enum.specs.Columns.{HasRows};
 ghost use Rattle.plain_enum.specs.Listed.{HasShapeOf, IsAt};
-ghost use Rattle.plain_enum.specs.Feasible.{TellsUnder};
+ghost use Rattle.plain_enum.specs.Feasible.{IsPlain, TellsUnder};
 
+use crate::begin::{Beginning, beginning_of, has_rows};
 use crate::list::take_row;
 use crate::shown::{shown_side, write_direction};
 use crate::side::{column_of, last_coordinate};
 use dictionary::Dict;
 use poly_model::{Label, Overflow, System};
 use poly_num::Num;
+use std::alloc::Global;
+
+/// Why it was not found out whether a file is feasible: a number of a dictionary would pass 127 bits, or there was no
+/// memory for the dictionaries.
+#[derive(Clone, Copy, PartialEq, Eq, Debug)]
+pub enum FeasibleStop {
+    Overflow(Overflow),
+    Memory,
+}
+
+/// Whether an H file without equations, whose cone holds no line, is feasible. `sys` is its cone, and is left as it is;
+/// the dictionaries are given back before the call returns, whatever it answers.
+pub fn feasible_plain(alloc: Global, sys: &System) -> Result<bool, FeasibleStop>
+    ensures answer { IfOk result (λ found. (p : Polyhedron) → sys.now ≡ cone_of p → p.kind ≡ H → IsPlain p →
+        IsTrue found ↔ IsFeasible (cone_of p)) }
+    ensures overflow { (o : Passed) → IsErrOf result (FeasibleStop.Overflow o) → (p : Polyhedron) →
+        sys.now ≡ cone_of p → IsPlain p → Passes p o }
+{
+    let Ok(begun) = beginning_of(alloc, sys) else {
+        return Err(FeasibleStop::Memory);
+    };
+    let Beginning {
+        at,
+        mut deeper,
+        mut vector,
+    } = begun;
+    // the cone of a polyhedron has them: the contract says nothing of other systems
+    if !has_rows(&at, sys.rows()) {
+        return Ok(false);
+    }
+    match has_point_under(sys, &at, &mut deeper, 1, &mut vector) {
+        Ok(found) => Ok(found),
+        Err(overflow) => Err(FeasibleStop::Overflow(overflow)),
+    }
+}
 
 // Whether the direction that is left is shown, and its vector has a positive first entry.
 fn shows_point(sys: &System, at: &Dict, from: u32, vector: &mut [Num]) -> bool

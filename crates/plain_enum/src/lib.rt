@@ -12,6 +12,7 @@ mod side;
 
 ghost use Rattle.plain_enum.specs.Laws.{ValuesAtColumns, NewByEntry, FollowsByEntries, OneIsLeft, TestByEntries, BeginsAtCoordinates, PivotTakes, DictionaryStays};
 
+pub use feasible::{FeasibleStop, feasible_plain};
 pub use list::{PlainStop, Shown, list_under, show};
 pub use side::{Side, column_of};
 
