@@ -9,6 +9,8 @@ mod feasible;
 mod list;
 mod shown;
 mod side;
+#[cfg(test)]
+mod tests;
 
 ghost use Rattle.plain_enum.specs.Laws.{ValuesAtColumns, NewByEntry, FollowsByEntries, OneIsLeft, TestByEntries, BeginsAtCoordinates, PivotTakes, DictionaryStays};
 
