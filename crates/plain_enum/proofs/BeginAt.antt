@@ -14,7 +14,7 @@ use Rattle.dictionary.specs.Views.{Dictionary, IsDictionaryIn}
 use Rattle.listing_laws.specs.ListedCone.{ListedCone, IsConeOf, cone_over}
 use Rattle.listing_laws.proofs.BaseLemmas.{nothing_is_base}
 use Rattle.plain_enum.specs.Columns.{HasRows}
-use Rattle.plain_enum.specs.Feasible.{IsPlain}
+use Rattle.plain_enum.specs.Plain.{IsPlain}
 use Rattle.plain_enum.specs.Listed.{IsAt, HasShapeOf}
 use Rattle.plain_enum.specs.Standing.{HasRowsOf}
 use Rattle.plain_enum.proofs.Steps.{begins_at_coordinates}

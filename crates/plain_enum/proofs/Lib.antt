@@ -10,3 +10,5 @@ pub mod ShowUnder
 pub mod LoopUnder
 pub mod ListingParts
 pub mod BeginAt
+pub mod FeasibleUnder
+pub mod FeasiblePlain

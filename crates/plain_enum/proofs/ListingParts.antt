@@ -21,7 +21,7 @@ use Rattle.listing_laws.proofs.ConeLemmas.{is_listable}
 use Rattle.listing_laws.proofs.ListingLemmas.{whole_listing}
 use Rattle.listing_laws.proofs.WholeLists.{prefix_has_list}
 use Rattle.plain_enum.specs.Listed.{HasWritten}
-use Rattle.plain_enum.specs.Feasible.{IsPlain}
+use Rattle.plain_enum.specs.Plain.{IsPlain}
 use Rattle.plain_enum.specs.Plain.{WritesListing}
 
 -- where no column is free there are no lines

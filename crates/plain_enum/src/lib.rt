@@ -6,14 +6,18 @@
 
 mod answers;
 mod begin;
+mod feasible;
 mod list;
 mod plain;
 mod shown;
 mod side;
+#[cfg(test)]
+mod tests;
 
 ghost use Rattle.plain_enum.specs.Laws.{ValuesAtColumns, NewByEntry, FollowsByEntries, OneIsLeft, TestByEntries, BeginsAtCoordinates, PivotTakes, DictionaryStays};
 
 pub use answers::{PlainStop, Shown};
+pub use feasible::{FeasibleStop, feasible_plain};
 pub use list::{list_under, show};
 pub use plain::list_plain;
 pub use side::{Side, column_of};

@@ -60,7 +60,7 @@ pub fn show<S: Sink>(
 
 // Makes the next dictionary the one of the cobasis in which a row has taken the place of a column. Where that overflows,
 // the next one is as this one.
-fn take_row(at: &Dict, row: Label, col: Label, next: &mut Dict) -> Result<(), Overflow>
+pub(crate) fn take_row(at: &Dict, row: Label, col: Label, next: &mut Dict) -> Result<(), Overflow>
     requires can { CanPivot at.now row.0 col.0 }
     requires shape { HasShapeOf at.now next.old }
     ensures pivoted { IfOk result (λ _. IsPivot at.now row.0 col.0 next.new) }

@@ -10,8 +10,7 @@ ghost use Rattle.poly_model.specs.FreeColumns.{AreLines};
 ghost use Rattle.listing_laws.specs.ListedCone.{ListedCone};
 ghost use Rattle.plain_enum.specs.Columns.{HasRows};
 ghost use Rattle.plain_enum.specs.Listed.{HasShapeOf, IsAt};
-ghost use Rattle.plain_enum.specs.Feasible.{IsPlain};
-ghost use Rattle.plain_enum.specs.Plain.{WritesListing};
+ghost use Rattle.plain_enum.specs.Plain.{IsPlain, WritesListing};
 
 use crate::answers::{PlainStop, Shown};
 use crate::begin::{Beginning, at_coordinates};
