@@ -1,4 +1,4 @@
--- The first fault of what was taken from a source is that of all that it had.
+-- What is told of a text: the first fault of what was taken from a source is that of all that it had.
 use Rattle.std.proofs.Common.{◌≡◌, ◌++◌, ◌⊎◌, inl, inr, true, ℕ, List, [], length, arith, refl, sym, ◌∙◌, Option, Some, None, Err, length-append, append-nil}
 use Rattle.std.specs.Prelude.{nat_lt}
 use Rattle.std.proofs.lemmas.Bool.{lt-ltb}
@@ -6,7 +6,8 @@ use Rattle.poly_reader.specs.declared.bad.BadFile.{BadFile}
 use Rattle.poly_reader.specs.declared.bad.BadKind.TheVariants.{TooLong}
 use Rattle.poly_reader.specs.Reading.{reading}
 use Rattle.poly_reader.specs.Taking.{FindsFault}
-use Rattle.lrs_cli.specs.Answers.{Told, IsBadFile}
+use Rattle.poly_model.specs.Systems.{Polyhedron}
+use Rattle.lrs_cli.specs.Answers.{Told, IsTextOf, Describes, IsBadFile}
 
 abbrev too_long : BadFile
 too_long = record { kind = TooLong; line = 0 }
@@ -30,3 +31,9 @@ pub fault_of_source : (old new : Option (List ℕ)) (f : BadFile) → FindsFault
 fault_of_source None new f h = tt
 fault_of_source (Some whole) None f h = absurd h.taken
 fault_of_source (Some whole) (Some rest) f h = rw h.taken (fault_of_all h.text rest f h.enough h.read)
+
+-- what holds of the polyhedron of a text
+pub described : (P : Polyhedron → Type 0) (p : Polyhedron) (source : Option (List ℕ)) → Told source (IsTextOf p) → P p →
+    Told source (Describes P)
+described P p None t h = tt
+described P p (Some text) t h = record { polyhedron = p; read = t; holds = h }

@@ -8,7 +8,7 @@ ghost use Rattle.poly_model.specs.Systems.{Polyhedron, cone_of};
 ghost use Rattle.poly_model.specs.Extreme.{IsFeasible};
 ghost use Rattle.poly_model.specs.Overflows.{Passes};
 ghost use Rattle.poly_reader.specs.declared.bad.BadFile.{BadFile};
-ghost use Rattle.plain_enum.specs.Feasible.{IsPlain};
+ghost use Rattle.plain_enum.specs.Plain.{IsPlain};
 ghost use Rattle.lrs_cli.specs.Supported.{is_supported};
 ghost use Rattle.lrs_cli.specs.Answers.{Told, IsSupported, IsUnsupported, IsBadFile, IsInfeasible, IsOverflow, IsListed, IsPartlyListed, IsTextOf, WritesWhole, WritesPart, Lists, StopsListing, WritesNothing};
 
