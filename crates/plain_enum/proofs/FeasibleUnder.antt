@@ -1,6 +1,6 @@
 -- Whether a vector under a prefix has a positive first entry: where one direction is left, and the loop over the rows
 -- behind the prefix.
-use Rattle.std.proofs.Common.{◌≡◌, ◌≢◌, ◌⊎◌, ◌↔◌, ⊎_elim, inl, inr, Bool, true, false, ℕ, suc, ◌+◌, ◌<◌, ◌≤◌, pos, ◌<ℤ◌, List, [], ◌∷◌, ◌++◌, length, length-append, None, IsTrue, refl, sym, ap, ◌∙◌, subst, arith}
+use Rattle.std.proofs.Common.{◌≡◌, ◌≢◌, ◌⊎◌, ◌↔◌, ⊎_elim, inl, inr, Bool, true, false, ℕ, suc, ◌+◌, ◌<◌, ◌≤◌, pos, ◌<ℤ◌, List, [], ◌∷◌, ◌++◌, length, length-append, None, IsTrue, refl, sym, ap, subst, arith}
 use Rattle.std.specs.List.{Contains}
 use Rattle.std.proofs.KnownBytes.{Appends-nil}
 use Rattle.std.proofs.lemmas.List.Elements.{Contains-append_cases}
@@ -22,9 +22,9 @@ use Rattle.listing_laws.proofs.ConeLemmas.{is_listable}
 use Rattle.listing_laws.proofs.FirstLists.{length-taken}
 use Rattle.listing_laws.proofs.PrefixLemmas as prefix_lemmas
 use Rattle.plain_enum.specs.Columns.{IsColumnOf, HasNoColumn}
-use Rattle.plain_enum.specs.Feasible.{HasPointUnder, TellsPoint, TellsUnder}
+use Rattle.plain_enum.specs.Feasible.{TellsPoint, TellsUnder}
 use Rattle.plain_enum.specs.Listed.{IsAt}
-use Rattle.plain_enum.specs.Standing.{parted, StandsAt}
+use Rattle.plain_enum.specs.Standing.{parted}
 use Rattle.plain_enum.proofs.Counting.{length_of_cobasis}
 use Rattle.plain_enum.proofs.LoopUnder as loop_under
 use Rattle.plain_enum.proofs.Parts.{in_third}

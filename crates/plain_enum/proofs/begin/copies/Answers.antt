@@ -1,7 +1,5 @@
-use Rattle.std.proofs.Common.{List, [], ◌∷◌, length, length-append, refl, sym, ap, ◌∙◌, subst, arith}
+use Rattle.std.proofs.Common.{[], ◌∷◌, length, length-append, sym, ap, ◌∙◌, subst, arith}
 use Rattle.std.specs.List.{All}
-use Rattle.std.proofs.lemmas.List.Elements.{All-append}
-use Rattle.dictionary.specs.Views.{Dictionary}
 use Rattle.plain_enum.specs.Listed.{HasShapeOf}
 use Rattle.plain_enum.proofs.BeginAt.{copied_more}
 use Rattle.plain_enum.proofs.begin.copies.Goals as goal
