@@ -21,16 +21,17 @@ use poly_model::{Label, Overflow, System};
 use poly_num::Num;
 use std::alloc::Global;
 
-/// Why it was not found out whether a file is feasible: a number of a dictionary would pass 127 bits, or there was no
-/// memory for the dictionaries.
+/// Why it was not found out whether a file is feasible.
 #[derive(Clone, Copy, PartialEq, Eq, Debug)]
 pub enum FeasibleStop {
+    /// A product that a pivot needs, or a difference of two, passes 127 bits.
     Overflow(Overflow),
+    /// There was no memory for the dictionaries.
     Memory,
 }
 
-/// Whether an H file without equations, whose cone holds no line, is feasible. `sys` is its cone, and is left as it is;
-/// the dictionaries are given back before the call returns, whatever it answers.
+/// Whether an H file without equations, whose cone `sys` holds no line, is feasible. Takes memory for as many
+/// dictionaries as `sys` has coordinates. An error says nothing of the file.
 pub fn feasible_plain(alloc: Global, sys: &System) -> Result<bool, FeasibleStop>
     ensures answer { IfOk result (λ found. (p : Polyhedron) → sys.now ≡ cone_of p → p.kind ≡ H → IsPlain p →
         IsTrue found ↔ IsFeasible (cone_of p)) }
@@ -45,7 +46,7 @@ pub fn feasible_plain(alloc: Global, sys: &System) -> Result<bool, FeasibleStop>
         mut deeper,
         mut vector,
     } = begun;
-    // the cone of a polyhedron has them: the contract says nothing of other systems
+    // the dictionary of a polyhedron's cone has a row for each, and of other systems nothing is promised
     if !has_rows(&at, sys.rows()) {
         return Ok(false);
     }
@@ -81,10 +82,10 @@ fn starts_positive(vector: &[Num]) -> bool
     vector[0].get() > 0
 }
 
-/// Whether a vector under a prefix of rows has a positive first entry: one whose first list of tight rows has, of the
-/// rows before the label `from`, exactly the ones that `at` has in its cobasis. `deeper` has a dictionary of the same
-/// shape for each further row that a list takes; what they hold is written over, and so is `vector`.
-pub(crate) fn has_point_under(
+// Whether a vector under a prefix of rows has a positive first entry: one whose first list of tight rows has, of the
+// rows before the label `from`, exactly the ones that `at` has in its cobasis. `deeper` has a dictionary of the same
+// shape for each further row that a list takes; what they hold is written over, and so is `vector`.
+fn has_point_under(
     sys: &System,
     at: &Dict,
     deeper: &mut [Dict],
