@@ -47,6 +47,12 @@ fn converts_files(rt: HostRuntime) -> Result<(), Fail> {
             "V-representation\nbegin\n***** 3 rational\n 1 0 0\n 1 2 0\n 1 0 2/3\nend\n",
             3,
         ),
+        // A segment that does not reach the origin.
+        (
+            "H-representation\nbegin\n3 2 integer\n-1 1\n0 1\n2 -1\nend\n",
+            "V-representation\nbegin\n***** 2 rational\n 1 1\n 1 2\nend\n",
+            2,
+        ),
         // No kind, a name, fractions.
         (
             "segment\nbegin 2 2 rational 1/2 -1 +0 01 end",
@@ -90,7 +96,7 @@ fn refuses_what_it_cannot_list(rt: HostRuntime) {
     for file in [
         // The half plane.
         "H-representation\nbegin\n1 3 integer\n0 1 0\nend\n",
-        // No point.
+        // No point, and no row that bounds the coordinate from below.
         "H-representation\nbegin\n2 2 integer\n-1 1\n0 -1\nend\n",
         // A pyramid over a square.
         "H-representation\nbegin\n5 4 integer\n0 0 0 1\n1 -1 0 -1\n1 1 0 -1\n1 0 -1 -1\n1 0 1 -1\nend\n",
@@ -121,6 +127,23 @@ fn refuses_what_it_cannot_list(rt: HostRuntime) {
             })
         )
     );
+}
+
+#[test]
+fn tells_that_there_is_no_point(rt: HostRuntime) {
+    let alloc = rt.alloc();
+    for file in [
+        "H-representation\nbegin\n2 1 integer\n5\n-5\nend\n",
+        // At infinity there is a ray.
+        "H-representation\nbegin\n2 2 integer\n-1 0\n0 1\nend\n",
+        "H-representation\nbegin\n2 2 integer\n-1 -1\n0 1\nend\n",
+    ] {
+        let mut input = MemSource::new(file.as_bytes(), &[]);
+        let mut out = MemSink::new(alloc, &[]);
+        let status = lrs(alloc, ["convert"].as_slice(), &mut input, &mut out);
+        assert_eq!(rt; status, Status::Infeasible, "{file}");
+        assert_eq!(rt; out.written(), b"".as_slice());
+    }
 }
 
 #[test]
@@ -211,6 +234,7 @@ fn prints_status_lines(rt: HostRuntime) -> Result<(), Fail> {
             }),
             "lrs: bad file: WideNumber at line 12\n",
         ),
+        (Status::Infeasible, "lrs: infeasible\n"),
         (Status::Unsupported, "lrs: unsupported\n"),
     ];
     for (status, line) in rows {
