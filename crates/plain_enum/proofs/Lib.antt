@@ -7,6 +7,7 @@ pub mod OneLeft
 pub mod Steps
 pub mod ColumnShown
 pub mod ShowUnder
+pub mod NextRow
 pub mod LoopUnder
 pub mod ListingParts
 pub mod BeginAt

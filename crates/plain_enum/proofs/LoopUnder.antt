@@ -1,44 +1,33 @@
 -- The loop over the rows behind a prefix: what is written when it begins, after a row, where it ends and where it stops.
 use Rattle.std.specs.Prelude.{Result, IsErrOf}
 use Rattle.poly_model.specs.Independence.{IsNew}
-use Rattle.std.proofs.Common.{◌≡◌, ◌≢◌, ⊎_elim, Bool, true, false, ℕ, zero, suc, ◌+◌, ◌^◌, ◌<◌, ◌≤◌, List, [], ◌∷◌, ◌++◌, length, length-append, Option, Ok, Err, refl, sym, ap, subst, ◌∙◌, arith, pos, append-nil}
+use Rattle.std.proofs.Common.{◌≡◌, Bool, true, false, ℕ, zero, suc, ◌+◌, ◌^◌, ◌<◌, ◌≤◌, List, [], ◌∷◌, ◌++◌, length, length-append, Option, Ok, Err, refl, sym, ap, subst, ◌∙◌, arith, append-nil}
 use Rattle.std.specs.Result.{IsErr}
 use Rattle.std.specs.List.{All, Contains, flat_map}
 use Rattle.std.specs.Io.KnownBytes.{Appends}
 use Rattle.std.proofs.KnownBytes.{Appends-nil, Appends-trans}
 use Rattle.std.proofs.lemmas.List.Concat.{flat_map-append}
-use Rattle.std.proofs.lemmas.List.Elements.{Contains-append_cases}
 use Rattle.poly_num.specs.Vectors.{Vector}
 use Rattle.poly_model.specs.declared.kind.Kind.{Kind}
 use Rattle.poly_model.specs.declared.overflow.Overflow.{Overflow}
 use Rattle.poly_model.specs.Systems.{System, Polyhedron}
-use Rattle.poly_model.specs.Overflows.{Passes, IsPassing}
-use Rattle.poly_model.specs.Spaces.{IsSpaceOf, cone_space}
-use Rattle.poly_model.specs.Dictionaries.{Table, IsDictionary}
+use Rattle.poly_model.specs.Overflows.{Passes}
 use Rattle.poly_model.specs.ListingText.{row_text}
 use Rattle.poly_io.specs.Written.{AppendsPart}
 use Rattle.poly_io.proofs.Parts.{part_after}
-use Rattle.linear_laws.proofs.Members.{Contains-nil}
 use Rattle.dictionary_laws.proofs.Members.{without}
-use Rattle.dictionary_laws.proofs.PhasePoints.{phase_points}
-use Rattle.dictionary.specs.Views.{Dictionary, CanPivot, IsPivot, IsOverflow, table_of}
+use Rattle.dictionary.specs.Views.{Dictionary, CanPivot, IsPivot, IsOverflow}
 use Rattle.listing_laws.specs.ListedCone.{ListedCone, IsListable}
 use Rattle.listing_laws.specs.Lists.{Begins}
-use Rattle.listing_laws.specs.Prefixes.{taken_at, next_row, labels_of, IsUnder, IsListedUpTo}
+use Rattle.listing_laws.specs.Prefixes.{taken_at, next_row as first_without_mark, IsUnder, IsListedUpTo}
 use Rattle.listing_laws.proofs.ConeLemmas.{is_listable}
-use Rattle.listing_laws.proofs.FirstLists.{length-taken, labels-with}
 use Rattle.listing_laws.proofs.PrefixLemmas.{loop_begins, loop_skips, loop_takes, loop_ends}
 use Rattle.listing_laws.proofs.WholeLists.{loop_stops, loop_stops_within}
 use Rattle.plain_enum.specs.declared.answers.Shown.{Shown}
 use Rattle.plain_enum.specs.Columns.{HasRows, IsColumnOf, HasNoColumn}
 use Rattle.plain_enum.specs.Listed.{IsAt, counted, HasWritten, WritesRows, WritesUnder, HasShapeOf}
-use Rattle.plain_enum.specs.Standing.{parted, StandsAt}
-use Rattle.plain_enum.proofs.Counting.{length_of_cobasis}
-use Rattle.plain_enum.proofs.Parts.{in_third}
-use Rattle.plain_enum.proofs.RowsTaken.{as_many}
-use Rattle.plain_enum.proofs.Standings.{stands_dictionary, taken_within, new_by_entry, follows_by_entries}
+use Rattle.plain_enum.proofs.NextRow as next_row
 use Rattle.plain_enum.proofs.ShowUnder.{counted_none}
-use Rattle.plain_enum.proofs.Steps.{pivot_takes, dictionary_stays}
 
 -- ---- dictionaries of one shape
 pub shape_first : (d e : Dictionary) (xs : List Dictionary) → All (HasShapeOf d) (e ∷ xs) → HasShapeOf d e
@@ -65,13 +54,6 @@ shapes_joined d e xs s a (suc k) z l = a k z (omega arith)
 
 pub rows_stay : (d new : Dictionary) (rows i k : ℕ) → IsPivot d i k new → HasRows rows d → HasRows rows new
 rows_stay d new rows i k pivot h j a b = subst (λ ks. Contains ks j) (sym pivot.labels) (h j a b)
-
--- ---- how many labels are left
-count_left : (p : Polyhedron) (cone : ListedCone) (d : Dictionary) (fixed left : List ℕ) (marks : List Bool) →
-    StandsAt p cone d fixed left marks → length fixed + (length (labels_of marks) + length left) ≡ p.n
-count_left p cone d fixed left marks s =
-    let all = length_of_cobasis p (parted fixed marks left) (stands_dictionary p cone d fixed left marks s).cobasis in
-    omega (arith, all, length-append fixed (labels_of marks ++ left), length-append (labels_of marks) left)
 
 -- ---- the one error of an answer
 same_err : {T E : Type 0} (x y : E) → ◌≡◌ {A = Result T E} (Err y) (Err x) → y ≡ x
@@ -122,100 +104,59 @@ writes_beginning kind rows old new xs P (Err y) r b a = record { whole = tt; par
 
 -- ---- the loop
 -- of the vectors under the prefix these are written, and those under the marks, at which the dictionary stands, are left
-pub record IsInLoop (p : Polyhedron) (cone : ListedCone) (d : Dictionary) (fixed left : List ℕ) (prefix : List Bool) (kind : Kind) (rows count : ℕ) (old now : Option (List ℕ)) (i : ℕ) : Type 0 where
+pub record IsInLoop (sys : System) (d : Dictionary) (depth : ℕ) (p : Polyhedron) (cone : ListedCone) (fixed left : List ℕ) (prefix : List Bool) (rows count : ℕ) (old now : Option (List ℕ)) (i : ℕ) : Type 0 where
   pub marks : List Bool
-  pub next : i ≡ length marks + 1
-  pub stands : StandsAt p cone d fixed left marks
+  pub here : IsAt sys d i depth p cone fixed left marks
   pub shown : List Vector
   pub listed : IsListedUpTo cone prefix marks shown
-  pub written : HasWritten kind old now rows count shown
+  pub written : HasWritten sys.kind old now rows count shown
 
 -- so it is wherever the dictionary stands
 abbrev pub InLoop : System → Dictionary → ℕ → ℕ → ℕ → ℕ → Option (List ℕ) → Option (List ℕ) → ℕ → Type 0
 InLoop sys d from depth rows count old now i =
     (p : Polyhedron) (cone : ListedCone) (fixed left : List ℕ) (prefix : List Bool) →
-    IsAt sys d from depth p cone fixed left prefix → IsInLoop p cone d fixed left prefix sys.kind rows count old now i
+    IsAt sys d from depth p cone fixed left prefix → IsInLoop sys d depth p cone fixed left prefix rows count old now i
 
 pub loop_start : (sys : System) (d : Dictionary) (from depth : ℕ) (rows : ℕ) (old : Option (List ℕ)) → rows < 2 ^ 64 →
     InLoop sys d from depth rows rows old old from
 loop_start sys d from depth rows old few p cone fixed left prefix at = record {
   marks = prefix;
-  next = at.next;
-  stands = at.stands;
+  here = at;
   shown = [];
   listed = loop_begins cone prefix;
   written = record { bytes = Appends-nil old; count = counted_none rows few };
 }
 
-module _ (sys : System) (d : Dictionary) (from depth rows count : ℕ) (old now : Option (List ℕ)) (i : ℕ)
+module _ (sys : System) (d : Dictionary) (depth rows count : ℕ) (old now : Option (List ℕ)) (i : ℕ)
     (p : Polyhedron) (cone : ListedCone) (fixed left : List ℕ) (prefix : List Bool)
-    (at : IsAt sys d from depth p cone fixed left prefix)
-    (s : IsInLoop p cone d fixed left prefix sys.kind rows count old now i) where
+    (s : IsInLoop sys d depth p cone fixed left prefix rows count old now i) where
   listable : IsListable cone
-  listable = is_listable sys cone at.is_cone
+  listable = is_listable sys cone s.here.is_cone
+
+  pub overflows : (k : ℕ) (o : Overflow) → CanPivot d i k → IsOverflow d i k o → Passes p o
+  overflows = next_row.overflows sys d i depth p cone fixed left s.marks s.here
 
   -- ---- at a row
   module _ (row : i ≤ length sys.rows) where
     before : length s.marks < length cone.rows
-    before =
-        let rows = as_many p cone s.stands.over in
-        let same = ap (λ (t : System). length t.rows) at.file in
-        omega (arith, rows, same, s.next)
+    before = next_row.before sys d i depth p cone fixed left s.marks s.here row
 
-    pub skipped : HasNoColumn d i → IsInLoop p cone d fixed left prefix sys.kind rows count old now (i + 1)
+    pub skipped : HasNoColumn d i → IsInLoop sys d depth p cone fixed left prefix rows count old now (i + 1)
     skipped none = record {
       marks = s.marks ++ false ∷ [];
-      next = omega (arith, length-append s.marks (false ∷ []), s.next);
-      stands = dictionary_stays p cone d fixed left s.marks s.stands before;
+      here = next_row.stays sys d i depth p cone fixed left s.marks s.here row;
       shown = s.shown;
       listed = loop_skips cone s.marks before prefix s.shown
-          (follows_by_entries p cone d fixed left s.marks s.stands before
-          (λ k c. subst (λ j. Table.entry (table_of d) j k ≡ pos 0) s.next
-          (none k (s.stands.key.back k (in_third fixed (labels_of s.marks) left k c)) (s.stands.coordinates k c))))
-          s.listed;
+          (next_row.follows sys d i depth p cone fixed left s.marks s.here row none) s.listed;
       written = s.written;
     }
 
     module _ (k : ℕ) (column : IsColumnOf d i k) (new : Dictionary) (pivot : IsPivot d i k new) where
-      is_left : Contains left k
-      is_left =
-          ⊎_elim
-          (λ f. absurd (Contains-nil k (subst (λ ks. Contains ks k) at.nothing_fixed f)))
-          (λ r. ⊎_elim
-          (λ t. absurd (
-          let low = taken_within p cone d fixed left s.marks s.stands k t in
-          let few = s.stands.over.few in
-          let high = column.coordinate in
-          omega (arith, as_many p cone s.stands.over)))
-          (λ l. l)
-          (Contains-append_cases (labels_of s.marks) left k r))
-          (Contains-append_cases fixed (labels_of s.marks ++ left) k (s.stands.key.there k column.inside))
-
-      taken : StandsAt p cone new fixed (without k left) (s.marks ++ true ∷ [])
-      taken =
-          pivot_takes p cone d new fixed left s.marks s.stands k is_left
-          (subst (λ j. IsPivot d j k new) s.next pivot) before
-
       pub deeper : (less : ℕ) → suc less ≡ depth → IsAt sys new (i + 1) less p cone fixed (without k left) (s.marks ++ true ∷ [])
-      deeper less e = record {
-        file = at.file;
-        is_cone = at.is_cone;
-        phase = pivot.phase ∙ at.phase;
-        stands = taken;
-        nothing_fixed = at.nothing_fixed;
-        next = omega (arith, length-append s.marks (true ∷ []), s.next);
-        count =
-            let all = count_left p cone d fixed left s.marks s.stands in
-            let now = count_left p cone new fixed (without k left) (s.marks ++ true ∷ []) taken in
-            let more = ap length (labels-with 1 s.marks) in
-            let one = length-append (labels_of s.marks) ((length s.marks + 1) ∷ []) in
-            omega (arith, at.count, e, all, now, more, one);
-      }
+      deeper = next_row.goes_deeper sys d i depth p cone fixed left s.marks s.here row k column new pivot
 
-      is_new : IsNew cone.n (taken_at cone s.marks) (next_row cone s.marks)
-      is_new =
-          new_by_entry p cone d fixed left s.marks s.stands before k is_left
-          (λ z. column.nonzero (subst (λ j. Table.entry (table_of d) j k ≡ pos 0) (sym s.next) z))
+      is_new : IsNew cone.n (taken_at cone s.marks) (first_without_mark cone s.marks)
+      is_new = next_row.is_new sys d i depth p cone fixed left s.marks s.here row k column
 
       -- what the deeper dictionary writes
       module _ (less : ℕ) (e : suc less ≡ depth) (later : Option (List ℕ)) where
@@ -227,13 +168,12 @@ module _ (sys : System) (d : Dictionary) (from depth rows count : ℕ) (old now 
         rows_below result w = w p cone fixed (without k left) (s.marks ++ true ∷ []) (deeper less e)
 
         pub goes_on : {E : Type 0} (x : Shown) → Below {E = E} (Ok x) →
-            IsInLoop p cone d fixed left prefix sys.kind rows x.rows old later (i + 1)
+            IsInLoop sys d depth p cone fixed left prefix rows x.rows old later (i + 1)
         goes_on x w =
             let more = (rows_below (Ok x) w).whole in
             record {
               marks = s.marks ++ false ∷ [];
-              next = omega (arith, length-append s.marks (false ∷ []), s.next);
-              stands = dictionary_stays p cone d fixed left s.marks s.stands before;
+              here = next_row.stays sys d i depth p cone fixed left s.marks s.here row;
               shown = s.shown ++ more.0;
               listed = loop_takes cone s.marks before prefix s.shown more.0 is_new s.listed more.1;
               written = written_on sys.kind old now later rows count x.rows s.shown more.0 s.written more.2;
@@ -251,47 +191,18 @@ module _ (sys : System) (d : Dictionary) (from depth rows count : ℕ) (old now 
   pub stops : {E : Type 0} (y : E) → WritesRows {E = E} sys.kind rows old now (Err y) (IsUnder cone prefix)
   stops y =
       writes_beginning sys.kind rows old now s.shown (IsUnder cone prefix) (Err y) refl
-      (loop_stops cone listable prefix s.marks s.shown s.stands.within s.listed) (rows_all sys.kind old now s.shown s.written.bytes)
+      (loop_stops cone listable prefix s.marks s.shown s.here.stands.within s.listed)
+      (rows_all sys.kind old now s.shown s.written.bytes)
 
   pub ends : {E : Type 0} (x : Shown) → x.rows ≡ count → length sys.rows < i → 0 < depth →
       WritesRows {E = E} sys.kind rows old now (Ok x) (IsUnder cone prefix)
   ends x same behind some = record {
     whole = (
       s.shown,
-      loop_ends cone listable prefix s.marks s.shown all short s.listed,
+      loop_ends cone listable prefix s.marks s.shown
+          (next_row.all_decided sys d i depth p cone fixed left s.marks s.here behind)
+          (next_row.too_short sys d i depth p cone fixed left s.marks s.here some) s.listed,
       subst (λ n. HasWritten sys.kind old now rows n s.shown) (sym same) s.written,
     );
     part = tt;
-  }
-    where
-      all : length s.marks ≡ length cone.rows
-      all =
-          let rows = as_many p cone s.stands.over in
-          let same = ap (λ (t : System). length t.rows) at.file in
-          omega (arith, rows, same, s.next, s.stands.within)
-
-      short : length (taken_at cone s.marks) + 1 ≢ cone.n
-      short h =
-          let many = length-taken cone.base cone.rows s.marks 1 s.stands.within in
-          let left_over = count_left p cone d fixed left s.marks s.stands in
-          omega (arith, h, many, left_over, at.count, s.stands.count, s.stands.over.width)
-
-  -- ---- a product that passes
-  pub overflows : (k : ℕ) (o : Overflow) → CanPivot d i k → IsOverflow d i k o → Passes p o
-  overflows k o can over = record {
-    space = cone_space p;
-    phase = subst (λ f. IsSpaceOf p f (cone_space p)) (sym (over.phase ∙ at.phase)) refl;
-    point = (phase_points p).cone;
-    table = table_of d;
-    dictionary = subst (λ ks. IsDictionary (cone_space p) ks (table_of d)) (sym over.key) s.stands.dictionary.dictionary;
-    r = i;
-    s = k;
-    outside = (
-      subst (λ ks. Contains ks i) s.stands.dictionary.labels can.label,
-      λ c. can.outside (subst (λ ks. Contains ks i) over.key c),
-    );
-    inside = subst (λ ks. Contains ks k) (sym over.key) can.inside;
-    nonzero = can.nonzero;
-    passing = subst (λ ks. IsPassing (cone_space p).labels ks (table_of d) i k o) (sym over.key)
-        (subst (λ ks. IsPassing ks d.key (table_of d) i k o) s.stands.dictionary.labels over.passes);
   }

@@ -1,0 +1,136 @@
+-- Where a dictionary stands at a prefix of rows: how many labels are left, and the next row, taken or not.
+use Rattle.std.proofs.Common.{◌≡◌, ◌≢◌, ⊎_elim, Bool, true, false, ℕ, suc, ◌+◌, ◌<◌, ◌≤◌, pos, List, [], ◌∷◌, ◌++◌, length, length-append, refl, sym, ap, ◌∙◌, subst, arith}
+use Rattle.std.specs.List.{Contains}
+use Rattle.std.proofs.lemmas.List.Elements.{Contains-append_cases}
+use Rattle.poly_model.specs.declared.overflow.Overflow.{Overflow}
+use Rattle.poly_model.specs.Independence.{Follows, IsNew}
+use Rattle.poly_model.specs.Systems.{System, Polyhedron}
+use Rattle.poly_model.specs.Overflows.{Passes, IsPassing}
+use Rattle.poly_model.specs.Spaces.{IsSpaceOf, cone_space}
+use Rattle.poly_model.specs.Dictionaries.{Table, IsDictionary}
+use Rattle.linear_laws.proofs.Members.{Contains-nil}
+use Rattle.dictionary_laws.proofs.Members.{without}
+use Rattle.dictionary_laws.proofs.PhasePoints.{phase_points}
+use Rattle.dictionary.specs.Views.{Dictionary, CanPivot, IsPivot, IsOverflow, table_of}
+use Rattle.listing_laws.specs.ListedCone.{ListedCone}
+use Rattle.listing_laws.specs.Prefixes.{taken_at, next_row, labels_of}
+use Rattle.listing_laws.proofs.FirstLists.{length-taken, labels-with}
+use Rattle.plain_enum.specs.Columns.{IsColumnOf, HasNoColumn}
+use Rattle.plain_enum.specs.Listed.{IsAt}
+use Rattle.plain_enum.specs.Standing.{parted, StandsAt}
+use Rattle.plain_enum.proofs.Counting.{length_of_cobasis}
+use Rattle.plain_enum.proofs.Parts.{in_third}
+use Rattle.plain_enum.proofs.RowsTaken.{as_many}
+use Rattle.plain_enum.proofs.Standings.{stands_dictionary, taken_within, new_by_entry, follows_by_entries}
+use Rattle.plain_enum.proofs.Steps.{pivot_takes, dictionary_stays}
+
+-- ---- how many labels are left
+count_left : (p : Polyhedron) (cone : ListedCone) (d : Dictionary) (fixed left : List ℕ) (marks : List Bool) →
+    StandsAt p cone d fixed left marks → length fixed + (length (labels_of marks) + length left) ≡ p.n
+count_left p cone d fixed left marks s =
+    let all = length_of_cobasis p (parted fixed marks left) (stands_dictionary p cone d fixed left marks s).cobasis in
+    omega (arith, all, length-append fixed (labels_of marks ++ left), length-append (labels_of marks) left)
+
+-- ---- where a dictionary stands, and its next row
+module _ (sys : System) (d : Dictionary) (i depth : ℕ) (p : Polyhedron) (cone : ListedCone) (fixed left : List ℕ)
+    (marks : List Bool) (here : IsAt sys d i depth p cone fixed left marks) where
+  same_rows : length cone.rows ≡ length sys.rows
+  same_rows =
+      let rows = as_many p cone here.stands.over in
+      let same = ap (λ (t : System). length t.rows) here.file in
+      omega (arith, rows, same)
+
+  -- behind the last row all rows are decided, and the list is too short for a corner
+  pub all_decided : length sys.rows < i → length marks ≡ length cone.rows
+  all_decided behind = omega (arith, same_rows, here.next, here.stands.within, behind)
+
+  pub too_short : 0 < depth → length (taken_at cone marks) + 1 ≢ cone.n
+  too_short some h =
+      let many = length-taken cone.base cone.rows marks 1 here.stands.within in
+      let all = count_left p cone d fixed left marks here.stands in
+      omega (arith, h, many, all, here.count, here.stands.count, here.stands.over.width, some)
+
+  module _ (row : i ≤ length sys.rows) where
+    pub before : length marks < length cone.rows
+    before = omega (arith, same_rows, here.next, row)
+
+    -- the next row not taken
+    pub stays : IsAt sys d (i + 1) depth p cone fixed left (marks ++ false ∷ [])
+    stays = record {
+      file = here.file;
+      is_cone = here.is_cone;
+      phase = here.phase;
+      stands = dictionary_stays p cone d fixed left marks here.stands before;
+      nothing_fixed = here.nothing_fixed;
+      next = omega (arith, length-append marks (false ∷ []), here.next);
+      count = here.count;
+    }
+
+    pub follows : HasNoColumn d i → Follows cone.n (taken_at cone marks) (next_row cone marks)
+    follows none =
+        follows_by_entries p cone d fixed left marks here.stands before
+        (λ k c. subst (λ j. Table.entry (table_of d) j k ≡ pos 0) here.next
+        (none k (here.stands.key.back k (in_third fixed (labels_of marks) left k c)) (here.stands.coordinates k c)))
+
+    is_left : (k : ℕ) → IsColumnOf d i k → Contains left k
+    is_left k column =
+        ⊎_elim
+        (λ f. absurd (Contains-nil k (subst (λ ks. Contains ks k) here.nothing_fixed f)))
+        (λ r. ⊎_elim
+        (λ t. absurd (
+        let low = taken_within p cone d fixed left marks here.stands k t in
+        let few = here.stands.over.few in
+        let high = column.coordinate in
+        omega (arith, as_many p cone here.stands.over)))
+        (λ l. l)
+        (Contains-append_cases (labels_of marks) left k r))
+        (Contains-append_cases fixed (labels_of marks ++ left) k (here.stands.key.there k column.inside))
+
+    pub is_new : (k : ℕ) → IsColumnOf d i k → IsNew cone.n (taken_at cone marks) (next_row cone marks)
+    is_new k column =
+        new_by_entry p cone d fixed left marks here.stands before k (is_left k column)
+        (λ z. column.nonzero (subst (λ j. Table.entry (table_of d) j k ≡ pos 0) (sym here.next) z))
+
+    -- the next row taken
+    module _ (k : ℕ) (column : IsColumnOf d i k) (new : Dictionary) (pivot : IsPivot d i k new) where
+      taken : StandsAt p cone new fixed (without k left) (marks ++ true ∷ [])
+      taken =
+          pivot_takes p cone d new fixed left marks here.stands k (is_left k column)
+          (subst (λ j. IsPivot d j k new) here.next pivot) before
+
+      pub goes_deeper : (less : ℕ) → suc less ≡ depth →
+          IsAt sys new (i + 1) less p cone fixed (without k left) (marks ++ true ∷ [])
+      goes_deeper less e = record {
+        file = here.file;
+        is_cone = here.is_cone;
+        phase = pivot.phase ∙ here.phase;
+        stands = taken;
+        nothing_fixed = here.nothing_fixed;
+        next = omega (arith, length-append marks (true ∷ []), here.next);
+        count =
+            let all = count_left p cone d fixed left marks here.stands in
+            let now = count_left p cone new fixed (without k left) (marks ++ true ∷ []) taken in
+            let more = ap length (labels-with 1 marks) in
+            let one = length-append (labels_of marks) ((length marks + 1) ∷ []) in
+            omega (arith, here.count, e, all, now, more, one);
+      }
+
+  -- a product that passes
+  pub overflows : (k : ℕ) (o : Overflow) → CanPivot d i k → IsOverflow d i k o → Passes p o
+  overflows k o can over = record {
+    space = cone_space p;
+    phase = subst (λ f. IsSpaceOf p f (cone_space p)) (sym (over.phase ∙ here.phase)) refl;
+    point = (phase_points p).cone;
+    table = table_of d;
+    dictionary = subst (λ ks. IsDictionary (cone_space p) ks (table_of d)) (sym over.key) here.stands.dictionary.dictionary;
+    r = i;
+    s = k;
+    outside = (
+      subst (λ ks. Contains ks i) here.stands.dictionary.labels can.label,
+      λ c. can.outside (subst (λ ks. Contains ks i) over.key c),
+    );
+    inside = subst (λ ks. Contains ks k) (sym over.key) can.inside;
+    nonzero = can.nonzero;
+    passing = subst (λ ks. IsPassing (cone_space p).labels ks (table_of d) i k o) (sym over.key)
+        (subst (λ ks. IsPassing ks d.key (table_of d) i k o) here.stands.dictionary.labels over.passes);
+  }
