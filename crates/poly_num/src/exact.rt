@@ -77,7 +77,7 @@ impl Divisor {
         requires b { IsHalf b }
         requires c { IsHalf c }
         requires d { IsHalf d }
-        ensures { IfSome result (λ q. q *ℤ self.now ≡ a *ℤ b -ℤ c *ℤ d) }
+        ensures { IfSome result (λ q. (q *ℤ self.now ≡ a *ℤ b -ℤ c *ℤ d) × IsHalf q) }
     {
         let x = half_word(narrow(a))?;
         let n = half_cross(x, narrow(b), narrow(c), narrow(d));
@@ -88,7 +88,7 @@ impl Divisor {
     // A quotient of half a word, where that is right.
     fn half_guess(&self, n: i64) -> Option<Num>
         requires { IsHalf self.now }
-        ensures { IfSome result (λ q. q *ℤ self.now ≡ n) }
+        ensures { IfSome result (λ q. (q *ℤ self.now ≡ n) × IsHalf q) }
     {
         let without_twos = (n >> (self.twos % 64)).cast_unsigned();
         let q = without_twos.wrapping_mul(self.inverse).cast_signed();
