@@ -8,7 +8,7 @@ ghost use Rattle.poly_num.specs.Numbers.{IsNum, IsWord};
 ghost use Rattle.poly_num.specs.Divisors.{IsGcdOf};
 ghost use Rattle.poly_num.specs.Halves.{IsHalf};
 ghost use Rattle.dictionary.specs.Cells.{cell, pivot_cell, IsExchanged};
-ghost use Rattle.dictionary.specs.WordExchange.{HasUnitRow, IsCommonTo, IsSignOf, IsShiftedRow, IsLeftOf, IsScaled, IsRescaled};
+ghost use Rattle.dictionary.specs.WordExchange.{HasUnitRow, IsCommonTo, IsSignOf, IsShiftedRow, IsLeftOf, IsScaled, IsRescaled, IsRowOver};
 
 use crate::cells::{at_place, cell_at};
 use crate::exchange::{Exchange, exchange_in_place};
@@ -150,10 +150,17 @@ fn over_less(cells: &mut [Num], place: usize, n: Num, divisor: &mut Divisor) -> 
     quotient(n, common)
 }
 
+// Whether a table whose cells fit a machine word still is one with this cell.
+fn stays_narrow(narrow: bool, z: Num) -> bool
+    ensures { IsTrue result → IsTrue narrow × IsWord z }
+{
+    narrow && is_word(z)
+}
+
 // `n` over the divisor. Where that does not divide it, the divisor shrinks, and the cells before the place
-// grow.
+// grow. `narrow` is whether all cells are known to fit a machine word.
 #[inline(never)]
-fn over(cells: &mut [Num], place: usize, n: Num, divisor: &mut Divisor) -> Num
+fn over(cells: &mut [Num], place: usize, n: Num, divisor: &mut Divisor, narrow: &mut bool) -> Num
     requires place { place ≤ length cells.old }
     requires positive { pos 0 <ℤ divisor.old }
     requires word { IsWord divisor.old }
@@ -161,10 +168,17 @@ fn over(cells: &mut [Num], place: usize, n: Num, divisor: &mut Divisor) -> Num
     ensures quotient { result *ℤ divisor.new ≡ n }
     ensures left { IsLeftOf divisor.old n divisor.new }
     ensures rescaled { IsRescaled place divisor.old divisor.new cells.old cells.new }
+    ensures narrow { IsTrue narrow.new → IsTrue narrow.old × (cells.new ≡ cells.old) × IsWord result }
 {
     match divisor.exact(n) {
-        Some(q) => q,
-        None => over_less(cells, place, n, divisor),
+        Some(q) => {
+            *narrow = stays_narrow(*narrow, q);
+            q
+        }
+        None => {
+            *narrow = false;
+            over_less(cells, place, n, divisor)
+        }
     }
 }
 
@@ -173,7 +187,7 @@ fn over(cells: &mut [Num], place: usize, n: Num, divisor: &mut Divisor) -> Num
 fn quick(half: bool, e: Num, p: Num, c: Num, a: Num, divisor: &Divisor) -> Option<Num>
     requires e { IsWord e }
     requires half { IsTrue half → IsHalf p × IsHalf c × IsHalf a × IsHalf divisor.now }
-    ensures { IfSome result (λ q. q *ℤ divisor.now ≡ e *ℤ p -ℤ c *ℤ a) }
+    ensures { IfSome result (λ q. (q *ℤ divisor.now ≡ e *ℤ p -ℤ c *ℤ a) × IsHalf q) }
 {
     if half {
         divisor.exact_half(e, p, c, a)
@@ -183,7 +197,7 @@ fn quick(half: bool, e: Num, p: Num, c: Num, a: Num, divisor: &Divisor) -> Optio
 }
 
 // `e p - c a` over the divisor. Where that does not divide it, the divisor shrinks, and the cells before the
-// place grow.
+// place grow. `narrow` is whether all cells are known to fit a machine word.
 fn over_cross(
     cells: &mut [Num],
     place: usize,
@@ -193,6 +207,7 @@ fn over_cross(
     a: Num,
     half: bool,
     divisor: &mut Divisor,
+    narrow: &mut bool,
 ) -> Num
     requires place { place ≤ length cells.old }
     requires e { IsWord e }
@@ -206,11 +221,45 @@ fn over_cross(
     ensures quotient { result *ℤ divisor.new ≡ e *ℤ p -ℤ c *ℤ a }
     ensures left { IsLeftOf divisor.old (result *ℤ divisor.new) divisor.new }
     ensures rescaled { IsRescaled place divisor.old divisor.new cells.old cells.new }
+    ensures narrow { IsTrue narrow.new → IsTrue narrow.old × (cells.new ≡ cells.old) × IsWord result }
 {
     match quick(half, e, p, c, a, divisor) {
         Some(q) => q,
-        None => over(cells, place, word_cross(e, p, c, a), divisor),
+        None => over(cells, place, word_cross(e, p, c, a), divisor, narrow),
     }
+}
+
+// The new cells of row i from the left, as long as all that they are computed of and their quotients fit
+// half a word; c is what the row takes of the exchange's row. How many are written.
+fn quick_row(
+    cells: &mut [Num],
+    pivot_row: &[Num],
+    x: &Exchange,
+    i: usize,
+    p: Num,
+    c: Num,
+    half: bool,
+    divisor: &Divisor,
+) -> usize
+    requires size { length cells.old ≡ x.now.height * x.now.width }
+    requires width { length pivot_row.now ≡ x.now.width }
+    requires row { i < x.now.height }
+    requires words { (j : ℕ) → j < x.now.width → IsWord (cell x.now.width cells.old i j) }
+    requires half { IsTrue half → All IsHalf pivot_row.now × IsHalf p × IsHalf c × IsHalf divisor.now }
+    ensures row { IsRowOver x.now pivot_row.now i result p c divisor.now cells.old cells.new }
+    ensures words { All IsWord cells.old → All IsWord cells.new }
+{
+    if !half {
+        return 0;
+    }
+    'columns: for j in 0..x.width {
+        let e = cell_at(cells, x.height, x.width, i, j);
+        match divisor.exact_half(e, p, c, at_place(pivot_row, j)) {
+            Some(q) => cells[i * x.width + j] = q,
+            None => return j,
+        }
+    }
+    x.width
 }
 
 // Whether the row stays as it is: the exchange takes nothing of it, and divides what it is multiplied by.
@@ -235,8 +284,9 @@ fn row_fits_half(others: bool, c: Num) -> bool
 }
 
 // The exchange, where the pivot's cell less the denominator fits a machine word too. With that in the
-// column of the exchange's row, all columns take the same steps.
-fn exchange_over(cells: &mut [Num], pivot_row: &mut [Num], x: &Exchange, shift: Num)
+// column of the exchange's row, all columns take the same steps. Whether all new cells are known to fit a
+// machine word.
+fn exchange_over(cells: &mut [Num], pivot_row: &mut [Num], x: &Exchange, shift: Num) -> bool
     requires size { length cells.old ≡ x.now.height * x.now.width }
     requires room { length pivot_row.old ≡ x.now.width }
     requires row { x.now.row < x.now.height }
@@ -250,6 +300,7 @@ fn exchange_over(cells: &mut [Num], pivot_row: &mut [Num], x: &Exchange, shift: 
     requires shift_word { IsWord shift }
     ensures exchanged { IsExchanged x.now cells.old cells.new }
     ensures room { length pivot_row.new ≡ x.now.width }
+    ensures narrow { IsTrue result → All IsWord cells.new }
 {
     let common = common_factor(cells, x);
     let pivot = cell_at(cells, x.height, x.width, x.row, x.column);
@@ -258,6 +309,7 @@ fn exchange_over(cells: &mut [Num], pivot_row: &mut [Num], x: &Exchange, shift: 
     let p = over_common(word_product(sign, pivot), &common);
     let halves = fit_half(pivot_row, p, x.denominator);
     let mut divisor = Divisor::new(x.denominator);
+    let mut narrow = true;
     'rows: for i in 0..x.height {
         let c = over_common(cell_at(cells, x.height, x.width, i, x.column), &common);
         let own = word_product(sign, c);
@@ -265,18 +317,21 @@ fn exchange_over(cells: &mut [Num], pivot_row: &mut [Num], x: &Exchange, shift: 
             continue;
         }
         let half = row_fits_half(halves, own);
-        'columns: for j in 0..x.width {
+        let from = quick_row(cells, pivot_row, x, i, p, own, half, &divisor);
+        'columns: for j in from..x.width {
             let e = cell_at(cells, x.height, x.width, i, j);
             let a = at_place(pivot_row, j);
-            let z = over_cross(cells, i * x.width + j, e, p, own, a, half, &mut divisor);
-            cells[i * x.width + j] = z;
+            let place = i * x.width + j;
+            let z = over_cross(cells, place, e, p, own, a, half, &mut divisor, &mut narrow);
+            cells[place] = z;
         }
     }
+    narrow
 }
 
 /// Exchanges the row and the column where all cells and the denominator fit a machine word: no product can
-/// pass. `pivot_row` has room for a row.
-pub fn exchange_words(cells: &mut [Num], pivot_row: &mut [Num], x: &Exchange)
+/// pass. `pivot_row` has room for a row. Whether all new cells are known to fit a machine word.
+pub fn exchange_words(cells: &mut [Num], pivot_row: &mut [Num], x: &Exchange) -> bool
     requires size { length cells.old ≡ x.now.height * x.now.width }
     requires room { length pivot_row.old ≡ x.now.width }
     requires row { x.now.row < x.now.height }
@@ -288,10 +343,14 @@ pub fn exchange_words(cells: &mut [Num], pivot_row: &mut [Num], x: &Exchange)
     requires unit { HasUnitRow x.now cells.old }
     ensures exchanged { IsExchanged x.now cells.old cells.new }
     ensures room { length pivot_row.new ≡ x.now.width }
+    ensures narrow { IsTrue result → All IsWord cells.new }
 {
     let pivot = cell_at(cells, x.height, x.width, x.row, x.column);
     match shift_of(pivot, x.denominator) {
         Some(shift) => exchange_over(cells, pivot_row, x, shift),
-        None => exchange_in_place(cells, pivot_row, x),
+        None => {
+            exchange_in_place(cells, pivot_row, x);
+            false
+        }
     }
 }
