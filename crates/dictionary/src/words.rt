@@ -118,43 +118,57 @@ fn copy_shifted(cells: &[Num], x: &Exchange, shift: Num, row: &mut [Num])
     row[x.column] = shift;
 }
 
-// The cells before the place times a factor.
-fn scale_cells(cells: &mut [Num], place: usize, factor: Num)
+// Whether a table whose cells fit a machine word still is one with this cell.
+fn stays_narrow(narrow: bool, z: Num) -> bool
+    ensures { IsTrue result → IsTrue narrow × IsWord z }
+{
+    narrow && is_word(z)
+}
+
+// The cells before the place times a factor. `narrow` is whether all cells are known to fit a machine word;
+// the answer is whether they still are.
+fn scale_cells(cells: &mut [Num], place: usize, factor: Num, narrow: bool) -> bool
     requires place { place ≤ length cells.old }
     requires fits { (k : ℕ) → k < place → IsNum (slice_index_or cells.old k (pos 0) *ℤ factor) }
-    ensures { IsScaled place factor cells.old cells.new }
+    ensures scaled { IsScaled place factor cells.old cells.new }
+    ensures narrow { IsTrue result → IsTrue narrow × (All IsWord cells.old → All IsWord cells.new) }
 {
+    let mut still = narrow;
     'places: for k in 0..place {
         let z = known_product(at_place(cells, k), factor);
+        still = stays_narrow(still, z);
         cells[k] = z;
     }
+    still
 }
 
 // `n` over the divisor, where that does not divide it: over what they have in common, and so the cells
-// before the place.
+// before the place. `narrow` is whether all cells are known to fit a machine word.
 #[cold]
 #[inline(never)]
-fn over_less(cells: &mut [Num], place: usize, n: Num, divisor: &mut Divisor) -> Num
+fn over_less(
+    cells: &mut [Num],
+    place: usize,
+    n: Num,
+    divisor: &mut Divisor,
+    narrow: &mut bool,
+) -> Num
     requires place { place ≤ length cells.old }
     requires word { IsWord divisor.old }
     requires fits { (k : ℕ) → k < place → IsNum (slice_index_or cells.old k (pos 0) *ℤ divisor.old) }
     ensures quotient { result *ℤ divisor.new ≡ n }
     ensures left { IsLeftOf divisor.old n divisor.new }
     ensures rescaled { IsRescaled place divisor.old divisor.new cells.old cells.new }
+    ensures narrow { IsTrue narrow.new → IsTrue narrow.old × (All IsWord cells.old → All IsWord cells.new) × IsWord result }
 {
     let old = divisor.value();
     let common = gcd(old, n);
     let factor = quotient(old, common);
-    scale_cells(cells, place, factor);
+    let still = scale_cells(cells, place, factor, *narrow);
     *divisor = Divisor::new(common);
-    quotient(n, common)
-}
-
-// Whether a table whose cells fit a machine word still is one with this cell.
-fn stays_narrow(narrow: bool, z: Num) -> bool
-    ensures { IsTrue result → IsTrue narrow × IsWord z }
-{
-    narrow && is_word(z)
+    let q = quotient(n, common);
+    *narrow = stays_narrow(still, q);
+    q
 }
 
 // `n` over the divisor. Where that does not divide it, the divisor shrinks, and the cells before the place
@@ -168,17 +182,14 @@ fn over(cells: &mut [Num], place: usize, n: Num, divisor: &mut Divisor, narrow: 
     ensures quotient { result *ℤ divisor.new ≡ n }
     ensures left { IsLeftOf divisor.old n divisor.new }
     ensures rescaled { IsRescaled place divisor.old divisor.new cells.old cells.new }
-    ensures narrow { IsTrue narrow.new → IsTrue narrow.old × (cells.new ≡ cells.old) × IsWord result }
+    ensures narrow { IsTrue narrow.new → IsTrue narrow.old × (All IsWord cells.old → All IsWord cells.new) × IsWord result }
 {
     match divisor.exact(n) {
         Some(q) => {
             *narrow = stays_narrow(*narrow, q);
             q
         }
-        None => {
-            *narrow = false;
-            over_less(cells, place, n, divisor)
-        }
+        None => over_less(cells, place, n, divisor, narrow),
     }
 }
 
@@ -221,7 +232,7 @@ fn over_cross(
     ensures quotient { result *ℤ divisor.new ≡ e *ℤ p -ℤ c *ℤ a }
     ensures left { IsLeftOf divisor.old (result *ℤ divisor.new) divisor.new }
     ensures rescaled { IsRescaled place divisor.old divisor.new cells.old cells.new }
-    ensures narrow { IsTrue narrow.new → IsTrue narrow.old × (cells.new ≡ cells.old) × IsWord result }
+    ensures narrow { IsTrue narrow.new → IsTrue narrow.old × (All IsWord cells.old → All IsWord cells.new) × IsWord result }
 {
     match quick(half, e, p, c, a, divisor) {
         Some(q) => q,

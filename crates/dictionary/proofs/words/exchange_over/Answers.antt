@@ -1,6 +1,5 @@
-use Rattle.std.proofs.Common.{◌≡◌, ◌<◌, ℕ, ℤ, ◌+◌, ◌*◌, ◌*ℤ◌, ◌-ℤ◌, pos, List, length, get_or, sym, ap, subst, arith, ◌∙◌, mul_comm, refl}
+use Rattle.std.proofs.Common.{◌≡◌, ◌<◌, ℕ, ℤ, ◌+◌, ◌*◌, ◌*ℤ◌, ◌-ℤ◌, pos, length, get_or, sym, ap, subst, arith, ◌∙◌, mul_comm, refl}
 use Prim.Native.Nat.{◌∣◌}
-use Rattle.std.specs.List.{All}
 use Rattle.std.specs.Prelude.{unsigned_abs}
 use Rattle.std.proofs.lemmas.List.Elements.{All-get_or, All-set}
 use Rattle.std.proofs.lemmas.Nat.{mul-add-lt}
@@ -200,8 +199,7 @@ columns-preserved c =
           c.columns.cells g.new.cells n g.result is refl g.ensures.left g.ensures.rescaled c.columns.invariant.over);
       words = λ m.
           let u = g.ensures.narrow m in
-          All-set IsWord g.new.cells (i * x.width + j) g.result u.2
-          (subst (λ (v : List ℤ). All IsWord v) (sym u.1) (c.columns.invariant.words u.0));
+          All-set IsWord g.new.cells (i * x.width + j) g.result u.2 (u.1 (c.columns.invariant.words u.0));
     }
 
 pub rows-preserved-then-stays : goal.rows-preserved-then-stays
