@@ -102,38 +102,50 @@ module _ (x : Exchange) (old : List ℤ) (f : ℤ) where
     greatest = λ k d all. u.greatest k d (λ a b ha hb l. all a b ha hb (omega arith));
   }
 
-  -- the first m cells of row i are written over the same divisor
-  pub over_row : (i m : ℕ) (g : ℤ) (row : List ℤ) (p c : ℤ) (now new : List ℤ) → i < x.height →
-      IsRowOver x row i m p c g now new →
-      ((j : ℕ) → j < m → IsExchangedCell x old i j (f *ℤ (cell x.width new i j *ℤ g))) →
-      IsWrittenOver (i * x.width) g now → IsWrittenOver (i * x.width + m) g new
-  over_row i m g row p c now new hi r is u = record {
+  -- the cells of row i from column m to column n are written over the same divisor
+  pub over_row : (i m n : ℕ) (g : ℤ) (row : List ℤ) (p c : ℤ) (now new : List ℤ) → i < x.height →
+      IsRowOver x row i m n p c g now new →
+      ((j : ℕ) → m ≤ j → j < n → IsExchangedCell x old i j (f *ℤ (cell x.width new i j *ℤ g))) →
+      IsWrittenOver (i * x.width + m) g now → IsWrittenOver (i * x.width + n) g new
+  over_row i m n g row p c now new hi r is u = record {
     same_length = r.same_length ∙ u.same_length;
     positive = u.positive;
     divides = u.divides;
     done = λ a b ha hb l.
         ⊎_elim
-        (λ (e : a ≡ i).
-        rw e
+        (λ (lt : a * x.width + b < i * x.width + m).
+        subst (λ (z : ℤ). IsExchangedCell x old a b (f *ℤ (g *ℤ z))) (sym (r.before (a * x.width + b) lt))
+        (u.done a b ha hb lt))
+        (λ (le : i * x.width + m ≤ a * x.width + b).
+        let k = in_row a b hb le l in
+        rw k.0
         (subst (λ (z : ℤ). IsExchangedCell x old i b (f *ℤ z)) (ring.mul_comm (cell x.width new i b) g)
-        (is b (below a b e l))))
-        (λ (n : a ≢ i).
-        ⊎_elim
-        (λ (lt : a < i).
-        let k : a * x.width + b < i * x.width =
-        (let k = mul-add-lt a x.width b i lt hb in omega (arith, mul_comm i x.width)) in
-        subst (λ (z : ℤ). IsExchangedCell x old a b (f *ℤ (g *ℤ z))) (sym (r.before (a * x.width + b) k))
-        (u.done a b ha hb k))
-        (λ (le : i ≤ a).
-        let k = mul-le (i + 1) x.width a x.width (omega arith) (omega arith) in absurd (omega (arith, r.within)))
-        (cases_lt a i))
-        (cases_eq a i);
-    rest = λ a b ha hb l. r.after (a * x.width + b) l ∙ u.rest a b ha hb (omega arith);
-    greatest = λ k d all. u.greatest k d (λ a b ha hb l. all a b ha hb (omega arith));
+        (is b k.1.0 k.1.1)))
+        (cases_lt (a * x.width + b) (i * x.width + m));
+    rest = λ a b ha hb l.
+        r.after (a * x.width + b) l ∙ u.rest a b ha hb (let k = r.from in omega arith);
+    greatest = λ k d all.
+        u.greatest k d (λ a b ha hb l. all a b ha hb (let q = r.from in omega arith));
   }
     where
-      below : (a b : ℕ) → a ≡ i → a * x.width + b < i * x.width + m → b < m
-      below a b e l = let k : a * x.width ≡ i * x.width = ap (λ (n : ℕ). n * x.width) e in omega arith
+      -- a place between two places of row i is one of row i
+      in_row : (a b : ℕ) → b < x.width → i * x.width + m ≤ a * x.width + b → a * x.width + b < i * x.width + n →
+          (a ≡ i) × ((m ≤ b) × (b < n))
+      in_row a b hb le l =
+          let w = r.within in
+          let q : b + 0 < x.width = omega arith in
+          let e : a ≡ i =
+          ⊎_elim
+          (λ (lt : a < i). let k = mul-add-lt a x.width b i lt hb in absurd (omega (arith, mul_comm i x.width)))
+          (λ (ge : i ≤ a).
+          ⊎_elim
+          (λ (up : i < a).
+          let k = mul-le (i + 1) x.width a x.width (omega arith) (omega arith) in absurd (omega arith))
+          (λ (down : a ≤ i). omega arith)
+          (cases_lt i a))
+          (cases_lt a i) in
+          let k : a * x.width ≡ i * x.width = ap (λ (v : ℕ). v * x.width) e in
+          (e, (omega arith, omega arith))
 
   module _ (nonzero : f ≢ pos 0) (size : length old ≡ x.height * x.width) (i j : ℕ) (hi : i < x.height)
       (hj : j < x.width) (g h : ℤ) (now mid : List ℤ) (n z : ℤ) (is : IsExchangedCell x old i j (f *ℤ n))

@@ -193,53 +193,6 @@ fn over(cells: &mut [Num], place: usize, n: Num, divisor: &mut Divisor, narrow: 
     }
 }
 
-// `e p - c a` over the divisor, where all of it is known to fit half a word and the quotient does too;
-// `None` says nothing.
-fn quick(half: bool, e: Num, p: Num, c: Num, a: Num, divisor: &Divisor) -> Option<Num>
-    requires e { IsWord e }
-    requires half { IsTrue half → IsHalf p × IsHalf c × IsHalf a × IsHalf divisor.now }
-    ensures { IfSome result (λ q. (q *ℤ divisor.now ≡ e *ℤ p -ℤ c *ℤ a) × IsHalf q) }
-{
-    if half {
-        divisor.exact_half(e, p, c, a)
-    } else {
-        None
-    }
-}
-
-// `e p - c a` over the divisor. Where that does not divide it, the divisor shrinks, and the cells before the
-// place grow. `narrow` is whether all cells are known to fit a machine word.
-fn over_cross(
-    cells: &mut [Num],
-    place: usize,
-    e: Num,
-    p: Num,
-    c: Num,
-    a: Num,
-    half: bool,
-    divisor: &mut Divisor,
-    narrow: &mut bool,
-) -> Num
-    requires place { place ≤ length cells.old }
-    requires e { IsWord e }
-    requires p { IsWord p }
-    requires c { IsWord c }
-    requires a { IsWord a }
-    requires half { IsTrue half → IsHalf p × IsHalf c × IsHalf a × IsHalf divisor.old }
-    requires positive { pos 0 <ℤ divisor.old }
-    requires word { IsWord divisor.old }
-    requires fits { (k : ℕ) → k < place → IsNum (slice_index_or cells.old k (pos 0) *ℤ divisor.old) }
-    ensures quotient { result *ℤ divisor.new ≡ e *ℤ p -ℤ c *ℤ a }
-    ensures left { IsLeftOf divisor.old (result *ℤ divisor.new) divisor.new }
-    ensures rescaled { IsRescaled place divisor.old divisor.new cells.old cells.new }
-    ensures narrow { IsTrue narrow.new → IsTrue narrow.old × (All IsWord cells.old → All IsWord cells.new) × IsWord result }
-{
-    match quick(half, e, p, c, a, divisor) {
-        Some(q) => q,
-        None => over(cells, place, word_cross(e, p, c, a), divisor, narrow),
-    }
-}
-
 // The new cells of row i from the left, as long as all that they are computed of and their quotients fit
 // half a word; c is what the row takes of the exchange's row. How many are written.
 fn quick_row(
@@ -257,7 +210,7 @@ fn quick_row(
     requires row { i < x.now.height }
     requires words { (j : ℕ) → j < x.now.width → IsWord (cell x.now.width cells.old i j) }
     requires half { IsTrue half → All IsHalf pivot_row.now × IsHalf p × IsHalf c × IsHalf divisor.now }
-    ensures row { IsRowOver x.now pivot_row.now i result p c divisor.now cells.old cells.new }
+    ensures row { IsRowOver x.now pivot_row.now i 0 result p c divisor.now cells.old cells.new }
     ensures words { All IsWord cells.old → All IsWord cells.new }
 {
     if !half {
@@ -266,6 +219,41 @@ fn quick_row(
     'columns: for j in 0..x.width {
         let e = cell_at(cells, x.height, x.width, i, j);
         match divisor.exact_half(e, p, c, at_place(pivot_row, j)) {
+            Some(q) => cells[i * x.width + j] = q,
+            None => return j,
+        }
+    }
+    x.width
+}
+
+// The new cells of row i from a column on, as long as their quotients fit a machine word; c is what the row
+// takes of the exchange's row. The column before which they are written.
+#[inline(never)]
+fn word_row(
+    cells: &mut [Num],
+    pivot_row: &[Num],
+    x: &Exchange,
+    i: usize,
+    from: usize,
+    p: Num,
+    c: Num,
+    divisor: &Divisor,
+) -> usize
+    requires size { length cells.old ≡ x.now.height * x.now.width }
+    requires width { length pivot_row.now ≡ x.now.width }
+    requires row { i < x.now.height }
+    requires from { from ≤ x.now.width }
+    requires words { (j : ℕ) → from ≤ j → j < x.now.width → IsWord (cell x.now.width cells.old i j) }
+    requires p { IsWord p }
+    requires c { IsWord c }
+    requires others { All IsWord pivot_row.now }
+    ensures row { IsRowOver x.now pivot_row.now i from result p c divisor.now cells.old cells.new }
+    ensures words { All IsWord cells.old → All IsWord cells.new }
+{
+    'columns: for j in from..x.width {
+        let e = cell_at(cells, x.height, x.width, i, j);
+        let n = word_cross(e, p, c, at_place(pivot_row, j));
+        match divisor.exact_word(n) {
             Some(q) => cells[i * x.width + j] = q,
             None => return j,
         }
@@ -328,12 +316,16 @@ fn exchange_over(cells: &mut [Num], pivot_row: &mut [Num], x: &Exchange, shift: 
             continue;
         }
         let half = row_fits_half(halves, own);
-        let from = quick_row(cells, pivot_row, x, i, p, own, half, &divisor);
+        let first = quick_row(cells, pivot_row, x, i, p, own, half, &divisor);
+        if first == x.width {
+            continue;
+        }
+        let from = word_row(cells, pivot_row, x, i, first, p, own, &divisor);
         'columns: for j in from..x.width {
             let e = cell_at(cells, x.height, x.width, i, j);
-            let a = at_place(pivot_row, j);
+            let n = word_cross(e, p, own, at_place(pivot_row, j));
             let place = i * x.width + j;
-            let z = over_cross(cells, place, e, p, own, a, half, &mut divisor, &mut narrow);
+            let z = over(cells, place, n, &mut divisor, &mut narrow);
             cells[place] = z;
         }
     }

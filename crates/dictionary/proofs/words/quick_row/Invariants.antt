@@ -5,6 +5,6 @@ use Rattle.dictionary.proofs.words.quick_row.Given as goal
 
 abbrev pub invariant-columns : goal.invariant-columns
 invariant-columns l = record {
-  row : IsRowOver l.x l.pivot_row l.i l.j l.p l.c l.divisor l.fn.cells l.cells;
+  row : IsRowOver l.x l.pivot_row l.i 0 l.j l.p l.c l.divisor l.fn.cells l.cells;
   words : All IsWord l.fn.cells → All IsWord l.cells;
 }
