@@ -1,5 +1,5 @@
 -- The rows of the labels of the cobasis, by their labels.
-use Rattle.std.proofs.Common.{◌≡◌, ◌≢◌, ℕ, suc, ◌<◌, ℤ, pos, List, length, arith, ap, ◌∙◌}
+use Rattle.std.proofs.Common.{◌≡◌, ◌≢◌, ℕ, suc, ℤ, pos, List, length, arith, ap, ◌∙◌}
 use Rattle.std.specs.List.{Contains}
 use Rattle.poly_model.specs.Dictionaries.{Table}
 use Rattle.dictionary_laws.specs.Keys.{place_in}

@@ -1,5 +1,5 @@
 -- The new cells are written in place, one after the other, over a divisor that shrinks.
-use Rattle.std.proofs.Common.{◌≡◌, ◌≢◌, ℕ, ◌+◌, ◌*◌, ◌/◌, ◌%◌, ◌<◌, ◌≤◌, ℤ, pos, ◌*ℤ◌, List, length, get_or, set, arith, ◌∙◌, sym, mul_comm, ⊎_elim, get_or-set_same, get_or-set_other, refl, subst}
+use Rattle.std.proofs.Common.{◌≡◌, ◌≢◌, ℕ, ◌+◌, ◌*◌, ◌/◌, ◌%◌, ◌<◌, ◌≤◌, ℤ, pos, ◌*ℤ◌, List, length, get_or, set, arith, ◌∙◌, sym, mul_comm, ⊎_elim, get_or-set_same, get_or-set_other, refl, subst, ap}
 use Prim.Native.Nat.{◌∣◌}
 use Rattle.std.specs.Prelude.{◌<ℤ◌, unsigned_abs}
 use Rattle.std.specs.List.{All}
@@ -18,7 +18,7 @@ use Rattle.poly_num.proofs.PrimitiveLemmas.{zero_from_size}
 use Rattle.poly_num.proofs.WordLemmas.{words_product, words_cross}
 use Rattle.dictionary.specs.declared.exchange.Exchange.{Exchange}
 use Rattle.dictionary.specs.Cells.{cell, pivot_cell, Fits, IsExchangedCell}
-use Rattle.dictionary.specs.WordExchange.{IsLeftOf, IsRescaled}
+use Rattle.dictionary.specs.WordExchange.{IsLeftOf, IsRescaled, IsRowOver}
 use Rattle.dictionary.proofs.LeftLemmas.{at_least}
 
 -- what stands in a cell after the exchange is one number
@@ -101,6 +101,51 @@ module _ (x : Exchange) (old : List ℤ) (f : ℤ) where
     rest = λ a b ha hb l. u.rest a b ha hb (omega arith);
     greatest = λ k d all. u.greatest k d (λ a b ha hb l. all a b ha hb (omega arith));
   }
+
+  -- the cells of row i from column m to column n are written over the same divisor
+  pub over_row : (i m n : ℕ) (g : ℤ) (row : List ℤ) (p c : ℤ) (now new : List ℤ) → i < x.height →
+      IsRowOver x row i m n p c g now new →
+      ((j : ℕ) → m ≤ j → j < n → IsExchangedCell x old i j (f *ℤ (cell x.width new i j *ℤ g))) →
+      IsWrittenOver (i * x.width + m) g now → IsWrittenOver (i * x.width + n) g new
+  over_row i m n g row p c now new hi r is u = record {
+    same_length = r.same_length ∙ u.same_length;
+    positive = u.positive;
+    divides = u.divides;
+    done = λ a b ha hb l.
+        ⊎_elim
+        (λ (lt : a * x.width + b < i * x.width + m).
+        subst (λ (z : ℤ). IsExchangedCell x old a b (f *ℤ (g *ℤ z))) (sym (r.before (a * x.width + b) lt))
+        (u.done a b ha hb lt))
+        (λ (le : i * x.width + m ≤ a * x.width + b).
+        let k = in_row a b hb le l in
+        rw k.0
+        (subst (λ (z : ℤ). IsExchangedCell x old i b (f *ℤ z)) (ring.mul_comm (cell x.width new i b) g)
+        (is b k.1.0 k.1.1)))
+        (cases_lt (a * x.width + b) (i * x.width + m));
+    rest = λ a b ha hb l.
+        r.after (a * x.width + b) l ∙ u.rest a b ha hb (let k = r.from in omega arith);
+    greatest = λ k d all.
+        u.greatest k d (λ a b ha hb l. all a b ha hb (let q = r.from in omega arith));
+  }
+    where
+      -- a place between two places of row i is one of row i
+      in_row : (a b : ℕ) → b < x.width → i * x.width + m ≤ a * x.width + b → a * x.width + b < i * x.width + n →
+          (a ≡ i) × ((m ≤ b) × (b < n))
+      in_row a b hb le l =
+          let w = r.within in
+          let q : b + 0 < x.width = omega arith in
+          let e : a ≡ i =
+          ⊎_elim
+          (λ (lt : a < i). let k = mul-add-lt a x.width b i lt hb in absurd (omega (arith, mul_comm i x.width)))
+          (λ (ge : i ≤ a).
+          ⊎_elim
+          (λ (up : i < a).
+          let k = mul-le (i + 1) x.width a x.width (omega arith) (omega arith) in absurd (omega arith))
+          (λ (down : a ≤ i). omega arith)
+          (cases_lt i a))
+          (cases_lt a i) in
+          let k : a * x.width ≡ i * x.width = ap (λ (v : ℕ). v * x.width) e in
+          (e, (omega arith, omega arith))
 
   module _ (nonzero : f ≢ pos 0) (size : length old ≡ x.height * x.width) (i j : ℕ) (hi : i < x.height)
       (hj : j < x.width) (g h : ℤ) (now mid : List ℤ) (n z : ℤ) (is : IsExchangedCell x old i j (f *ℤ n))

@@ -1,6 +1,6 @@
 -- The exchange of cells that fit a machine word: one pass over the table, over a divisor that shrinks
 -- where it does not divide.
-use Rattle.std.specs.Prelude.{◌≡◌, ◌≢◌, ℕ, ℤ, ◌<◌, ◌≤◌, ◌*◌, ◌*ℤ◌, ◌<ℤ◌, pos, List, length, unsigned_abs}
+use Rattle.std.specs.Prelude.{◌≡◌, ◌≢◌, ℕ, ℤ, ◌<◌, ◌≤◌, ◌+◌, ◌*◌, ◌*ℤ◌, ◌-ℤ◌, ◌<ℤ◌, pos, List, length, unsigned_abs}
 use Rattle.std.specs.List.{slice_index_or}
 use Prim.Native.Nat.{◌∣◌}
 use Rattle.dictionary.specs.declared.exchange.Exchange.{Exchange}
@@ -58,3 +58,14 @@ pub record IsRescaled (place : ℕ) (g h : ℤ) (old new : List ℤ) : Type 0 wh
   pub scaled : (k : ℕ) → k < place →
       slice_index_or new k (pos 0) *ℤ h ≡ slice_index_or old k (pos 0) *ℤ g
   pub rest : (k : ℕ) → place ≤ k → slice_index_or new k (pos 0) ≡ slice_index_or old k (pos 0)
+
+-- in row i the cells from column m to column n are over g what the exchange makes of them, which takes c
+-- times the numbers of `row` from p times the cells; all others are as before
+pub record IsRowOver (x : Exchange) (row : List ℤ) (i m n : ℕ) (p c g : ℤ) (old new : List ℤ) : Type 0 where
+  pub from : m ≤ n
+  pub within : n ≤ x.width
+  pub same_length : length new ≡ length old
+  pub written : (j : ℕ) → m ≤ j → j < n →
+      cell x.width new i j *ℤ g ≡ cell x.width old i j *ℤ p -ℤ c *ℤ slice_index_or row j (pos 0)
+  pub before : (k : ℕ) → k < i * x.width + m → slice_index_or new k (pos 0) ≡ slice_index_or old k (pos 0)
+  pub after : (k : ℕ) → i * x.width + n ≤ k → slice_index_or new k (pos 0) ≡ slice_index_or old k (pos 0)

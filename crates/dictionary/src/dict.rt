@@ -31,19 +31,21 @@ pub struct Dict {
     pub(crate) cells: Vec<Num>,
     // room for a copy of a row
     pub(crate) pivot_row: Vec<Num>,
+    // whether the denominator and all cells are known to fit a machine word; false says nothing
+    pub(crate) narrow: bool,
 }
 
 impl Model for Dict {
-    ghost use Rattle.std.specs.Prelude.{◌≡◌, suc, length};
+    ghost use Rattle.std.specs.Prelude.{◌≡◌, suc, length, IsTrue};
     ghost use Rattle.dictionary_laws.specs.Keys.{place_in};
-    ghost use Rattle.dictionary.specs.Cells.{cell};
+    ghost use Rattle.dictionary.specs.Cells.{cell, AreNarrow};
     ghost use Rattle.dictionary.specs.Views.{Dictionary, IsWhole};
 
     ghost Value = { Dictionary };
 
     ghost view = { λ d. record { phase = d.phase; labels = d.labels.items; key = d.key; columns = d.columns.items; denominator = d.denominator; cells = d.cells.items } };
 
-    ghost invariant = { λ d. (length d.pivot_row.items ≡ suc (length d.columns.items)) × IsWhole (record { phase = d.phase; labels = d.labels.items; key = d.key; columns = d.columns.items; denominator = d.denominator; cells = d.cells.items }) };
+    ghost invariant = { λ d. (length d.pivot_row.items ≡ suc (length d.columns.items)) × IsWhole (record { phase = d.phase; labels = d.labels.items; key = d.key; columns = d.columns.items; denominator = d.denominator; cells = d.cells.items }) × (IsTrue d.narrow → AreNarrow d.cells.items d.denominator) };
 }
 
 impl Dict {
@@ -117,6 +119,7 @@ impl Dict {
             denominator: self.denominator,
             cells: self.cells.clone()?,
             pivot_row: self.pivot_row.clone()?,
+            narrow: self.narrow,
         })
     }
 
@@ -132,6 +135,7 @@ impl Dict {
         to.columns.copy_from_slice(&self.columns);
         to.denominator = self.denominator;
         to.cells.copy_from_slice(&self.cells);
+        to.narrow = self.narrow;
     }
 
     // The row of cells of a label.

@@ -1,7 +1,7 @@
 //! The exchange of a row and a column in a table of cells, in place.
 ghost use Rattle.std.specs.Prelude.{◌≡◌, ◌≢◌, ◌<◌, ◌*◌, ◌*ℤ◌, ◌-ℤ◌, ◌<ℤ◌, IsTrue, length, pos};
-ghost use Rattle.std.specs.List.{slice_index_or};
-ghost use Rattle.poly_num.specs.Numbers.{IsNum, Crosses};
+ghost use Rattle.std.specs.List.{slice_index_or, All};
+ghost use Rattle.poly_num.specs.Numbers.{IsNum, IsWord, Crosses};
 ghost use Rattle.dictionary.specs.WordExchange.{HasUnitRow};
 ghost use Rattle.dictionary.specs.Cells.{AreNarrow, cell, pivot_cell, Fits, IsPivotRow, AreExchangedCells, IsReduced, IsExchanged};
 
@@ -105,8 +105,8 @@ pub fn exchange_in_place(cells: &mut [Num], pivot_row: &mut [Num], x: &Exchange)
 }
 
 /// Exchanges the row and the column, where no product passes: in one pass over the table where the cells
-/// are narrow. `pivot_row` has room for a row.
-pub fn exchange_cells(cells: &mut [Num], pivot_row: &mut [Num], x: &Exchange, narrow: bool)
+/// are narrow. `pivot_row` has room for a row. Whether all new cells are known to fit a machine word.
+pub fn exchange_cells(cells: &mut [Num], pivot_row: &mut [Num], x: &Exchange, narrow: bool) -> bool
     requires size { length cells.old ≡ x.now.height * x.now.width }
     requires room { length pivot_row.old ≡ x.now.width }
     requires row { x.now.row < x.now.height }
@@ -118,10 +118,12 @@ pub fn exchange_cells(cells: &mut [Num], pivot_row: &mut [Num], x: &Exchange, na
     requires narrow { IsTrue narrow → AreNarrow cells.old x.now.denominator }
     ensures exchanged { IsExchanged x.now cells.old cells.new }
     ensures room { length pivot_row.new ≡ x.now.width }
+    ensures narrow { IsTrue result → All IsWord cells.new }
 {
     if narrow {
-        exchange_words(cells, pivot_row, x);
+        exchange_words(cells, pivot_row, x)
     } else {
         exchange_in_place(cells, pivot_row, x);
+        false
     }
 }

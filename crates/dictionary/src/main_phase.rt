@@ -160,6 +160,7 @@ impl Dict {
             denominator,
             cells,
             pivot_row,
+            narrow: false,
         })
     }
 }

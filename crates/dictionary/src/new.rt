@@ -34,6 +34,7 @@ impl Dict {
             denominator: Num::ONE,
             cells,
             pivot_row: Vec::from_elem(alloc, Num::ZERO, width)?,
+            narrow: false,
         })
     }
 }

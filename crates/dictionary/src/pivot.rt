@@ -37,7 +37,7 @@ impl Dict {
         ensures complete { NothingPasses self.old row.0 col.0 → IsOk result }
     {
         let x = self.exchange_of(row, col);
-        let narrow = are_narrow(&self.cells, self.denominator);
+        let narrow = self.is_narrow();
         match passing_unless(&self.cells, &x, narrow) {
             Some(spot) => Err(self.overflow_at(row, col, spot)),
             None => {
@@ -45,6 +45,13 @@ impl Dict {
                 Ok(())
             }
         }
+    }
+
+    // Whether the denominator and all cells fit a machine word.
+    fn is_narrow(&self) -> bool
+        ensures { IsTrue result → AreNarrow self.now.cells self.now.denominator }
+    {
+        self.narrow || are_narrow(&self.cells, self.denominator)
     }
 
     // The exchange of their row and column.
@@ -71,7 +78,7 @@ impl Dict {
         ensures { IsPivot self.old row.0 col.0 self.new }
     {
         let at = place_of(self.key.labels(), col.0);
-        exchange_cells(&mut self.cells, &mut self.pivot_row, x, narrow);
+        self.narrow = exchange_cells(&mut self.cells, &mut self.pivot_row, x, narrow);
         self.denominator = at_place(&self.cells, x.row * x.width + x.column);
         self.key = self.key.without_at(at).with(row.0);
         self.columns[x.column - 1] = row.0;

@@ -8,7 +8,7 @@ ghost use Rattle.poly_num.specs.Numbers.{IsNum, IsWord};
 ghost use Rattle.poly_num.specs.Divisors.{IsGcdOf};
 ghost use Rattle.poly_num.specs.Halves.{IsHalf};
 ghost use Rattle.dictionary.specs.Cells.{cell, pivot_cell, IsExchanged};
-ghost use Rattle.dictionary.specs.WordExchange.{HasUnitRow, IsCommonTo, IsSignOf, IsShiftedRow, IsLeftOf, IsScaled, IsRescaled};
+ghost use Rattle.dictionary.specs.WordExchange.{HasUnitRow, IsCommonTo, IsSignOf, IsShiftedRow, IsLeftOf, IsScaled, IsRescaled, IsRowOver};
 
 use crate::cells::{at_place, cell_at};
 use crate::exchange::{Exchange, exchange_in_place};
@@ -118,42 +118,63 @@ fn copy_shifted(cells: &[Num], x: &Exchange, shift: Num, row: &mut [Num])
     row[x.column] = shift;
 }
 
-// The cells before the place times a factor.
-fn scale_cells(cells: &mut [Num], place: usize, factor: Num)
+// Whether a table whose cells fit a machine word still is one with this cell.
+fn stays_narrow(narrow: bool, z: Num) -> bool
+    ensures { IsTrue result → IsTrue narrow × IsWord z }
+{
+    narrow && is_word(z)
+}
+
+// The cells before the place times a factor. `narrow` is whether all cells are known to fit a machine word;
+// the answer is whether they still are.
+fn scale_cells(cells: &mut [Num], place: usize, factor: Num, narrow: bool) -> bool
     requires place { place ≤ length cells.old }
     requires fits { (k : ℕ) → k < place → IsNum (slice_index_or cells.old k (pos 0) *ℤ factor) }
-    ensures { IsScaled place factor cells.old cells.new }
+    ensures scaled { IsScaled place factor cells.old cells.new }
+    ensures narrow { IsTrue result → IsTrue narrow × (All IsWord cells.old → All IsWord cells.new) }
 {
+    let mut still = narrow;
     'places: for k in 0..place {
         let z = known_product(at_place(cells, k), factor);
+        still = stays_narrow(still, z);
         cells[k] = z;
     }
+    still
 }
 
 // `n` over the divisor, where that does not divide it: over what they have in common, and so the cells
-// before the place.
+// before the place. `narrow` is whether all cells are known to fit a machine word.
 #[cold]
 #[inline(never)]
-fn over_less(cells: &mut [Num], place: usize, n: Num, divisor: &mut Divisor) -> Num
+fn over_less(
+    cells: &mut [Num],
+    place: usize,
+    n: Num,
+    divisor: &mut Divisor,
+    narrow: &mut bool,
+) -> Num
     requires place { place ≤ length cells.old }
     requires word { IsWord divisor.old }
     requires fits { (k : ℕ) → k < place → IsNum (slice_index_or cells.old k (pos 0) *ℤ divisor.old) }
     ensures quotient { result *ℤ divisor.new ≡ n }
     ensures left { IsLeftOf divisor.old n divisor.new }
     ensures rescaled { IsRescaled place divisor.old divisor.new cells.old cells.new }
+    ensures narrow { IsTrue narrow.new → IsTrue narrow.old × (All IsWord cells.old → All IsWord cells.new) × IsWord result }
 {
     let old = divisor.value();
     let common = gcd(old, n);
     let factor = quotient(old, common);
-    scale_cells(cells, place, factor);
+    let still = scale_cells(cells, place, factor, *narrow);
     *divisor = Divisor::new(common);
-    quotient(n, common)
+    let q = quotient(n, common);
+    *narrow = stays_narrow(still, q);
+    q
 }
 
 // `n` over the divisor. Where that does not divide it, the divisor shrinks, and the cells before the place
-// grow.
+// grow. `narrow` is whether all cells are known to fit a machine word.
 #[inline(never)]
-fn over(cells: &mut [Num], place: usize, n: Num, divisor: &mut Divisor) -> Num
+fn over(cells: &mut [Num], place: usize, n: Num, divisor: &mut Divisor, narrow: &mut bool) -> Num
     requires place { place ≤ length cells.old }
     requires positive { pos 0 <ℤ divisor.old }
     requires word { IsWord divisor.old }
@@ -161,56 +182,83 @@ fn over(cells: &mut [Num], place: usize, n: Num, divisor: &mut Divisor) -> Num
     ensures quotient { result *ℤ divisor.new ≡ n }
     ensures left { IsLeftOf divisor.old n divisor.new }
     ensures rescaled { IsRescaled place divisor.old divisor.new cells.old cells.new }
+    ensures narrow { IsTrue narrow.new → IsTrue narrow.old × (All IsWord cells.old → All IsWord cells.new) × IsWord result }
 {
     match divisor.exact(n) {
-        Some(q) => q,
-        None => over_less(cells, place, n, divisor),
+        Some(q) => {
+            *narrow = stays_narrow(*narrow, q);
+            q
+        }
+        None => over_less(cells, place, n, divisor, narrow),
     }
 }
 
-// `e p - c a` over the divisor, where all of it is known to fit half a word and the quotient does too;
-// `None` says nothing.
-fn quick(half: bool, e: Num, p: Num, c: Num, a: Num, divisor: &Divisor) -> Option<Num>
-    requires e { IsWord e }
-    requires half { IsTrue half → IsHalf p × IsHalf c × IsHalf a × IsHalf divisor.now }
-    ensures { IfSome result (λ q. q *ℤ divisor.now ≡ e *ℤ p -ℤ c *ℤ a) }
-{
-    if half {
-        divisor.exact_half(e, p, c, a)
-    } else {
-        None
-    }
-}
-
-// `e p - c a` over the divisor. Where that does not divide it, the divisor shrinks, and the cells before the
-// place grow.
-fn over_cross(
+// The new cells of row i from the left, as long as all that they are computed of and their quotients fit
+// half a word; c is what the row takes of the exchange's row. How many are written.
+fn quick_row(
     cells: &mut [Num],
-    place: usize,
-    e: Num,
+    pivot_row: &[Num],
+    x: &Exchange,
+    i: usize,
     p: Num,
     c: Num,
-    a: Num,
     half: bool,
-    divisor: &mut Divisor,
-) -> Num
-    requires place { place ≤ length cells.old }
-    requires e { IsWord e }
+    divisor: &Divisor,
+) -> usize
+    requires size { length cells.old ≡ x.now.height * x.now.width }
+    requires width { length pivot_row.now ≡ x.now.width }
+    requires row { i < x.now.height }
+    requires words { (j : ℕ) → j < x.now.width → IsWord (cell x.now.width cells.old i j) }
+    requires half { IsTrue half → All IsHalf pivot_row.now × IsHalf p × IsHalf c × IsHalf divisor.now }
+    ensures row { IsRowOver x.now pivot_row.now i 0 result p c divisor.now cells.old cells.new }
+    ensures words { All IsWord cells.old → All IsWord cells.new }
+{
+    if !half {
+        return 0;
+    }
+    'columns: for j in 0..x.width {
+        let e = cell_at(cells, x.height, x.width, i, j);
+        match divisor.exact_half(e, p, c, at_place(pivot_row, j)) {
+            Some(q) => cells[i * x.width + j] = q,
+            None => return j,
+        }
+    }
+    x.width
+}
+
+// The new cells of row i from a column on, as long as their quotients fit a machine word; c is what the row
+// takes of the exchange's row. The column before which they are written.
+#[inline(never)]
+fn word_row(
+    cells: &mut [Num],
+    pivot_row: &[Num],
+    x: &Exchange,
+    i: usize,
+    from: usize,
+    p: Num,
+    c: Num,
+    divisor: &Divisor,
+) -> usize
+    requires size { length cells.old ≡ x.now.height * x.now.width }
+    requires width { length pivot_row.now ≡ x.now.width }
+    requires row { i < x.now.height }
+    requires from { from ≤ x.now.width }
+    requires words { (j : ℕ) → from ≤ j → j < x.now.width → IsWord (cell x.now.width cells.old i j) }
     requires p { IsWord p }
     requires c { IsWord c }
-    requires a { IsWord a }
-    requires half { IsTrue half → IsHalf p × IsHalf c × IsHalf a × IsHalf divisor.old }
-    requires positive { pos 0 <ℤ divisor.old }
-    requires word { IsWord divisor.old }
-    requires fits { (k : ℕ) → k < place → IsNum (slice_index_or cells.old k (pos 0) *ℤ divisor.old) }
-    ensures quotient { result *ℤ divisor.new ≡ e *ℤ p -ℤ c *ℤ a }
-    ensures left { IsLeftOf divisor.old (result *ℤ divisor.new) divisor.new }
-    ensures rescaled { IsRescaled place divisor.old divisor.new cells.old cells.new }
+    requires others { All IsWord pivot_row.now }
+    ensures row { IsRowOver x.now pivot_row.now i from result p c divisor.now cells.old cells.new }
+    ensures words { All IsWord cells.old → All IsWord cells.new }
 {
-    match quick(half, e, p, c, a, divisor) {
-        Some(q) => q,
-        None => over(cells, place, word_cross(e, p, c, a), divisor),
+    'columns: for j in from..x.width {
+        let e = cell_at(cells, x.height, x.width, i, j);
+        let n = word_cross(e, p, c, at_place(pivot_row, j));
+        match divisor.exact_word(n) {
+            Some(q) => cells[i * x.width + j] = q,
+            None => return j,
+        }
     }
+    x.width
 }
 
 // Whether the row stays as it is: the exchange takes nothing of it, and divides what it is multiplied by.
@@ -235,8 +283,9 @@ fn row_fits_half(others: bool, c: Num) -> bool
 }
 
 // The exchange, where the pivot's cell less the denominator fits a machine word too. With that in the
-// column of the exchange's row, all columns take the same steps.
-fn exchange_over(cells: &mut [Num], pivot_row: &mut [Num], x: &Exchange, shift: Num)
+// column of the exchange's row, all columns take the same steps. Whether all new cells are known to fit a
+// machine word.
+fn exchange_over(cells: &mut [Num], pivot_row: &mut [Num], x: &Exchange, shift: Num) -> bool
     requires size { length cells.old ≡ x.now.height * x.now.width }
     requires room { length pivot_row.old ≡ x.now.width }
     requires row { x.now.row < x.now.height }
@@ -250,6 +299,7 @@ fn exchange_over(cells: &mut [Num], pivot_row: &mut [Num], x: &Exchange, shift: 
     requires shift_word { IsWord shift }
     ensures exchanged { IsExchanged x.now cells.old cells.new }
     ensures room { length pivot_row.new ≡ x.now.width }
+    ensures narrow { IsTrue result → All IsWord cells.new }
 {
     let common = common_factor(cells, x);
     let pivot = cell_at(cells, x.height, x.width, x.row, x.column);
@@ -258,6 +308,7 @@ fn exchange_over(cells: &mut [Num], pivot_row: &mut [Num], x: &Exchange, shift: 
     let p = over_common(word_product(sign, pivot), &common);
     let halves = fit_half(pivot_row, p, x.denominator);
     let mut divisor = Divisor::new(x.denominator);
+    let mut narrow = true;
     'rows: for i in 0..x.height {
         let c = over_common(cell_at(cells, x.height, x.width, i, x.column), &common);
         let own = word_product(sign, c);
@@ -265,18 +316,25 @@ fn exchange_over(cells: &mut [Num], pivot_row: &mut [Num], x: &Exchange, shift: 
             continue;
         }
         let half = row_fits_half(halves, own);
-        'columns: for j in 0..x.width {
+        let first = quick_row(cells, pivot_row, x, i, p, own, half, &divisor);
+        if first == x.width {
+            continue;
+        }
+        let from = word_row(cells, pivot_row, x, i, first, p, own, &divisor);
+        'columns: for j in from..x.width {
             let e = cell_at(cells, x.height, x.width, i, j);
-            let a = at_place(pivot_row, j);
-            let z = over_cross(cells, i * x.width + j, e, p, own, a, half, &mut divisor);
-            cells[i * x.width + j] = z;
+            let n = word_cross(e, p, own, at_place(pivot_row, j));
+            let place = i * x.width + j;
+            let z = over(cells, place, n, &mut divisor, &mut narrow);
+            cells[place] = z;
         }
     }
+    narrow
 }
 
 /// Exchanges the row and the column where all cells and the denominator fit a machine word: no product can
-/// pass. `pivot_row` has room for a row.
-pub fn exchange_words(cells: &mut [Num], pivot_row: &mut [Num], x: &Exchange)
+/// pass. `pivot_row` has room for a row. Whether all new cells are known to fit a machine word.
+pub fn exchange_words(cells: &mut [Num], pivot_row: &mut [Num], x: &Exchange) -> bool
     requires size { length cells.old ≡ x.now.height * x.now.width }
     requires room { length pivot_row.old ≡ x.now.width }
     requires row { x.now.row < x.now.height }
@@ -288,10 +346,14 @@ pub fn exchange_words(cells: &mut [Num], pivot_row: &mut [Num], x: &Exchange)
     requires unit { HasUnitRow x.now cells.old }
     ensures exchanged { IsExchanged x.now cells.old cells.new }
     ensures room { length pivot_row.new ≡ x.now.width }
+    ensures narrow { IsTrue result → All IsWord cells.new }
 {
     let pivot = cell_at(cells, x.height, x.width, x.row, x.column);
     match shift_of(pivot, x.denominator) {
         Some(shift) => exchange_over(cells, pivot_row, x, shift),
-        None => exchange_in_place(cells, pivot_row, x),
+        None => {
+            exchange_in_place(cells, pivot_row, x);
+            false
+        }
     }
 }

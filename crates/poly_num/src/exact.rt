@@ -7,7 +7,7 @@ ghost use Prim.Native.Nat.{◌∣◌};
 
 use crate::halves::{half_cross, half_product, half_word};
 use crate::products::narrow_product;
-use crate::words::narrow;
+use crate::words::{narrow, whole_word};
 use crate::{Num, quotient};
 use std::marker::Model;
 
@@ -63,7 +63,7 @@ impl Divisor {
         ensures { SomeIff result (unsigned_abs self.now ∣ unsigned_abs n) (int_div n self.now) }
     {
         let d = self.value();
-        match self.guess(n) {
+        match self.exact_word(n) {
             Some(q) => Some(q),
             None => divided(n, d),
         }
@@ -77,7 +77,7 @@ impl Divisor {
         requires b { IsHalf b }
         requires c { IsHalf c }
         requires d { IsHalf d }
-        ensures { IfSome result (λ q. q *ℤ self.now ≡ a *ℤ b -ℤ c *ℤ d) }
+        ensures { IfSome result (λ q. (q *ℤ self.now ≡ a *ℤ b -ℤ c *ℤ d) × IsHalf q) }
     {
         let x = half_word(narrow(a))?;
         let n = half_cross(x, narrow(b), narrow(c), narrow(d));
@@ -88,7 +88,7 @@ impl Divisor {
     // A quotient of half a word, where that is right.
     fn half_guess(&self, n: i64) -> Option<Num>
         requires { IsHalf self.now }
-        ensures { IfSome result (λ q. q *ℤ self.now ≡ n) }
+        ensures { IfSome result (λ q. (q *ℤ self.now ≡ n) × IsHalf q) }
     {
         let without_twos = (n >> (self.twos % 64)).cast_unsigned();
         let q = without_twos.wrapping_mul(self.inverse).cast_signed();
@@ -102,15 +102,18 @@ impl Divisor {
         }
     }
 
-    // A quotient of one word, where that is right.
-    fn guess(&self, n: Num) -> Option<Num>
-        ensures { IfSome result (λ q. q *ℤ self.now ≡ n) }
+    /// The number `n` over the divisor, where the quotient fits a machine word; `None` says nothing.
+    pub fn exact_word(&self, n: Num) -> Option<Num>
+        ensures { IfSome result (λ q. (q *ℤ self.now ≡ n) × IsWord q) }
     {
         let without_twos = n.value.cast_unsigned() >> (self.twos % 64);
         let low = (without_twos & u64::MAX as u128) as u64;
         let q = low.wrapping_mul(self.inverse).cast_signed();
-        if narrow_product(q, self.value) == n {
-            Some(Num { value: q as i128 })
+        let word = whole_word(q)?;
+        if narrow_product(word, self.value) == n {
+            Some(Num {
+                value: word as i128,
+            })
         } else {
             None
         }

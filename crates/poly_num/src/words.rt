@@ -1,5 +1,6 @@
 // Numbers that fit a machine word: their products cannot pass, and take one machine product each.
 ghost use Rattle.std.specs.List.{All};
+ghost use Rattle.std.specs.Option.{IfSome};
 ghost use Rattle.std.specs.Prelude.{◌≡◌, ◌↔◌, ◌*ℤ◌, ◌-ℤ◌, IsTrue};
 ghost use Rattle.poly_num.specs.Numbers.{IsWord};
 
@@ -50,4 +51,11 @@ pub(crate) fn narrow(a: Num) -> i64
     ensures { result ≡ a }
 {
     a.value as i64
+}
+
+// The word, where its size is at most `2^63 - 1`.
+pub(crate) fn whole_word(a: i64) -> Option<i64>
+    ensures { IfSome result (λ w. (w ≡ a) × IsWord w) }
+{
+    if a == i64::MIN { None } else { Some(a) }
 }

@@ -1,16 +1,16 @@
-use Rattle.std.proofs.Common.{◌≡◌, ◌<◌, ℕ, ℤ, ◌+◌, ◌*◌, ◌*ℤ◌, ◌-ℤ◌, pos, length, get_or, sym, ap, subst, arith, ◌∙◌, mul_comm, refl}
+use Rattle.std.proofs.Common.{◌≡◌, ◌<◌, ℕ, ℤ, ◌+◌, ◌*◌, ◌*ℤ◌, ◌-ℤ◌, pos, get_or, sym, ap, subst, arith, ◌∙◌, mul_comm, refl}
 use Prim.Native.Nat.{◌∣◌}
 use Rattle.std.specs.Prelude.{unsigned_abs}
-use Rattle.std.proofs.lemmas.List.Elements.{All-get_or}
+use Rattle.std.proofs.lemmas.List.Elements.{All-set, All-from_get_or}
 use Rattle.std.proofs.lemmas.Nat.{mul-add-lt}
-use Rattle.poly_num.specs.Halves.{IsHalf}
 use Rattle.poly_num.specs.Numbers.{IsWord}
-use Rattle.dictionary.specs.Cells.{cell, pivot_cell}
+use Rattle.dictionary.specs.Cells.{cell, pivot_cell, IsExchangedCell}
 use Rattle.dictionary.specs.WordExchange.{IsSignOf}
 use Rattle.dictionary.proofs.LeftLemmas.{quotient_word, divisor_word, divisor_half}
-use Rattle.dictionary.proofs.WrittenOver.{IsWrittenOver, over_start, over_along, over_more, over_stays, over_fits, word_at}
+use Rattle.dictionary.proofs.WrittenOver.{IsWrittenOver, over_start, over_along, over_row, over_more, over_stays, over_fits, word_at}
 use Rattle.dictionary.proofs.UndividedLemmas.{turned_word, turned_divides, factor_nonzero, shifted_word, undivided_is, stays_is}
 use Rattle.dictionary.proofs.LeastOver.{least_exchanged}
+use Rattle.dictionary.proofs.words.exchange_over.Goals.{After-word_product-own, After-quick_row-first}
 use Rattle.dictionary.proofs.words.exchange_over.Goals as goal
 
 pub over_common-p-requires-clause-divides : goal.over_common-p-requires-clause-divides
@@ -28,35 +28,46 @@ rows-init c =
     let x = c.args.x.now in
     let old = c.args.cells.now in
     let f = c.sign_number-sign.result *ℤ c.common_factor-common.result in
-    subst (λ (g : ℤ). IsWrittenOver x old f (0 * x.width) g old) (sym c.new-divisor.ensures)
-    (over_along x old f 0 (0 * x.width) x.denominator old (omega arith) (over_start x old f c.requires.denominator))
+    record {
+      over =
+          subst (λ (g : ℤ). IsWrittenOver x old f (0 * x.width) g old) (sym c.new-divisor.ensures)
+          (over_along x old f 0 (0 * x.width) x.denominator old (omega arith) (over_start x old f c.requires.denominator));
+      words = λ _. c.requires.words;
+    }
 
 pub over_common-c-requires-clause-divides : goal.over_common-c-requires-clause-divides
 over_common-c-requires-clause-divides c =
     let h = c.common_factor-common in
     let same = c.cell_at.ensures
-    ∙ c.rows.invariant.rest c.rows.i c.args.x.now.column c.rows-test.true c.requires.column (omega arith) in
+    ∙ c.rows.invariant.over.rest c.rows.i c.args.x.now.column c.rows-test.true c.requires.column (omega arith) in
     subst (λ (z : ℤ). unsigned_abs h.result ∣ unsigned_abs z) (sym same) (h.ensures.column c.rows.i c.rows-test.true)
 
 pub word_product-own-requires-clause-right : goal.word_product-own-requires-clause-right
 word_product-own-requires-clause-right c =
     let x = c.args.x.now in
     let same = c.cell_at.ensures
-    ∙ c.rows.invariant.rest c.rows.i x.column c.rows-test.true c.requires.column (omega arith) in
+    ∙ c.rows.invariant.over.rest c.rows.i x.column c.rows-test.true c.requires.column (omega arith) in
     quotient_word c.over_common-c.result c.common_factor-common.result c.cell_at.result
     c.common_factor-common.ensures.positive c.over_common-c.ensures
     (subst IsWord (sym same)
     (word_at x c.args.cells.now c.requires.size c.requires.words c.rows.i x.column c.rows-test.true c.requires.column))
 
-pub columns-init : goal.columns-init
-columns-init c =
+pub quick_row-first-requires-clause-words : goal.quick_row-first-requires-clause-words
+quick_row-first-requires-clause-words c j hj =
     let x = c.args.x.now in
-    let i = c.rows.i in
-    over_along x c.args.cells.now (c.sign_number-sign.result *ℤ c.common_factor-common.result) (i * x.width)
-    (i * x.width + 0) c.rows.divisor c.rows.cells (omega arith) c.rows.invariant
+    let same = c.rows.invariant.over.rest c.rows.i j c.rows-test.true hj (omega arith) in
+    subst IsWord (sym same)
+    (word_at x c.args.cells.now c.requires.size c.requires.words c.rows.i j c.rows-test.true hj)
 
-pub over_cross-z-requires-clause-p : goal.over_cross-z-requires-clause-p
-over_cross-z-requires-clause-p c =
+pub quick_row-first-requires-clause-half : goal.quick_row-first-requires-clause-half
+quick_row-first-requires-clause-half c t =
+    let own = c.row_fits_half-half.ensures t in
+    let f = c.fit_half-halves.ensures own.0 in
+    let g = divisor_half c.args.x.now.denominator c.rows.divisor c.requires.denominator c.rows.invariant.over.divides f.2 in
+    (f.0, f.1, own.1, g)
+
+p_word : (c : After-word_product-own) → IsWord c.over_common-p.result
+p_word c =
     let x = c.args.x.now in
     let t = c.sign_number-sign in
     quotient_word c.over_common-p.result c.common_factor-common.result c.word_product.result
@@ -66,12 +77,12 @@ over_cross-z-requires-clause-p c =
     (subst IsWord (sym c.cell_at-pivot.ensures)
     (word_at x c.args.cells.now c.requires.size c.requires.words x.row x.column c.requires.row c.requires.column))))
 
-pub over_cross-z-requires-clause-c : goal.over_cross-z-requires-clause-c
-over_cross-z-requires-clause-c c =
+own_word : (c : After-word_product-own) → IsWord c.word_product-own.result
+own_word c =
     let x = c.args.x.now in
     let t = c.sign_number-sign in
     let same = c.cell_at.ensures
-    ∙ c.rows.invariant.rest c.rows.i x.column c.rows-test.true c.requires.column (omega arith) in
+    ∙ c.rows.invariant.over.rest c.rows.i x.column c.rows-test.true c.requires.column (omega arith) in
     subst IsWord (sym c.word_product-own.ensures)
     (turned_word t.result c.over_common-c.result t.ensures.size
     (quotient_word c.over_common-c.result c.common_factor-common.result c.cell_at.result
@@ -79,39 +90,134 @@ over_cross-z-requires-clause-c c =
     (subst IsWord (sym same)
     (word_at x c.args.cells.now c.requires.size c.requires.words c.rows.i x.column c.rows-test.true c.requires.column))))
 
-pub over_cross-z-requires-clause-e : goal.over_cross-z-requires-clause-e
-over_cross-z-requires-clause-e c =
+row_word : (c : After-word_product-own) → (j : ℕ) → j < c.args.x.now.width →
+    IsWord (get_or c.copy_shifted.new.row j (pos 0))
+row_word c j hj =
+    let x = c.args.x.now in
+    shifted_word x c.args.cells.now c.copy_shifted.new.row c.args.shift c.requires.shift_word c.copy_shifted.ensures
+    j hj (word_at x c.args.cells.now c.requires.size c.requires.words x.row j c.requires.row hj)
+
+-- what is to be written in row i and column j
+is_new : (c : After-quick_row-first) → (j : ℕ) → j < c.args.x.now.width → (n : ℤ) →
+    n ≡ cell c.args.x.now.width c.args.cells.now c.rows.i j *ℤ c.over_common-p.result -ℤ c.word_product-own.result *ℤ get_or c.copy_shifted.new.row j (pos 0) →
+    IsExchangedCell c.args.x.now c.args.cells.now c.rows.i j ((c.sign_number-sign.result *ℤ c.common_factor-common.result) *ℤ n)
+is_new c j hj n en =
+    let x = c.args.x.now in
+    let q = c.requires in
+    let t = c.sign_number-sign in
+    let sign = subst (λ (z : ℤ). IsSignOf z t.result) c.cell_at-pivot.ensures t.ensures in
+    let ep = c.over_common-p.ensures ∙ c.word_product.ensures ∙ ap (λ (z : ℤ). t.result *ℤ z) c.cell_at-pivot.ensures in
+    let ec = c.over_common-c.ensures ∙ c.cell_at.ensures
+    ∙ c.rows.invariant.over.rest c.rows.i x.column c.rows-test.true q.column (omega arith) in
+    undivided_is x c.args.cells.now c.copy_shifted.new.row c.common_factor-common.result t.result c.over_common-p.result
+    c.args.shift q.column sign c.copy_shifted.ensures q.shift ep c.rows.i j hj c.over_common-c.result
+    c.word_product-own.result n ec c.word_product-own.ensures en
+
+pub word_row-from-requires-clause-words : goal.word_row-from-requires-clause-words
+word_row-from-requires-clause-words c j le hj =
+    let x = c.args.x.now in
+    let i = c.rows.i in
+    let same = c.quick_row-first.ensures.row.after (i * x.width + j) (omega arith)
+    ∙ c.rows.invariant.over.rest i j c.rows-test.true hj (omega arith) in
+    subst IsWord (sym same) (word_at x c.args.cells.now c.requires.size c.requires.words i j c.rows-test.true hj)
+
+pub word_row-from-requires-clause-p : goal.word_row-from-requires-clause-p
+word_row-from-requires-clause-p c = p_word (goal.at.word_row-from-requires-clause-p c).After-word_product-own
+
+pub word_row-from-requires-clause-c : goal.word_row-from-requires-clause-c
+word_row-from-requires-clause-c c = own_word (goal.at.word_row-from-requires-clause-c c).After-word_product-own
+
+pub word_row-from-requires-clause-others : goal.word_row-from-requires-clause-others
+word_row-from-requires-clause-others c =
+    All-from_get_or IsWord c.copy_shifted.new.row (pos 0)
+    (λ j lt.
+    row_word (goal.at.word_row-from-requires-clause-others c).After-word_product-own j
+    (omega (arith, c.copy_shifted.ensures.width)))
+
+quick_over : (c : After-quick_row-first) →
+    IsWrittenOver c.args.x.now c.args.cells.now (c.sign_number-sign.result *ℤ c.common_factor-common.result)
+    (c.rows.i * c.args.x.now.width + c.quick_row-first.result) c.rows.divisor c.quick_row-first.new.cells
+quick_over c =
+    let x = c.args.x.now in
+    let old = c.args.cells.now in
+    let i = c.rows.i in
+    let f = c.sign_number-sign.result *ℤ c.common_factor-common.result in
+    let g = c.rows.divisor in
+    let r = c.quick_row-first.ensures.row in
+    let row = c.copy_shifted.new.row in
+    let p = c.over_common-p.result in
+    let own = c.word_product-own.result in
+    let new = c.quick_row-first.new.cells in
+    over_row x old f i 0 c.quick_row-first.result g row p own c.rows.cells new c.rows-test.true r
+    (λ j le l.
+    let hj : j < x.width = omega (arith, r.within) in
+    is_new c j hj (cell x.width new i j *ℤ g)
+    (r.written j le l
+    ∙ ap (λ (z : ℤ). z *ℤ p -ℤ own *ℤ get_or row j (pos 0))
+    (c.rows.invariant.over.rest i j c.rows-test.true hj (omega arith))))
+    (over_along x old f (i * x.width) (i * x.width + 0) g c.rows.cells (omega arith) c.rows.invariant.over)
+
+pub rows-preserved-then-first-x : goal.rows-preserved-then-first-x
+rows-preserved-then-first-x c =
+    let x = c.args.x.now in
+    let e : c.quick_row-first.result ≡ x.width = c.if-first-x.true in
+    record {
+      over =
+          over_along x c.args.cells.now _ _ _ _ _ (omega arith)
+          (quick_over (goal.at.rows-preserved-then-first-x c).After-quick_row-first);
+      words = λ t. c.quick_row-first.ensures.words (c.rows.invariant.words t);
+    }
+
+pub columns-init : goal.columns-init
+columns-init c =
+    let x = c.args.x.now in
+    let i = c.rows.i in
+    let g = c.rows.divisor in
+    let s = c.word_row-from.ensures.row in
+    let row = c.copy_shifted.new.row in
+    let p = c.over_common-p.result in
+    let own = c.word_product-own.result in
+    let new = c.word_row-from.new.cells in
+    let u = quick_over (goal.at.columns-init c).After-quick_row-first in
+    record {
+      over =
+          over_row x c.args.cells.now (c.sign_number-sign.result *ℤ c.common_factor-common.result) i
+          c.quick_row-first.result c.word_row-from.result g row p own c.quick_row-first.new.cells new c.rows-test.true s
+          (λ j le l.
+          let hj : j < x.width = omega (arith, s.within) in
+          is_new (goal.at.columns-init c).After-quick_row-first j hj (cell x.width new i j *ℤ g)
+          (s.written j le l
+          ∙ ap (λ (z : ℤ). z *ℤ p -ℤ own *ℤ get_or row j (pos 0)) (u.rest i j c.rows-test.true hj (omega arith))))
+          u;
+      words = λ t. c.word_row-from.ensures.words (c.quick_row-first.ensures.words (c.rows.invariant.words t));
+    }
+
+pub word_cross-n-requires-clause-a : goal.word_cross-n-requires-clause-a
+word_cross-n-requires-clause-a c =
     let x = c.args.x.now in
     let same = c.cell_at-e.ensures
-    ∙ c.columns.invariant.rest c.rows.i c.columns.j c.rows-test.true c.columns-test.true (omega arith) in
+    ∙ c.columns.invariant.over.rest c.rows.i c.columns.j c.rows-test.true c.columns-test.true (omega arith) in
     subst IsWord (sym same)
     (word_at x c.args.cells.now c.requires.size c.requires.words c.rows.i c.columns.j c.rows-test.true c.columns-test.true)
 
-pub over_cross-z-requires-clause-a : goal.over_cross-z-requires-clause-a
-over_cross-z-requires-clause-a c =
-    let x = c.args.x.now in
-    subst IsWord (sym c.at_place-a.ensures)
-    (shifted_word x c.args.cells.now c.copy_shifted.new.row c.args.shift c.requires.shift_word c.copy_shifted.ensures
-    c.columns.j c.columns-test.true
-    (word_at x c.args.cells.now c.requires.size c.requires.words x.row c.columns.j c.requires.row c.columns-test.true))
+pub word_cross-n-requires-clause-b : goal.word_cross-n-requires-clause-b
+word_cross-n-requires-clause-b c = p_word (goal.at.word_cross-n-requires-clause-b c).After-word_product-own
 
-pub over_cross-z-requires-clause-half : goal.over_cross-z-requires-clause-half
-over_cross-z-requires-clause-half c t =
-    let row = c.copy_shifted.new.row in
-    let own = c.row_fits_half-half.ensures t in
-    let f = c.fit_half-halves.ensures own.0 in
-    let lt : c.columns.j < length row = omega (arith, c.copy_shifted.ensures.width, c.columns-test.true) in
-    let a = subst IsHalf (sym c.at_place-a.ensures) (All-get_or IsHalf row c.columns.j (pos 0) lt f.0) in
-    let g = divisor_half c.args.x.now.denominator c.columns.divisor c.requires.denominator c.columns.invariant.divides f.2 in
-    (f.1, own.1, a, g)
+pub word_cross-n-requires-clause-c : goal.word_cross-n-requires-clause-c
+word_cross-n-requires-clause-c c = own_word (goal.at.word_cross-n-requires-clause-c c).After-word_product-own
 
-pub over_cross-z-requires-clause-word : goal.over_cross-z-requires-clause-word
-over_cross-z-requires-clause-word c =
-    divisor_word c.args.x.now.denominator c.columns.divisor c.requires.denominator c.columns.invariant.divides
+pub word_cross-n-requires-clause-d : goal.word_cross-n-requires-clause-d
+word_cross-n-requires-clause-d c =
+    subst IsWord (sym c.at_place.ensures)
+    (row_word (goal.at.word_cross-n-requires-clause-d c).After-word_product-own c.columns.j c.columns-test.true)
+
+pub over-z-requires-clause-word : goal.over-z-requires-clause-word
+over-z-requires-clause-word c =
+    divisor_word c.args.x.now.denominator c.columns.divisor c.requires.denominator c.columns.invariant.over.divides
     c.requires.word
 
-pub over_cross-z-requires-clause-fits : goal.over_cross-z-requires-clause-fits
-over_cross-z-requires-clause-fits c =
+pub over-z-requires-clause-fits : goal.over-z-requires-clause-fits
+over-z-requires-clause-fits c =
     let x = c.args.x.now in
     let q = c.requires in
     let t = c.sign_number-sign in
@@ -121,7 +227,7 @@ over_cross-z-requires-clause-fits c =
     let l = mul-add-lt c.rows.i x.width c.columns.j x.height c.rows-test.true c.columns-test.true in
     over_fits x c.args.cells.now (t.result *ℤ h.result) q.size q.row q.column q.words q.word nonzero
     (c.rows.i * x.width + c.columns.j) c.columns.divisor c.columns.cells (omega (arith, mul_comm x.height x.width))
-    c.columns.invariant
+    c.columns.invariant.over
 
 pub columns-preserved : goal.columns-preserved
 columns-preserved c =
@@ -133,25 +239,26 @@ columns-preserved c =
     let t = c.sign_number-sign in
     let h = c.common_factor-common in
     let f = t.result *ℤ h.result in
-    let g = c.over_cross-z in
+    let g = c.over-z in
     let row = c.copy_shifted.new.row in
-    let p = c.over_common-p.result in
-    let own = c.word_product-own.result in
-    let n = g.result *ℤ g.new.divisor in
+    let n = c.word_cross-n.result in
     let sign = subst (λ (z : ℤ). IsSignOf z t.result) c.cell_at-pivot.ensures t.ensures in
     let nonzero = factor_nonzero (pivot_cell x old) t.result h.result q.nonzero sign h.ensures.positive in
-    let ep = c.over_common-p.ensures ∙ c.word_product.ensures ∙ ap (λ (z : ℤ). t.result *ℤ z) c.cell_at-pivot.ensures in
-    let ec = c.over_common-c.ensures ∙ c.cell_at.ensures
-    ∙ c.rows.invariant.rest i x.column c.rows-test.true q.column (omega arith) in
     let same = c.cell_at-e.ensures
-    ∙ c.columns.invariant.rest i j c.rows-test.true c.columns-test.true (omega arith) in
-    let en : n ≡ cell x.width old i j *ℤ p -ℤ own *ℤ get_or row j (pos 0) =
-    g.ensures.quotient ∙ rw (same, c.at_place-a.ensures) refl in
-    let is = undivided_is x old row h.result t.result p c.args.shift q.column sign c.copy_shifted.ensures q.shift ep i j
-    c.columns-test.true c.over_common-c.result own n ec c.word_product-own.ensures en in
-    over_along x old f (i * x.width + j + 1) (i * x.width + (j + 1)) _ _ (omega arith)
-    (over_more x old f nonzero q.size i j c.rows-test.true c.columns-test.true c.columns.divisor g.new.divisor
-    c.columns.cells g.new.cells n g.result is refl g.ensures.left g.ensures.rescaled c.columns.invariant)
+    ∙ c.columns.invariant.over.rest i j c.rows-test.true c.columns-test.true (omega arith) in
+    let en : n ≡ cell x.width old i j *ℤ c.over_common-p.result -ℤ c.word_product-own.result *ℤ get_or row j (pos 0) =
+    c.word_cross-n.ensures ∙ rw (same, c.at_place.ensures) refl in
+    let is = is_new (goal.at.columns-preserved c).After-quick_row-first j c.columns-test.true n en in
+    record {
+      over =
+          over_along x old f (i * x.width + j + 1) (i * x.width + (j + 1)) _ _ (omega arith)
+          (over_more x old f nonzero q.size i j c.rows-test.true c.columns-test.true c.columns.divisor g.new.divisor
+          c.columns.cells g.new.cells n g.result is g.ensures.quotient g.ensures.left g.ensures.rescaled
+          c.columns.invariant.over);
+      words = λ m.
+          let u = g.ensures.narrow m in
+          All-set IsWord g.new.cells (i * x.width + j) g.result u.2 (u.1 (c.columns.invariant.words u.0));
+    }
 
 pub rows-preserved-then-stays : goal.rows-preserved-then-stays
 rows-preserved-then-stays c =
@@ -164,19 +271,26 @@ rows-preserved-then-stays c =
     let sign = subst (λ (z : ℤ). IsSignOf z t.result) c.cell_at-pivot.ensures t.ensures in
     let ep = c.over_common-p.ensures ∙ c.word_product.ensures ∙ ap (λ (z : ℤ). t.result *ℤ z) c.cell_at-pivot.ensures in
     let ec = c.over_common-c.ensures ∙ c.cell_at.ensures
-    ∙ c.rows.invariant.rest i x.column c.rows-test.true q.column (omega arith) in
+    ∙ c.rows.invariant.over.rest i x.column c.rows-test.true q.column (omega arith) in
     let same = c.stays.ensures c.if-stays.true in
-    over_stays x old (t.result *ℤ h.result) i c.rows.divisor c.rows.cells c.rows-test.true
-    (λ j hj.
-    stays_is x old c.copy_shifted.new.row h.result t.result c.over_common-p.result c.args.shift q.column sign
-    c.copy_shifted.ensures q.shift ep i j hj c.over_common-c.result c.word_product-own.result c.rows.divisor ec
-    c.word_product-own.ensures same.0 same.1)
-    c.rows.invariant
+    record {
+      over =
+          over_stays x old (t.result *ℤ h.result) i c.rows.divisor c.rows.cells c.rows-test.true
+          (λ j hj.
+          stays_is x old c.copy_shifted.new.row h.result t.result c.over_common-p.result c.args.shift q.column sign
+          c.copy_shifted.ensures q.shift ep i j hj c.over_common-c.result c.word_product-own.result c.rows.divisor ec
+          c.word_product-own.ensures same.0 same.1)
+          c.rows.invariant.over;
+      words = c.rows.invariant.words;
+    }
 
 pub rows-preserved : goal.rows-preserved
 rows-preserved c =
     let e : c.columns.j ≡ c.args.x.now.width = omega arith in
-    over_along c.args.x.now c.args.cells.now _ _ _ _ _ (omega arith) c.columns.invariant
+    record {
+      over = over_along c.args.x.now c.args.cells.now _ _ _ _ _ (omega arith) c.columns.invariant.over;
+      words = c.columns.invariant.words;
+    }
 
 pub returns-clause-exchanged : goal.returns-clause-exchanged
 returns-clause-exchanged c =
@@ -188,4 +302,4 @@ returns-clause-exchanged c =
     least_exchanged x c.args.cells.now c.rows.cells h.result t.result c.rows.divisor q.row q.column q.denominator
     q.nonzero h.ensures (subst (λ (z : ℤ). IsSignOf z t.result) c.cell_at-pivot.ensures t.ensures) q.unit
     (over_along x c.args.cells.now (t.result *ℤ h.result) (c.rows.i * x.width) (x.height * x.width) c.rows.divisor
-    c.rows.cells (ap (λ (n : ℕ). n * x.width) e) c.rows.invariant)
+    c.rows.cells (ap (λ (n : ℕ). n * x.width) e) c.rows.invariant.over)

@@ -11,8 +11,8 @@ quotient-factor-requires c =
     positive_gcd c.value-old.result c.args.n c.gcd-common.result
     (rw (c.value-old.ensures.value) (c.value-old.ensures.positive)) c.gcd-common.ensures.divisor
 
-pub scale_cells-requires-clause-fits : goal.scale_cells-requires-clause-fits
-scale_cells-requires-clause-fits c =
+pub scale_cells-still-requires-clause-fits : goal.scale_cells-still-requires-clause-fits
+scale_cells-still-requires-clause-fits c =
     let lt : pos 0 <ℤ c.value-old.result = rw (c.value-old.ensures.value) (c.value-old.ensures.positive) in
     let is = c.gcd-common.ensures.divisor in
     let positive = positive_gcd c.value-old.result c.args.n c.gcd-common.result lt is in
@@ -39,7 +39,7 @@ returns-clause-quotient c =
     let lt : pos 0 <ℤ c.value-old.result = rw (c.value-old.ensures.value) (c.value-old.ensures.positive) in
     let is = c.gcd-common.ensures.divisor in
     let positive = positive_gcd c.value-old.result c.args.n c.gcd-common.result lt is in
-    rw (c.new.ensures, c.quotient.ensures)
+    rw (c.new.ensures, c.quotient-q.ensures)
     (quotient_exact c.gcd-common.result c.args.n positive is.1.1)
 
 pub returns-clause-left : goal.returns-clause-left
@@ -58,4 +58,4 @@ returns-clause-rescaled c =
     ∙ quotient_exact c.gcd-common.result c.value-old.result positive is.1.0 ∙ c.value-old.ensures.value in
     rw (c.new.ensures)
     (rescaled c.args.place c.args.divisor.now c.gcd-common.result c.quotient-factor.result positive e
-    c.args.cells.now c.scale_cells.new.cells c.scale_cells.ensures)
+    c.args.cells.now c.scale_cells-still.new.cells c.scale_cells-still.ensures.scaled)

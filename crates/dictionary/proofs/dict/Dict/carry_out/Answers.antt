@@ -1,4 +1,6 @@
 use Rattle.std.proofs.Common.{◌≡◌, List, ℤ, pos, ◌+◌, ◌-◌, ◌*◌, length, set, remove, slice_index_or, refl, sym, ap, subst, ◌∙◌}
+use Rattle.std.specs.List.{All}
+use Rattle.poly_num.specs.Numbers.{IsWord}
 use Rattle.std.specs.Vec.{with_items, vec_len}
 use Rattle.std.proofs.lemmas.List.{with_items_is}
 use Rattle.poly_model.specs.Keys.{with_label}
@@ -6,25 +8,25 @@ use Rattle.dictionary_laws.specs.Keys.{place_in}
 use Rattle.dictionary.specs.declared.exchange.Exchange.{Exchange}
 use Rattle.dictionary.specs.Cells.{Fits}
 use Rattle.dictionary.specs.WordExchange.{HasUnitRow}
-use Rattle.dictionary.proofs.NarrowCells.{has_unit_row}
+use Rattle.dictionary.proofs.NarrowCells.{has_unit_row, narrow_at}
 use Rattle.dictionary.specs.Views.{Dictionary, exchange_at, CanPivot, IsPivot, IsWhole}
 use Rattle.dictionary.proofs.CarriedOut.{column_bound, place_bound, width_after, carried_out}
 use Rattle.dictionary.proofs.dict.Dict.carry_out.Goals as goal
 
-pub exchange_cells-requires-clause-column : goal.exchange_cells-requires-clause-column
-exchange_cells-requires-clause-column c =
+pub exchange_cells-self-inside-requires-clause-column : goal.exchange_cells-self-inside-requires-clause-column
+exchange_cells-self-inside-requires-clause-column c =
     column_bound c.args.self.now c.args.row.0 c.args.col.0
     (subst (λ (d : Dictionary). IsWhole d) c.self.view_is c.self.invariant.1) c.requires.can
     c.args.x.now c.requires.exchange
 
-pub exchange_cells-requires-clause-fits : goal.exchange_cells-requires-clause-fits
-exchange_cells-requires-clause-fits c =
+pub exchange_cells-self-inside-requires-clause-fits : goal.exchange_cells-self-inside-requires-clause-fits
+exchange_cells-self-inside-requires-clause-fits c =
     subst (λ (v : List ℤ). Fits c.args.x.now v)
     (sym (c.deref_mut.ensures.value ∙ ap (λ (d : Dictionary). d.cells) c.self.view_is))
     c.requires.fits
 
-pub exchange_cells-requires-clause-unit : goal.exchange_cells-requires-clause-unit
-exchange_cells-requires-clause-unit c =
+pub exchange_cells-self-inside-requires-clause-unit : goal.exchange_cells-self-inside-requires-clause-unit
+exchange_cells-self-inside-requires-clause-unit c =
     let now = c.args.self.now in
     subst (λ (v : List ℤ). HasUnitRow c.args.x.now v)
     (sym (c.deref_mut.ensures.value ∙ ap (λ (d : Dictionary). d.cells) c.self.view_is))
@@ -49,8 +51,8 @@ invariant_of-self c =
     let can : CanPivot d row col = subst (λ (e : Dictionary). CanPivot e row col) (sym c.self.view_is) c.requires.can in
     let at : c.args.x.now ≡ exchange_at d row col =
     c.requires.exchange ∙ ap (λ (e : Dictionary). exchange_at e row col) (sym c.self.view_is) in
-    let news = c.exchange_cells.new.cells in
-    let ex = c.exchange_cells.ensures.exchanged in
+    let news = c.exchange_cells-self-inside.new.cells in
+    let ex = c.exchange_cells-self-inside.ensures.exchanged in
     let written = with_items_is v.cells news (ex.same_length ∙ c.deref_mut.ensures.len) in
     let place = c.place_of-at.ensures.value ∙ ap (λ ks. place_in ks col) c.labels.ensures.value in
     let key = c.with-self-inside.ensures.value
@@ -60,10 +62,16 @@ invariant_of-self c =
     let out = carried_out d row col whole can c.args.x.now at c.deref_mut.result.now news ex c.deref_mut.ensures.value
     c.with-self-inside.result (set v.columns.items (c.args.x.now.column - 1) row) c.at_place-self-inside.result
     (with_items v.cells news).items key refl denominator written in
-    let room = c.exchange_cells.ensures.room in
+    let room = c.exchange_cells-self-inside.ensures.room in
     let width = width_after d row col (c.args.x.now.column - 1) c.args.x.now at in
-    let before = ap (λ (x : Exchange). x.width) at ∙ sym c.self.invariant.0 ∙ sym v.pivot_row.ok.0 in
-    (ap length (with_items_is v.pivot_row c.exchange_cells.new.pivot_row (room ∙ before)) ∙ room ∙ width, out.1)
+    let before = ap (λ (x : Exchange). x.width) at ∙ sym c.self.invariant.0 ∙ sym v.pivot_row.ok.0 in (
+      ap length (with_items_is v.pivot_row c.exchange_cells-self-inside.new.pivot_row (room ∙ before)) ∙ room ∙ width,
+      out.1,
+      λ t.
+          narrow_at (with_items v.cells news).items (c.args.x.now.row * c.args.x.now.width + c.args.x.now.column)
+          c.at_place-self-inside.result
+          (subst (λ (l : List ℤ). All IsWord l) (sym written) (c.exchange_cells-self-inside.ensures.narrow t)) denominator,
+    )
 
 pub returns : goal.returns
 returns c =
@@ -75,8 +83,8 @@ returns c =
     let can : CanPivot d row col = subst (λ (e : Dictionary). CanPivot e row col) (sym c.self.view_is) c.requires.can in
     let at : c.args.x.now ≡ exchange_at d row col =
     c.requires.exchange ∙ ap (λ (e : Dictionary). exchange_at e row col) (sym c.self.view_is) in
-    let news = c.exchange_cells.new.cells in
-    let ex = c.exchange_cells.ensures.exchanged in
+    let news = c.exchange_cells-self-inside.new.cells in
+    let ex = c.exchange_cells-self-inside.ensures.exchanged in
     let written = with_items_is v.cells news (ex.same_length ∙ c.deref_mut.ensures.len) in
     let place = c.place_of-at.ensures.value ∙ ap (λ ks. place_in ks col) c.labels.ensures.value in
     let key = c.with-self-inside.ensures.value

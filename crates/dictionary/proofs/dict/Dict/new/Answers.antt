@@ -1,4 +1,5 @@
 use Rattle.std.proofs.Common.{◌≡◌, ◌≤◌, ◌<◌, ◌+◌, ◌-◌, ◌++◌, ℕ, suc, length, arith, ap, sym, subst, ◌∙◌}
+use Rattle.std.proofs.lemmas.Bool.{false≢true}
 use Rattle.std.specs.List.{flat_map, range_with_len}
 use Rattle.poly_model.specs.Systems.{row_of}
 use Rattle.dictionary_laws.specs.Coordinates.{coordinate_key}
@@ -34,6 +35,7 @@ invariant_of-result-2 c =
     c.in_ok-labels.labels.items c.key_of.result c.in_ok-columns.columns.items c.in_ok-cells.cells.items columns labels key cells in (
       sym c.in_ok-from_elem.field-0.ok.0 ∙ c.in_ok-from_elem.ensures.len ∙ wide,
       subst (λ (d : Dictionary). IsWhole d) same (new_whole sys phase c.requires m em few some narrow widths),
+      λ t. absurd (false≢true t),
     )
 
 pub returns : goal.returns

@@ -13,5 +13,5 @@ passing_unless-requires-clause-column c =
 pub carry_out-requires-clause-fits : goal.carry_out-requires-clause-fits
 carry_out-requires-clause-fits c =
     subst (λ (v : List ℤ). Fits c.exchange_of-x.result v)
-    (c.deref-2.ensures.value ∙ ap (λ (d : Dictionary). d.cells) c.self.view_is)
+    (c.deref.ensures.value ∙ ap (λ (d : Dictionary). d.cells) c.self.view_is)
     c.in-None.ensures

@@ -1,4 +1,5 @@
 use Rattle.std.proofs.Common.{◌≤◌, suc, [], length, arith, sym, ap, subst, ◌∙◌}
+use Rattle.std.proofs.lemmas.Bool.{false≢true}
 use Rattle.std.specs.List.{filter}
 use Rattle.poly_model.specs.Keys.{IsKey}
 use Rattle.poly_model.specs.declared.overflow.Phase.TheVariants.{Main}
@@ -61,6 +62,7 @@ pub invariant_of-result : goal.invariant_of-result
 invariant_of-result c = (
   omega (arith, c.in_ok-resize.ensures.len, c.len.ensures, c.in_ok-columns.columns.ok.0, c.resize.new.self.ok.0),
   (made c).0,
+  λ t. absurd (false≢true t),
 )
 
 pub returns : goal.returns

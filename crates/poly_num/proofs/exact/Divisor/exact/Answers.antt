@@ -7,7 +7,7 @@ use Rattle.poly_num.proofs.exact.Divisor.exact.Goals as goal
 
 pub returns-in-Some : goal.returns-in-Some
 returns-in-Some c =
-    exact_quotient c.args.self.now c.args.n c.in-Some.q c.value-d.ensures.positive c.in-Some.ensures
+    exact_quotient c.args.self.now c.args.n c.in-Some.q c.value-d.ensures.positive c.in-Some.ensures.0
 
 pub returns-in-None : goal.returns-in-None
 returns-in-None c =
