@@ -1,5 +1,5 @@
-//! What a dictionary of the cone's space tells at a prefix of rows, as laws (functions with an empty body), and what
-//! is listed where one direction is left.
+//! The plain program that lists a cone by subsets of its rows, and says whether it has a point; and, as laws
+//! (functions with an empty body), what a dictionary of the cone's space tells at a prefix of rows.
 //!
 //! What is stated stands in `specs/`.
 #![tactic(auto)]
