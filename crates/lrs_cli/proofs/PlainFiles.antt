@@ -1,7 +1,7 @@
 -- A polyhedron that is listed so far has no free column and no linear row.
-use Rattle.std.proofs.Common.{◌≡◌, ◌≢◌, ⊎_elim, ◌<◌, ◌≤◌, ◌+◌, ◌-◌, ℕ, zero, suc, Bool, true, false, not, List, [], ◌∷◌, ◌++◌, map, length, Option, Err, ℤ, pos, ◌+ℤ◌, ◌*ℤ◌, refl, sym, ap, subst, ◌∙◌, arith}
+use Rattle.std.proofs.Common.{◌≡◌, ◌≢◌, ⊎_elim, ◌<◌, ◌≤◌, ◌+◌, ◌-◌, ℕ, zero, suc, Bool, true, false, not, List, [], ◌∷◌, map, length, Option, Err, ℤ, pos, ◌+ℤ◌, ◌*ℤ◌, refl, sym, ap, subst, ◌∙◌, arith}
 use Rattle.std.specs.Prelude.{Result, ◌&&◌, ◌||◌, int_lt}
-use Rattle.std.specs.List.{All, AllByRecursion, Contains, list_all, list_any, range_with_len}
+use Rattle.std.specs.List.{AllByRecursion, Contains, list_all, range_with_len}
 use Rattle.std.proofs.lemmas.Bool.{cases_eq}
 use Rattle.std.proofs.lemmas.Bool.Decides.{Decides-int_eq}
 use Rattle.std.proofs.lemmas.List.Elements.{All-from_recursion, All-append, All-contains, Contains-append_left, Contains-append_right}
@@ -13,7 +13,7 @@ use Rattle.poly_model.specs.declared.kind.Kind.TheVariants.{H, V}
 use Rattle.poly_model.specs.declared.listed.Listed.{Listed}
 use Rattle.poly_model.specs.Systems.{FileRow, Row, Polyhedron, cone_of, file_rows, added_row, cone_row, first_unit}
 use Rattle.poly_model.specs.Cones.{at}
-use Rattle.poly_model.specs.FreeColumns.{IsFree, AreFreeColumns}
+use Rattle.poly_model.specs.FreeColumns.{IsFree}
 use Rattle.linear_laws.proofs.Members.{Contains-nil, Contains-first, Contains-later}
 use Rattle.plain_enum.specs.Plain.{IsPlain}
 use Rattle.listing_laws.specs.ListedCone.{cone_over}

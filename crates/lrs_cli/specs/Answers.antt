@@ -74,6 +74,30 @@ IsListed old new rows lines text = Describes (WritesWhole old new rows lines) te
 abbrev pub IsPartlyListed : Option (List ℕ) → Option (List ℕ) → List ℕ → Type 0
 IsPartlyListed old new text = Describes (WritesPart old new) text
 
+-- the answers that come where nothing fails and no product passes
+abbrev pub Ends : Status → Type 0
+Ends (Done rows lines) = Unit {0}
+Ends Infeasible = Unit {0}
+Ends OutOfMemory = Unit {0}
+Ends (Overflow o) = ⊥
+Ends WriteFault = ⊥
+Ends (BadFile f) = ⊥
+Ends Usage = ⊥
+Ends ReadFault = ⊥
+Ends Unsupported = ⊥
+
+-- the text describes a polyhedron that is listed so far, and at none of its dictionaries a product passes
+pub record HasNoObstacle (text : List ℕ) : Type 0 where
+  pub polyhedron : Polyhedron
+  pub read : reading text ≡ Ok polyhedron
+  pub supported : is_supported polyhedron ≡ true
+  pub fits : (o : Passed) → Passes polyhedron o → ⊥
+
+-- of these bytes that is known
+abbrev pub Knows : Option (List ℕ) → (List ℕ → Type 0) → Type 0
+Knows None P = ⊥
+Knows (Some bytes) P = P bytes
+
 -- the answers of a polyhedron that is listed so far
 abbrev pub Lists : Status → Type 0
 Lists (Done rows lines) = Unit {0}

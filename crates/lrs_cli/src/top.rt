@@ -5,7 +5,7 @@ ghost use Rattle.poly_io.specs.Causes.{Rose};
 ghost use Rattle.poly_io.specs.Taken.{TakesAtMost};
 ghost use Rattle.poly_model.specs.declared.overflow.Overflow.{Overflow as Passed};
 ghost use Rattle.poly_reader.specs.declared.bad.BadFile.{BadFile};
-ghost use Rattle.lrs_cli.specs.Answers.{IsLine, Told, IsSupported, IsUnsupported, IsBadFile, IsInfeasible, IsOverflow, IsListed, IsPartlyListed, Lists, StopsListing, WritesNothing};
+ghost use Rattle.lrs_cli.specs.Answers.{IsLine, Told, IsSupported, IsUnsupported, IsBadFile, IsInfeasible, IsOverflow, IsListed, IsPartlyListed, Lists, StopsListing, WritesNothing, Knows, HasNoObstacle, Ends};
 
 use crate::convert::convert;
 use crate::status::Status;
@@ -29,6 +29,9 @@ pub fn lrs<I: Source, O: Sink>(alloc: Global, words: &[&str], input: &mut I, out
     ensures bad { (f : BadFile) → result ≡ Status.BadFile f → Told (I.left input.old) (IsBadFile f) }
     ensures read { result ≡ Status.ReadFault → Rose (I.faults input.old) (I.faults input.new) }
     ensures write { result ≡ Status.WriteFault → Rose (O.faults out.old) (O.faults out.new) }
+    // Where nothing fails and no product passes, nothing but want of memory is in the way.
+    ensures complete { IsLine (map (λ w. w.now) words.now) → Knows (I.left input.old) HasNoObstacle →
+        ¬ (Rose (I.faults input.old) (I.faults input.new)) → ¬ (Rose (O.faults out.old) (O.faults out.new)) → Ends result }
     // Whatever the answer is, at most one byte more than a file may have was taken.
     ensures taken { TakesAtMost (I.left input.old) (I.left input.new) 67108865 }
 {
