@@ -26,7 +26,7 @@ use Rattle.dictionary.proofs.PlaceLemmas.{place_within}
 use Rattle.dictionary.proofs.FirstNumbers.{first_cells, first_labels, first_length, row_number, unit_number}
 
 -- ---- labels
-ascending_range : (a n : ℕ) → IsAscending (range_with_len a n)
+pub ascending_range : (a n : ℕ) → IsAscending (range_with_len a n)
 ascending_range a zero = tt
 ascending_range a (suc n) = (
   all_from (λ k. a < k) (range_with_len (a + 1) n)
@@ -43,7 +43,7 @@ members (x ∷ ks) ls k c =
     ⊎_elim (λ (h : Contains ks k). inl (Contains-later k x ks h)) (λ (h : Contains ls k). inr h) (members ks ls k d))
     (contains_cases x (ks ++ ls) k c)
 
-ascending_joined : (ks ls : List ℕ) → IsAscending ks → IsAscending ls →
+pub ascending_joined : (ks ls : List ℕ) → IsAscending ks → IsAscending ls →
     ((k l : ℕ) → Contains ks k → Contains ls l → k < l) → IsAscending (ks ++ ls)
 ascending_joined [] ls h g below = g
 ascending_joined (x ∷ ks) ls h g below = (

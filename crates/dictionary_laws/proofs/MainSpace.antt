@@ -125,7 +125,7 @@ module _ (p : Polyhedron) (few : length p.rows < 8192) (free : List ℕ) where
   positive_in H k c = label_is_positive (length (file_rows p)) 1 p.n k c
   positive_in V k c = label_is_positive (length (cone_of p).rows) 0 p.n k c
 
-  equation_in : (kind : Kind) (k : ℕ) → IsEquation p k → Contains (cut_space kind p []).labels k
+  pub equation_in : (kind : Kind) (k : ℕ) → IsEquation p k → Contains (cut_space kind p []).labels k
   equation_in H k q =
       let r = q.within in
       row_is_label (length (file_rows p)) 1 p.n k q.some (omega (arith, count_of_rows p))

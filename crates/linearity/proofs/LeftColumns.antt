@@ -1,0 +1,155 @@
+-- Where all rows have been tried: a coordinate is left in the key exactly where its column is free.
+use Rattle.std.proofs.Common.{◌≡◌, ◌≢◌, inl, inr, ⊎_elim, ℕ, ◌+◌, ◌-◌, ◌<◌, ◌≤◌, true, pos, ◌*ℤ◌, neg_ℤ, map, length, take, sym, ap, subst, ◌∙◌, arith}
+use Rattle.std.specs.List.{All, Contains, slice_index_or}
+use Rattle.std.proofs.lemmas.Bool.{cases_lt}
+use Rattle.std.proofs.lemmas.List.{length-map}
+use Rattle.poly_num.specs.Vectors.{Vector, ◌·◌}
+use Rattle.poly_num.proofs.Order.{zero_factor, positive_nonzero}
+use Rattle.poly_model.specs.Systems.{row_of, first_unit, Polyhedron, cone_of}
+use Rattle.poly_model.specs.Cones.{at, IsTight}
+use Rattle.poly_model.specs.Spaces.{coordinate_label, label_form}
+use Rattle.poly_model.specs.Dictionaries.{Table}
+use Rattle.poly_model.specs.FreeColumns.{IsFree, IsLine}
+use Rattle.linear_laws.proofs.Entries.{within_from_entry}
+use Rattle.linear_laws.proofs.Tails.{length-take}
+use Rattle.cone_laws.proofs.ColumnLemmas.{line_of_column}
+use Rattle.dictionary_laws.proofs.Members.{contains_or, sum_zero}
+use Rattle.dictionary_laws.proofs.Directions.{times_zero}
+use Rattle.dictionary.specs.Views.{Dictionary, table_of}
+use Rattle.hull_lift.specs.Facets.{column_of}
+use Rattle.linearity.specs.Elimination.{IsDictionaryOf, IsEliminated}
+use Rattle.linearity.proofs.ConeLabels.{HasNoFirst, IsLevel}
+use Rattle.linearity.proofs.RowValues.{past_end, first_unit_reads, combined, row_form, coordinate_value, tight_rows, row_is_tight, level_from_tight}
+use Rattle.linearity.proofs.ConeReadings.{ReadsCone, cone_readings}
+
+module _ (p : Polyhedron) (d : Dictionary) (is : IsDictionaryOf p d) where
+  abbrev reads : ReadsCone p d
+  reads = cone_readings p d is
+
+  module _ (e : IsEliminated (cone_of p).rows true (length (cone_of p).rows + 1) d) where
+    -- ---- the column of a coordinate that is left
+    module _ (j : ℕ) (c : Contains d.key (coordinate_label j)) where
+      abbrev pub left_column : Vector
+      left_column = column_of d (coordinate_label j) p.n
+
+      at_label : (i : ℕ) → Contains d.labels (coordinate_label i) →
+          at i left_column ≡ Table.entry (table_of d) (coordinate_label i) (coordinate_label j)
+      at_label i h = sym (coordinate_value p i left_column) ∙ reads.values (coordinate_label i) (coordinate_label j) h c
+
+      pub left_width : length left_column ≡ p.n
+      left_width = reads.width (coordinate_label j) c
+
+      -- it is the denominator at its own coordinate
+      pub left_here : at j left_column ≡ d.denominator
+      left_here = at_label j (reads.inside (coordinate_label j) c) ∙ reads.own (coordinate_label j) c
+
+      -- and 0 at the others that are left
+      pub left_elsewhere : (i : ℕ) → Contains d.key (coordinate_label i) → i ≢ j → at i left_column ≡ pos 0
+      left_elsewhere i h n =
+          at_label i (reads.inside (coordinate_label i) h)
+          ∙ reads.others (coordinate_label i) (coordinate_label j) h c
+          (λ (f : coordinate_label j ≡ coordinate_label i). n (omega arith))
+
+      -- and 0 beyond
+      left_beyond : (i : ℕ) → j < i → at i left_column ≡ pos 0
+      left_beyond i l =
+          ⊎_elim
+          (λ (h : i < p.n). ⊎_elim
+          (λ (k : Contains d.labels (coordinate_label i)).
+          at_label i k ∙ e.leftmost (coordinate_label i) (coordinate_label j) k c (omega arith) (omega arith))
+          (λ (k : (i ≡ 0) × HasNoFirst d.labels). let z = k.0 in absurd (omega arith))
+          (reads.labels.each_coordinate i h))
+          (λ (h : p.n ≤ i). past_end i left_column (omega (arith, left_width)))
+          (cases_lt i p.n)
+
+      -- each row is 0 there: in the key by its unit row, outside it because it has been tried
+      left_entry : (i : ℕ) → Contains d.labels i → i < 8192 → i ≤ length (cone_of p).rows →
+          Table.entry (table_of d) i (coordinate_label j) ≡ pos 0
+      left_entry i h l m =
+          ⊎_elim
+          (λ (k : Contains d.key i).
+          reads.others i (coordinate_label j) k c (λ (f : coordinate_label j ≡ i). omega arith))
+          (λ (k : Contains d.key i → ⊥).
+          e.settled i h l (inr (omega arith)) k (coordinate_label j) c (inl (omega arith)))
+          (contains_or d.key i)
+
+      left_row : (i : ℕ) → 1 ≤ i → i ≤ length (cone_of p).rows →
+          (row_of (cone_of p).rows i).entries · left_column ≡ pos 0
+      left_row i l m =
+          let few = is.few in
+          let row : i < 8192 = omega arith in
+          ⊎_elim
+          (λ (h : Contains d.labels i).
+          ap (λ g. g · left_column) (sym (row_form p i row))
+          ∙ reads.values i (coordinate_label j) h c ∙ left_entry i h row m)
+          (λ (h : ((row_of (cone_of p).rows i).entries ≡ first_unit p.n) × HasNoFirst d.labels).
+          ap (λ g. g · left_column) h.0 ∙ first_unit_reads p.n left_column
+          ∙ reads.level (coordinate_label j) c h.1)
+          (reads.labels.each_row i l m)
+
+      pub left_tight : All (IsTight left_column) (cone_of p).rows
+      left_tight = tight_rows p left_column left_row
+
+      left_within : j < length left_column
+      left_within =
+          within_from_entry left_column j
+          (λ z. positive_nonzero d.denominator reads.positive (sym left_here ∙ z))
+
+      -- so its column is free
+      pub free_from_left : IsFree (cone_of p) j
+      free_from_left = record {
+        within = subst (λ n. j < n) left_width left_within;
+        factor = d.denominator;
+        weights = map neg_ℤ (take j left_column);
+        nonzero = positive_nonzero d.denominator reads.positive;
+        earlier = length-map (take j left_column) neg_ℤ ∙ length-take j left_column left_within;
+        combines = λ m none l.
+            combined j d.denominator left_column (slice_index_or (cone_of p).rows m none).entries left_within
+            left_here left_beyond (left_tight m none l);
+      }
+
+    -- ---- a free column is left: otherwise each label of the key is 0 at its line, so that the line is 0
+    module _ (j : ℕ) (f : IsFree (cone_of p) j) (y : Vector) (line : IsLine (cone_of p) j y)
+        (out : Contains d.key (coordinate_label j) → ⊥) where
+      line_level : IsLevel d.labels y
+      line_level = let l = f.within in level_from_tight p d.labels reads.labels (omega arith) y line.vanishing
+
+      zero_in_key : (k : ℕ) → Contains d.key k → label_form (cone_of p).rows k · y ≡ pos 0
+      zero_in_key k c =
+          ⊎_elim
+          (λ (l : k < 8192).
+          let r = reads.labels.rows_only k (reads.inside k c) l in
+          ap (λ g. g · y) (row_form p k l) ∙ row_is_tight p y line.vanishing k r.0 r.1)
+          (λ (l : 8192 ≤ k).
+          let i : ℕ = k - 8192 in
+          let e_k : k ≡ coordinate_label i = omega arith in
+          let h : Contains d.key (coordinate_label i) = subst (Contains d.key) e_k c in
+          ap (λ t. label_form (cone_of p).rows t · y) e_k ∙ coordinate_value p i y
+          ∙ line.elsewhere i (free_from_left i h)
+          (λ (s : i ≡ j). out (subst (λ t. Contains d.key (coordinate_label t)) s h)))
+          (cases_lt k 8192)
+
+      zero_at_label : Contains d.labels (coordinate_label j) → at j y ≡ pos 0
+      zero_at_label h =
+          sym (coordinate_value p j y)
+          ∙ zero_factor d.denominator (label_form (cone_of p).rows (coordinate_label j) · y)
+          (reads.expands (coordinate_label j) h y line.width line_level
+          ∙ sum_zero d.key
+          (λ k. Table.entry (table_of d) (coordinate_label j) k *ℤ (label_form (cone_of p).rows k · y))
+          (λ k c. times_zero (Table.entry (table_of d) (coordinate_label j) k) (label_form (cone_of p).rows k · y)
+          (zero_in_key k c)))
+          (positive_nonzero d.denominator reads.positive)
+
+      no_line : ⊥
+      no_line =
+          positive_nonzero (at j y) line.here
+          (⊎_elim zero_at_label
+          (λ (h : (j ≡ 0) × HasNoFirst d.labels). ap (λ i. at i y) h.0 ∙ line_level h.1)
+          (reads.labels.each_coordinate j f.within))
+
+    pub left_from_free : (j : ℕ) → IsFree (cone_of p) j → Contains d.key (coordinate_label j)
+    left_from_free j f =
+        let line = line_of_column (cone_of p) j f in
+        ⊎_elim (λ (c : Contains d.key (coordinate_label j)). c)
+        (λ (out : Contains d.key (coordinate_label j) → ⊥). absurd (no_line j f line.one line.has out))
+        (contains_or d.key (coordinate_label j))

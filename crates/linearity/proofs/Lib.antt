@@ -1,0 +1,14 @@
+pub mod ZerosAfter
+pub mod Turns
+pub mod Beginnings
+pub mod LeastLabels
+pub mod Tries
+pub mod ConeLabels
+pub mod ConeReadings
+pub mod RowValues
+pub mod KeyColumns
+pub mod LeftColumns
+pub mod LeftLines
+pub mod StartCobasis
+pub mod MainStart
+pub mod Consistency

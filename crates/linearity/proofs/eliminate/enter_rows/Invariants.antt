@@ -1,0 +1,10 @@
+use Rattle.linearity.specs.Turns.{KeepsShape, Eliminates}
+use Rattle.linearity.proofs.eliminate.enter_rows.Given as goal
+
+-- the rows before this one have been tried
+abbrev pub invariant-rows : goal.invariant-rows
+invariant-rows l =
+    record {
+      shape : KeepsShape l.fn.at l.at;
+      tried : Eliminates l.sys l.others 1 l.i l.fn.at l.at;
+    }

@@ -1,0 +1,7 @@
+use Rattle.std.proofs.Common.{◌≡◌, take, map}
+use Rattle.linearity.specs.Columns.{coordinates_in, primitive_column}
+use Rattle.linearity.proofs.lines.lines_of.Given as goal
+
+-- the vectors of the labels before this one
+abbrev pub invariant-labels : goal.invariant-labels
+invariant-labels l = l.lines.items ≡ map (primitive_column l.at l.n) (coordinates_in (take l.label-index l.label-items))

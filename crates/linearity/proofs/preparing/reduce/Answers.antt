@@ -1,0 +1,51 @@
+use Rattle.std.proofs.Common.{◌≡◌, ◌+◌, Err, true, false, length, subst, sym, ap, ◌∙◌}
+use Rattle.std.specs.Result.{IsErrOf}
+use Rattle.std.proofs.lemmas.Bool.{true≢false}
+use Rattle.poly_model.specs.declared.overflow.Overflow.{Overflow as Passed}
+use Rattle.poly_model.specs.Systems.{System}
+use Rattle.linearity.specs.declared.preparing.PrepareStop.{PrepareStop}
+use Rattle.linearity.specs.declared.preparing.PrepareStop.TheVariants.{Overflow}
+use Rattle.linearity.specs.Elimination.{IsEliminated}
+use Rattle.linearity.proofs.Beginnings.{second_pass}
+use Rattle.linearity.proofs.Consistency.{consistent_exactly}
+use Rattle.linearity.proofs.preparing.reduce.Goals as goal
+
+-- the overflow that is handed on
+same_overflow : (x o : Passed) → IsErrOf {T = Unit {0}} {E = PrepareStop} (Err (Overflow x)) (Overflow o) → x ≡ o
+same_overflow x o h = cc
+
+pub returns-in-Err-clause-overflow : goal.returns-in-Err-clause-overflow
+returns-in-Err-clause-overflow c o h p file unreduced =
+    c.in-Err.ensures.passes o (ap (λ x. Err x) (same_overflow c.in-Err.overflow o h)) p file unreduced.of
+
+pub returns-in-Err-enter_rows-clause-overflow : goal.returns-in-Err-enter_rows-clause-overflow
+returns-in-Err-enter_rows-clause-overflow c o h p file unreduced =
+    let first = c.in_default.ensures.entered p file unreduced.of
+    (subst (λ (s : System). IsEliminated s.rows false 1 c.args.at.now) (sym file) unreduced.untried) in
+    c.in-Err-enter_rows.ensures.passes o (ap (λ x. Err x) (same_overflow c.in-Err-enter_rows.overflow o h)) p file first.0
+
+pub returns-then-not-are_consistent-clause-inconsistent :
+    goal.returns-then-not-are_consistent-clause-inconsistent
+returns-then-not-are_consistent-clause-inconsistent c h p file unreduced point =
+    let first = c.in_default.ensures.entered p file unreduced.of
+    (subst (λ (s : System). IsEliminated s.rows false 1 c.args.at.now) (sym file) unreduced.untried) in
+    let same = consistent_exactly p c.args.sys.now c.enter_rows.new.at file first.0
+    (c.enter_rows.ensures.phase ∙ unreduced.phase) first.1 in
+    true≢false (sym ((c.are_consistent.ensures).1 (same.0 point)) ∙ c.if-not-are_consistent.true)
+
+pub returns-in-Ok-clause-reduced : goal.returns-in-Ok-clause-reduced
+returns-in-Ok-clause-reduced c p file unreduced =
+    let first = c.in_default.ensures.entered p file unreduced.of
+    (subst (λ (s : System). IsEliminated s.rows false 1 c.args.at.now) (sym file) unreduced.untried) in
+    let phase = c.enter_rows.ensures.phase ∙ unreduced.phase in
+    let same = consistent_exactly p c.args.sys.now c.enter_rows.new.at file first.0 phase first.1 in
+    let next = second_pass p c.enter_rows.new.at first.0
+    (subst (λ (s : System). IsEliminated s.rows false (length s.rows + 1) c.enter_rows.new.at) file first.1) in
+    let last = c.in-Ok.ensures.entered p file first.0
+    (subst (λ (s : System). IsEliminated s.rows true 1 c.enter_rows.new.at) (sym file) next) in
+    record {
+      consistent = same.1 ((c.are_consistent.ensures).0 c.if-not-are_consistent.false);
+      phase = c.enter_rows-2.ensures.phase ∙ phase;
+      of = last.0;
+      tried = subst (λ (s : System). IsEliminated s.rows true (length s.rows + 1) c.enter_rows-2.new.at) file last.1;
+    }

@@ -1,0 +1,5 @@
+pub mod Columns
+pub mod Elimination
+pub mod Turns
+pub mod Laws
+pub mod Prepared

@@ -1,0 +1,51 @@
+-- What is prepared before a search.
+use Rattle.std.specs.Prelude.{◌≡◌, ℕ, ◌+◌, ◌<◌, ◌≤◌, true, false, pos, List, length}
+use Rattle.std.specs.List.{Contains}
+use Rattle.poly_num.specs.Vectors.{Vector}
+use Rattle.poly_model.specs.declared.overflow.Phase.TheVariants.{Prepare, Main}
+use Rattle.poly_model.specs.Systems.{row_of, System, Polyhedron, cone_of}
+use Rattle.poly_model.specs.FreeColumns.{AreFreeColumns, AreLinesOf}
+use Rattle.poly_model.specs.Spaces.{IsStartCobasis, prepare_space, main_space}
+use Rattle.poly_model.specs.Dictionaries.{Table}
+use Rattle.dictionary_laws.specs.Points.{HasPointOn}
+use Rattle.dictionary_laws.specs.MainSpace.{equations_of}
+use Rattle.dictionary.specs.Views.{Dictionary, IsDictionaryIn, table_of}
+use Rattle.linearity.specs.Elimination.{IsDictionaryOf, IsEliminated}
+
+-- the equations of the file have a common point: of an H file a vector that is not 0 at infinity and meets them all
+abbrev pub AreConsistent : Polyhedron → Type 0
+AreConsistent p = HasPointOn (prepare_space p) (equations_of p)
+
+-- the lines, by ascending free column, and the dictionary of the start cobasis in the main space
+pub record IsPrepared (p : Polyhedron) (lines : List Vector) (free : List ℕ) (d : Dictionary) : Type 0 where
+  pub consistent : AreConsistent p
+  pub columns : AreFreeColumns (cone_of p) free
+  pub are_lines : AreLinesOf (cone_of p) free lines
+  pub phase : d.phase ≡ Main
+  pub dictionary : IsDictionaryIn (main_space p free) d
+  pub start : IsStartCobasis (main_space p free) d.key
+
+-- the constant of each linear row is 0
+abbrev pub HasNoConstants : System → Dictionary → Type 0
+HasNoConstants sys d =
+    (i : ℕ) → 0 < i → i ≤ length sys.rows → Contains d.labels i → (row_of sys.rows i).linear ≡ true →
+    Table.constant (table_of d) i ≡ pos 0
+
+-- what is prepared, as a value
+pub record Preparation : Type 0 where
+  pub lines : List Vector
+  pub free : List ℕ
+  pub dictionary : Dictionary
+
+-- a dictionary of the file's rows at which all rows have been tried; the equations have a common point
+pub record IsReduced (p : Polyhedron) (d : Dictionary) : Type 0 where
+  pub consistent : AreConsistent p
+  pub phase : d.phase ≡ Prepare
+  pub of : IsDictionaryOf p d
+  pub tried : IsEliminated (cone_of p).rows true (length (cone_of p).rows + 1) d
+
+-- the same where no row has been tried
+pub record IsUnreduced (p : Polyhedron) (d : Dictionary) : Type 0 where
+  pub phase : d.phase ≡ Prepare
+  pub of : IsDictionaryOf p d
+  pub untried : IsEliminated (cone_of p).rows false 1 d

@@ -1,0 +1,113 @@
+//! Gauss's elimination in a dictionary: rows enter the cobasis, each for the least coordinate at which it is not 0.
+ghost use Rattle.std.specs.Prelude.{◌≡◌, ◌≢◌, ◌≤◌, ◌<◌, ◌+◌, ℕ, IsTrue, IsFalse, IsNone, IfSome, IfOk, IfErr, IsErrOf, pos, length};
+ghost use Rattle.std.specs.List.{Contains};
+ghost use Rattle.poly_model.specs.declared.overflow.Overflow.{Overflow as Passed};
+ghost use Rattle.poly_model.specs.Dictionaries.{Table};
+ghost use Rattle.poly_model.specs.Overflows.{Passes};
+ghost use Rattle.poly_model.specs.Systems.{Polyhedron, cone_of, row_of};
+ghost use Rattle.dictionary.specs.Views.{table_of, CanPivot};
+ghost use Rattle.linearity.specs.Columns.{IsLeastColumn, HasNoColumn};
+ghost use Rattle.linearity.specs.Elimination.{IsDictionaryOf, IsEliminated};
+ghost use Rattle.linearity.specs.Turns.{KeepsShape, OverflowsFor, IsEntered, Eliminates, StopsAt};
+
+use dictionary::Dict;
+use poly_model::{Label, Overflow, System};
+
+// Whether a label of the cobasis is a coordinate at which a row is not 0: then the row can take its place.
+fn is_column(at: &Dict, row: Label, label: Label) -> bool
+    requires label { Contains at.now.labels row.0 }
+    requires row { row.0 < 8192 }
+    requires column { Contains at.now.key label.0 }
+    ensures coordinate { IsTrue result → 8192 ≤ label.0 }
+    ensures pivots { IsTrue result → CanPivot at.now row.0 label.0 }
+    ensures zero { IsFalse result → 8192 ≤ label.0 → Table.entry (table_of at.now) row.0 label.0 ≡ pos 0 }
+{
+    label.0 >= 8192 && at.entry(row, label).get() != 0
+}
+
+// The least coordinate in the cobasis at which a row is not 0, if any: then the row can take its place.
+fn least_column(at: &Dict, row: Label) -> Option<Label>
+    requires label { Contains at.now.labels row.0 }
+    requires row { row.0 < 8192 }
+    ensures some { IfSome result (λ k. IsLeastColumn at.now row.0 k.0) }
+    ensures pivots { IfSome result (λ k. CanPivot at.now row.0 k.0) }
+    ensures none { IsNone result → HasNoColumn at.now row.0 }
+{
+    let key = at.key();
+    'labels: for label in key.labels() {
+        if is_column(at, row, Label(*label)) {
+            return Some(Label(*label));
+        }
+    }
+    None
+}
+
+// A row enters the cobasis for that coordinate, where there is one. Where the pivot overflows, nothing has changed.
+fn enter(at: &mut Dict, row: Label) -> Result<(), Overflow>
+    requires label { Contains at.old.labels row.0 }
+    requires row { row.0 < 8192 }
+    ensures entered { IfOk result (λ _. IsEntered at.old row.0 at.new) }
+    ensures unchanged { IfErr result (λ _. at.new ≡ at.old) }
+    ensures overflows { IfErr result (λ o. (k : ℕ) × OverflowsFor at.old row.0 k o) }
+{
+    match least_column(at, row) {
+        Some(col) => at.pivot(row, col),
+        None => Ok(()),
+    }
+}
+
+// Whether a row is tried in a pass: it is a label, and linear in the first pass, not linear in the second.
+fn is_tried(at: &Dict, sys: &System, i: u32, others: bool) -> bool
+    requires from_one { 0 < i }
+    requires within { i ≤ length sys.now.rows }
+    requires few { i < 8192 }
+    ensures label { IsTrue result → Contains at.now.labels i }
+    ensures kind { IsTrue result → (row_of sys.now.rows i).linear ≢ others }
+    ensures otherwise { IsFalse result → Contains at.now.labels i → (row_of sys.now.rows i).linear ≡ others }
+{
+    at.has_label(Label(i as u16)) && sys.is_linear(i) != others
+}
+
+// Tries a row in a pass. Where its pivot overflows, nothing has changed.
+fn try_row(at: &mut Dict, sys: &System, i: u32, others: bool) -> Result<(), Overflow>
+    requires from_one { 0 < i }
+    requires within { i ≤ length sys.now.rows }
+    requires few { i < 8192 }
+    ensures tried { IfOk result (λ _. Eliminates sys.now others i (i + 1) at.old at.new) }
+    ensures shape { KeepsShape at.old at.new }
+    ensures unchanged { IfErr result (λ _. at.new ≡ at.old) }
+    ensures kind { IfErr result (λ _. (row_of sys.now.rows i).linear ≢ others) }
+    ensures overflows { IfErr result (λ o. (k : ℕ) × OverflowsFor at.old i k o) }
+    ensures passes { (o : Passed) → IsErrOf result o → (p : Polyhedron) → sys.now ≡ cone_of p →
+        IsDictionaryOf p at.old → Passes p o }
+    ensures phase { (o : Passed) → IsErrOf result o → o.phase ≡ at.old.phase }
+{
+    if is_tried(at, sys, i, others) {
+        enter(at, Label(i as u16))
+    } else {
+        Ok(())
+    }
+}
+
+/// Tries rows of a system for the cobasis, in ascending order: each enters for the least coordinate at which it is not
+/// 0, where there is one (Gauss). The first pass, with `others` false, tries the linear rows, the second one the
+/// others. Rows that are no labels of the dictionary are passed over (the row at infinity, where the dictionary has
+/// constants). Where a pivot overflows, the rows before it have been tried. Takes no memory.
+pub fn enter_rows(at: &mut Dict, sys: &System, others: bool) -> Result<(), Overflow>
+    ensures entered { IfOk result (λ _. (p : Polyhedron) → sys.now ≡ cone_of p → IsDictionaryOf p at.old →
+        IsEliminated sys.now.rows others 1 at.old →
+        IsDictionaryOf p at.new × IsEliminated sys.now.rows others (length sys.now.rows + 1) at.new) }
+    ensures stopped { IfErr result (λ o. (i : ℕ) × StopsAt sys.now others i at.old at.new o) }
+    ensures fewer { (k : ℕ) → Contains at.new.key k → 8192 ≤ k → Contains at.old.key k }
+    ensures phase { at.new.phase ≡ at.old.phase }
+    ensures labels { at.new.labels ≡ at.old.labels }
+    ensures width { length at.new.columns ≡ length at.old.columns }
+    ensures passes { (o : Passed) → IsErrOf result o → (p : Polyhedron) → sys.now ≡ cone_of p →
+        IsDictionaryOf p at.old → Passes p o }
+    ensures passing_phase { (o : Passed) → IsErrOf result o → o.phase ≡ at.old.phase }
+{
+    'rows: for i in 1..sys.rows() + 1 {
+        try_row(at, sys, i, others)?;
+    }
+    Ok(())
+}

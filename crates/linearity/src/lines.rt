@@ -1,0 +1,63 @@
+//! The coordinates in a cobasis, and the vectors of their columns.
+ghost use Rattle.std.specs.Prelude.{◌≡◌, ◌≤◌, IfOk, IsTrue, length};
+ghost use Rattle.std.specs.List.{Contains};
+ghost use Rattle.poly_model.specs.Keys.{IsAscending};
+ghost use Rattle.linearity.specs.Columns.{is_coordinate, columns_in, primitive_column, coordinate_vectors};
+
+use dictionary::Dict;
+use hull_lift::facet_row;
+use poly_model::{Label, Lines, Vector};
+use poly_num::Num;
+use std::alloc::{AllocError, Global};
+
+// Whether a label is that of a coordinate.
+fn is_coordinate(label: u16) -> bool
+    ensures value { result ≡ is_coordinate label }
+    ensures above { IsTrue result → 8192 ≤ label }
+{
+    label >= 8192
+}
+
+/// The columns of the coordinates in the cobasis, ascending. Once all rows have been tried they are the free columns.
+/// Takes memory for the list.
+pub fn free_columns(alloc: Global, at: &Dict) -> Result<Vec<u32>, AllocError>
+    ensures columns { IfOk result (λ v. v.items ≡ columns_in at.now.key) }
+    ensures ascending { IfOk result (λ v. IsAscending at.now.key) }
+{
+    let key = at.key();
+    let mut free = Vec::new(alloc);
+    'labels: for label in key.labels() {
+        if is_coordinate(*label) {
+            free.push(u32::from(*label) - 8192)?;
+        }
+    }
+    Ok(free)
+}
+
+/// For each coordinate in the cobasis, by ascending column, the vector of n entries without common divisor along its
+/// column. Once all rows have been tried they are the lines. Takes memory for the vectors.
+pub fn lines_of(alloc: Global, at: &Dict, n: u32) -> Result<Lines, AllocError>
+    requires { n ≤ 256 }
+    ensures { IfOk result (λ lines. lines ≡ coordinate_vectors at.now n) }
+{
+    let key = at.key();
+    let mut lines = Vec::new(alloc);
+    'labels: for label in key.labels() {
+        if is_coordinate(*label) {
+            lines.push(line_at(alloc, at, Label(*label), n)?)?;
+        }
+    }
+    Ok(Lines::from_vec(lines))
+}
+
+// The vector of a column.
+fn line_at(alloc: Global, at: &Dict, col: Label, n: u32) -> Result<Vector, AllocError>
+    requires column { Contains at.now.key col.0 }
+    requires narrow { n ≤ 256 }
+    ensures { IfOk result (λ line. line ≡ primitive_column at.now n col.0) }
+{
+    let mut vector = Vec::new(alloc);
+    vector.resize(n as usize, Num::ZERO)?;
+    facet_row(at, col, &mut vector);
+    Ok(Vector::from_vec(vector))
+}

@@ -1,0 +1,53 @@
+//! What is prepared before a search.
+ghost use Rattle.std.specs.Prelude.{◌≡◌};
+
+use dictionary::Dict;
+use poly_model::{Key, Lines};
+use std::marker::Model;
+
+/// The lines of a cone, its free columns, and the dictionary of the start cobasis in the phase `Main`: the reduced
+/// system, in which the equations hold and the free coordinates are 0.
+#[derive(Drop)]
+pub struct Prepared {
+    pub(crate) lines: Lines,
+    pub(crate) free: Vec<u32>,
+    pub(crate) dict: Dict,
+}
+
+impl Model for Prepared {
+    ghost use Rattle.linearity.specs.Prepared.{Preparation};
+
+    ghost Value = { Preparation };
+
+    ghost view = { λ r. record { lines = r.lines; free = r.free.items; dictionary = r.dict } };
+}
+
+impl Prepared {
+    /// The lines, one for each free column, by ascending column.
+    pub fn lines(&self) -> &Lines
+        ensures { result.now ≡ self.now.lines }
+    {
+        &self.lines
+    }
+
+    /// The free columns, ascending.
+    pub fn free(&self) -> &[u32]
+        ensures { result.now ≡ self.now.free }
+    {
+        &self.free
+    }
+
+    /// The dictionary of the start cobasis in the phase `Main`.
+    pub fn dict(&self) -> &Dict
+        ensures { result.now ≡ self.now.dictionary }
+    {
+        &self.dict
+    }
+
+    /// The start cobasis: the rows that are not linear, in ascending order, each where it is new.
+    pub fn start(&self) -> Key
+        ensures { result ≡ self.now.dictionary.key }
+    {
+        self.dict.key()
+    }
+}

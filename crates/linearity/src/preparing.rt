@@ -1,0 +1,108 @@
+//! Equations and free columns are taken out of a system before it is searched.
+ghost use Rattle.std.specs.Prelude.{◌≡◌, ◌≤◌, ◌<◌, ◌↔◌, pos, true, length, IfOk, IsErrOf, IsTrue};
+ghost use Rattle.std.specs.Result.{OnOk};
+ghost use Rattle.std.specs.List.{Contains};
+ghost use Rattle.poly_model.specs.declared.overflow.Overflow.{Overflow as Passed};
+ghost use Rattle.poly_model.specs.declared.overflow.Phase.TheVariants.{Prepare};
+ghost use Rattle.poly_model.specs.Overflows.{Passes};
+ghost use Rattle.poly_model.specs.Systems.{Polyhedron, row_of, cone_of};
+ghost use Rattle.poly_model.specs.Dictionaries.{Table};
+ghost use Rattle.dictionary.specs.Views.{table_of};
+ghost use Rattle.linearity.specs.Prepared.{AreConsistent, HasNoConstants, IsPrepared, IsReduced, IsUnreduced};
+
+use crate::eliminate::enter_rows;
+use crate::lines::{free_columns, lines_of};
+use crate::prepared::Prepared;
+use dictionary::Dict;
+use poly_model::{Label, Overflow, Phase, System};
+use std::alloc::{AllocError, Global};
+
+/// Why a system could not be prepared: its equations have no common point, a number of a dictionary would pass 127 bits,
+/// or there was no memory.
+#[derive(Clone, Copy, PartialEq, Eq, Debug)]
+pub enum PrepareStop {
+    Inconsistent,
+    Overflow(Overflow),
+    Memory,
+}
+
+/// The free columns of a system, its lines, and the dictionary of its start cobasis in the phase `Main`. `Inconsistent`
+/// comes exactly where the equations have no common point, if no overflow or want of memory came before. The system is
+/// left as it is, whatever the answer; memory that was taken by then is given back.
+///
+/// Rows enter a dictionary of the phase `Prepare`, each for the least coordinate at which it is not 0: first the linear
+/// ones, then the others. What is left are the free columns.
+pub fn prepare(alloc: Global, sys: &System) -> Result<Prepared, PrepareStop>
+    ensures prepared { IfOk result (λ r. (p : Polyhedron) → sys.now ≡ cone_of p → IsPrepared p r.lines r.free r.dictionary) }
+    ensures inconsistent { IsErrOf result PrepareStop.Inconsistent → (p : Polyhedron) → sys.now ≡ cone_of p → AreConsistent p → ⊥ }
+    ensures overflow { (o : Passed) → IsErrOf result (PrepareStop.Overflow o) → (p : Polyhedron) → sys.now ≡ cone_of p → Passes p o }
+    ensures phase { (o : Passed) → IsErrOf result (PrepareStop.Overflow o) → o.phase ≡ Prepare }
+{
+    let (_n, _rows) = (sys.n(), sys.rows());
+    let Ok(mut at) = Dict::new(alloc, sys, Phase::Prepare) else {
+        return Err(PrepareStop::Memory);
+    };
+    reduce(&mut at, sys)?;
+    match enter_main(alloc, sys, at) {
+        Ok(prepared) => Ok(prepared),
+        Err(_) => Err(PrepareStop::Memory),
+    }
+}
+
+// Tries the linear rows, asks whether they have a common point, and then tries the others.
+fn reduce(at: &mut Dict, sys: &System) -> Result<(), PrepareStop>
+    ensures reduced { OnOk result ((p : Polyhedron) → sys.now ≡ cone_of p → IsUnreduced p at.old → IsReduced p at.new) }
+    ensures inconsistent { IsErrOf result PrepareStop.Inconsistent → (p : Polyhedron) → sys.now ≡ cone_of p → IsUnreduced p at.old → AreConsistent p → ⊥ }
+    ensures overflow { (o : Passed) → IsErrOf result (PrepareStop.Overflow o) → (p : Polyhedron) → sys.now ≡ cone_of p → IsUnreduced p at.old → Passes p o }
+    ensures phase { (o : Passed) → IsErrOf result (PrepareStop.Overflow o) → o.phase ≡ at.old.phase }
+    ensures memory { IsErrOf result PrepareStop.Memory → ⊥ }
+{
+    if let Err(overflow) = enter_rows(at, sys, false) {
+        return Err(PrepareStop::Overflow(overflow));
+    }
+    if !are_consistent(at, sys) {
+        return Err(PrepareStop::Inconsistent);
+    }
+    match enter_rows(at, sys, true) {
+        Ok(()) => Ok(()),
+        Err(overflow) => Err(PrepareStop::Overflow(overflow)),
+    }
+}
+
+// Whether the constant of each linear row is 0.
+fn are_consistent(at: &Dict, sys: &System) -> bool
+    ensures { IsTrue result ↔ HasNoConstants sys.now at.now }
+{
+    'rows: for i in 0..sys.rows() {
+        if !is_consistent_at(at, sys, i + 1) {
+            return false;
+        }
+    }
+    true
+}
+
+// Whether the constant of row i, counted from 1, is 0 if it is linear.
+fn is_consistent_at(at: &Dict, sys: &System, i: u32) -> bool
+    requires from_one { 0 < i }
+    requires within { i ≤ length sys.now.rows }
+    requires few { i ≤ 4097 }
+    ensures { IsTrue result ↔ (Contains at.now.labels i → (row_of sys.now.rows i).linear ≡ true → Table.constant (table_of at.now) i ≡ pos 0) }
+{
+    let row = Label(i as u16);
+    if at.has_label(row) && sys.is_linear(i) {
+        at.constant(row).get() == 0
+    } else {
+        true
+    }
+}
+
+// What is prepared from a dictionary at which all rows have been tried.
+fn enter_main(alloc: Global, sys: &System, at: Dict) -> Result<Prepared, AllocError>
+    ensures { IfOk result (λ r. (p : Polyhedron) → sys.now ≡ cone_of p → IsReduced p at → IsPrepared p r.lines r.free r.dictionary) }
+{
+    let n = sys.n();
+    let free = free_columns(alloc, &at)?;
+    let lines = lines_of(alloc, &at, n)?;
+    let dict = at.to_main(sys, &free)?;
+    Ok(Prepared { lines, free, dict })
+}

@@ -1,0 +1,99 @@
+//! Elimination worked out by hand.
+ghost use Rattle.std.specs.Prelude.{◌≡◌, length};
+
+use crate::enter_rows;
+use dictionary::Dict;
+use poly_model::{Key, Kind, Phase, RowKind, System};
+use poly_num::Num;
+use std::alloc::Global;
+use std::test::Fail;
+
+/// The rows of a cone in three coordinates, those that are linear, and the cobases after the first pass and after both,
+/// if no number passes.
+#[derive(Clone, Copy)]
+struct Case {
+    name: &'static str,
+    entries: &'static [i128],
+    linear: &'static [bool],
+    first: Option<[u16; 3]>,
+    both: Option<[u16; 3]>,
+}
+
+#[derive(Clone, Copy, PartialEq, Eq, Debug)]
+struct Passes {
+    first: Option<Key>,
+    both: Option<Key>,
+}
+
+const LARGE: i128 = 1 << 100;
+
+#[test]
+fn rows_enter_the_cobasis(rt: HostRuntime) -> Result<(), Fail> {
+    for case in [
+        Case {
+            name: "the equation enters before the row above it",
+            entries: &[0, 0, 1, 0, 1, 1, 1, 0, 0],
+            linear: &[false, true, false],
+            first: Some([2, 8192, 8194]),
+            both: Some([1, 2, 3]),
+        },
+        Case {
+            name: "an equation twice, and a free column",
+            entries: &[0, 1, 1, 0, 2, 2, 1, 0, 0],
+            linear: &[true, true, false],
+            first: Some([1, 8192, 8194]),
+            both: Some([1, 3, 8194]),
+        },
+        Case {
+            name: "an equation of 0, and a row that is 0 where the other has entered",
+            entries: &[0, 0, 0, 0, -3, 2, 0, 6, -4],
+            linear: &[true, false, false],
+            first: Some([8192, 8193, 8194]),
+            both: Some([2, 8192, 8194]),
+        },
+        Case {
+            name: "rows of 200 bits",
+            entries: &[1, 0, 0, 0, LARGE, 1, 0, 1, LARGE],
+            linear: &[true, false, false],
+            first: Some([1, 8193, 8194]),
+            both: None,
+        },
+    ] {
+        let alloc = rt.alloc();
+        let cone = cone_of(alloc, case.entries, case.linear)?;
+        let mut at = Dict::new(alloc, &cone, Phase::Cone)?;
+        let first = pass(&mut at, &cone, false);
+        let both = pass(&mut at, &cone, true);
+        let want = Passes {
+            first: key_of(case.first),
+            both: key_of(case.both),
+        };
+        assert_eq!(rt; Passes { first, both }, want, "{}", case.name);
+    }
+    Ok(())
+}
+
+fn pass(at: &mut Dict, cone: &System, others: bool) -> Option<Key> {
+    match enter_rows(at, cone, others) {
+        Ok(()) => Some(at.key()),
+        Err(_) => None,
+    }
+}
+
+fn key_of(labels: Option<[u16; 3]>) -> Option<Key> {
+    Key::from_ascending(&labels?)
+}
+
+fn cone_of(alloc: Global, entries: &[i128], linear: &[bool]) -> Result<System, Fail> {
+    let mut cells = Vec::new(alloc);
+    for x in entries {
+        cells.push(Num::new(*x).ok_or("a number of 127 bits")?)?;
+    }
+    let linear = Vec::from_slice(alloc, linear)?;
+    if linear.len() > 4097 || cells.len() != linear.len() * 3 {
+        return Err("few rows, each of three entries")?;
+    }
+    let mut kinds = Vec::new(alloc);
+    kinds.resize(linear.len(), RowKind::Ray)?;
+    Ok(System::new(Kind::H, 3, cells, linear, kinds))
+}
