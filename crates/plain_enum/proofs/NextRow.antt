@@ -87,30 +87,21 @@ module _ (sys : System) (free : List ℕ) (d : Dictionary) (i depth : ℕ) (p : 
         new_by_entry p cone d fixed left marks here.stands before k (is_left k column)
         (λ z. column.nonzero (subst (λ j. Table.entry (table_of d) j k ≡ pos 0) (sym here.next) z))
 
-    -- the next row, where it is new, is not linear: else it would be 0 wherever the base is
+    -- a linear row is 0 wherever the base is, so where the next row has a column it is not linear
+    zero_if_linear : (row_of sys.rows i).linear ≡ true → (z : Vector) → length z ≡ cone.n → Vanish cone.base z →
+        next_row cone marks · z ≡ pos 0
+    zero_if_linear e z wide base =
+        ap (λ g. g · z)
+        (ap (λ gs. get_or gs (length marks) []) here.is_cone.rows
+        ∙ get_or-map (λ (r : Row). r.entries) sys.rows (length marks) no_row [] (omega (arith, same_rows, before))
+        ∙ ap (λ m. Row.entries (get_or sys.rows m no_row)) (omega (arith, here.next)))
+        ∙ ((here.is_cone.fixed z wide).0 base).1 (i - 1) no_row (omega (arith, here.next, row)) e
+
     not_linear : (k : ℕ) → IsColumnOf d free i k → (row_of sys.rows i).linear ≡ false
-    not_linear k column = false_from_ne_true (row_of sys.rows i).linear (λ e. nonzero (form ∙ tight e))
-      where
-        new : IsNew cone.n (taken_at cone marks) (next_row cone marks)
-        new = is_new k column
-
-        abbrev z : Vector
-        z = new.0
-
-        nonzero : next_row cone marks · z ≢ pos 0
-        nonzero = new.2.1
-
-        form : next_row cone marks · z ≡ (row_of sys.rows i).entries · z
-        form =
-            ap (λ g. g · z) (ap (λ gs. get_or gs (length marks) []) here.is_cone.rows
-            ∙ get_or-map (λ (row : Row). row.entries) sys.rows (length marks) no_row [] (omega (arith, same_rows, before))
-            ∙ ap (λ m. (get_or sys.rows m no_row).entries) (omega (arith, here.next)))
-
-        base_zero : Vanish cone.base z
-        base_zero = ((vanish_at_taken cone marks z here.stands.within).0 new.2.0).0
-
-        tight : (row_of sys.rows i).linear ≡ true → (row_of sys.rows i).entries · z ≡ pos 0
-        tight = ((here.is_cone.fixed z new.1).0 base_zero).1 (i - 1) no_row (omega (arith, here.next, row))
+    not_linear k column =
+        let new = is_new k column in
+        false_from_ne_true (row_of sys.rows i).linear
+        (λ e. new.3 (zero_if_linear e new.0 new.1 ((vanish_at_taken cone marks new.0 here.stands.within).0 new.2).0))
 
     -- the next row taken
     module _ (k : ℕ) (column : IsColumnOf d free i k) (new : Dictionary) (pivot : IsPivot d i k new) where
