@@ -57,8 +57,8 @@ not_negative_back : (p x e : ℤ) → pos 0 <ℤ p → p *ℤ x ≡ e → pos 0 
 not_negative_back p x e h m l =
     subst (λ t. pos 0 ≤ℤ t) m (subst (λ t. t ≤ℤ (p *ℤ x)) (mul_zero p) (keeps_at_most p (pos 0) x h l))
 
-module _ (p : Polyhedron) (cone : ListedCone) (free : List ℕ) (d : Dictionary) (fixed : List ℕ) (k : ℕ) (marks : List Bool)
-    (stands : StandsAt p cone d fixed (k ∷ []) marks) (are : FixedAre (cone_of p).rows free d fixed)
+module _ (p : Polyhedron) (cone : ListedCone) (free : List ℕ) (d : Dictionary)
+    (fixed : List ℕ) (k : ℕ) (marks : List Bool) (stands : StandsAt p cone d fixed (k ∷ []) marks) (are : FixedAre (cone_of p).rows free d fixed)
     (s : LeavesColumn p cone d marks k) (listed : IsConeOf (cone_of p) cone) where
   abbrev z : Vector
   z = column_of d k p.n
@@ -171,7 +171,8 @@ module _ (p : Polyhedron) (cone : ListedCone) (free : List ℕ) (d : Dictionary)
           (Contains-get_or cone.rows (i - 1) [] (omega (arith, back_below i b))))
 
   -- ---- the local test
-  test_there : IsFirst (cone_of p).rows d (length (cone_of p).rows) k → PassesLocalTest cone (labels_of marks) s.leaves.duals z
+  test_there : IsFirst (cone_of p).rows d (length (cone_of p).rows) k →
+      PassesLocalTest cone (labels_of marks) s.leaves.duals z
   test_there h =
       (test_by_entries p cone d marks k s).1
       (λ i a e j c l.
@@ -183,7 +184,8 @@ module _ (p : Polyhedron) (cone : ListedCone) (free : List ℕ) (d : Dictionary)
       (omega (arith, as_many p cone stands.over))
       (taken_not_linear p cone d fixed (k ∷ []) marks stands (cone_of p).rows free are j c) l)
 
-  test_back : PassesLocalTest cone (labels_of marks) s.leaves.duals z → IsFirst (cone_of p).rows d (length (cone_of p).rows) k
+  test_back : PassesLocalTest cone (labels_of marks) s.leaves.duals z →
+      IsFirst (cone_of p).rows d (length (cone_of p).rows) k
   test_back h i a b e j c low n l =
       (test_by_entries p cone d marks k s).0 h i a e j
       (is_taken p cone d fixed (k ∷ []) marks stands (cone_of p).rows free are j c low n) l

@@ -40,7 +40,8 @@ tells_one cone marks y false l e = λ h.
 -- ---- the loop
 -- the dictionary stands at marks under which are only vectors under the prefix, and all of these that have a positive
 -- first entry
-pub record IsInLoop (sys : System) (free : List ℕ) (d : Dictionary) (depth : ℕ) (p : Polyhedron) (cone : ListedCone) (fixed left : List ℕ) (prefix : List Bool) (i : ℕ) : Type 0 where
+pub record IsInLoop (sys : System) (free : List ℕ) (d : Dictionary) (depth : ℕ) (p : Polyhedron)
+    (cone : ListedCone) (fixed left : List ℕ) (prefix : List Bool) (i : ℕ) : Type 0 where
   pub marks : List Bool
   pub here : IsAt sys free d i depth p cone fixed left marks
   pub within : (y : Vector) → IsUnder cone marks y → IsUnder cone prefix y
@@ -60,13 +61,15 @@ loop_start sys free d from depth p cone fixed left prefix here = record {
   points = λ y u l. u;
 }
 
-module _ (sys : System) (free : List ℕ) (d : Dictionary) (depth i : ℕ) (p : Polyhedron) (cone : ListedCone) (fixed left : List ℕ)
-    (prefix : List Bool) (s : IsInLoop sys free d depth p cone fixed left prefix i) where
+module _ (sys : System) (free : List ℕ) (d : Dictionary) (depth i : ℕ) (p : Polyhedron)
+    (cone : ListedCone) (fixed left : List ℕ) (prefix : List Bool)
+    (s : IsInLoop sys free d depth p cone fixed left prefix i) where
   pub ends : length sys.rows < i → 0 < depth → TellsPoint cone prefix false
   ends behind some h =
       next_row.too_short sys free d i depth p cone fixed left s.marks s.here some
       (prefix_lemmas.full cone (is_listable sys cone s.here.is_cone) s.marks h.vector
-      (next_row.all_decided sys free d i depth p cone fixed left s.marks s.here behind) (s.points h.vector h.under h.positive))
+      (next_row.all_decided sys free d i depth p cone fixed left s.marks s.here behind)
+      (s.points h.vector h.under h.positive))
 
   pub passes_now : (k : ℕ) (o : Overflow) → CanPivot d i k → IsOverflow d i k o → Passes p o
   passes_now = next_row.overflows sys free d i depth p cone fixed left s.marks s.here
@@ -74,7 +77,8 @@ module _ (sys : System) (free : List ℕ) (d : Dictionary) (depth i : ℕ) (p : 
   module _ (row : i ≤ length sys.rows) where
     pub skips : HasNoColumn d free i → IsInLoop sys free d depth p cone fixed left prefix (i + 1)
     skips none =
-        let same = λ (y : Vector). prefix_lemmas.skipped cone s.marks (next_row.before sys free d i depth p cone fixed left s.marks s.here row) y
+        let same = λ (y : Vector). prefix_lemmas.skipped cone s.marks
+        (next_row.before sys free d i depth p cone fixed left s.marks s.here row) y
         (next_row.follows sys free d i depth p cone fixed left s.marks s.here row none) in
         record {
           marks = s.marks ++ false ∷ [];
@@ -83,16 +87,19 @@ module _ (sys : System) (free : List ℕ) (d : Dictionary) (depth i : ℕ) (p : 
           points = λ y u l. (same y).0 (s.points y u l);
         }
 
-    module _ (k : ℕ) (column : IsColumnOf d free i k) (new : Dictionary) (pivot : IsPivot d i k new) (less : ℕ) (e : suc less ≡ depth) where
+    module _ (k : ℕ) (column : IsColumnOf d free i k) (new : Dictionary) (pivot : IsPivot d i k new)
+        (less : ℕ) (e : suc less ≡ depth) where
       pub below : IsAt sys free new (i + 1) less p cone fixed (without k left) (s.marks ++ true ∷ [])
       below = next_row.goes_deeper sys free d i depth p cone fixed left s.marks s.here row k column new pivot less e
 
       parts : (y : Vector) → IsUnder cone s.marks y ↔ (IsUnder cone (s.marks ++ true ∷ []) y ⊎ IsUnder cone (s.marks ++ false ∷ []) y)
       parts y =
-          prefix_lemmas.taken_or_not cone s.marks (next_row.before sys free d i depth p cone fixed left s.marks s.here row) y
+          prefix_lemmas.taken_or_not cone s.marks
+          (next_row.before sys free d i depth p cone fixed left s.marks s.here row) y
           (next_row.is_new sys free d i depth p cone fixed left s.marks s.here row k column)
 
-      pub goes_on : TellsUnder sys free new (i + 1) less false → IsInLoop sys free d depth p cone fixed left prefix (i + 1)
+      pub goes_on : TellsUnder sys free new (i + 1) less false →
+          IsInLoop sys free d depth p cone fixed left prefix (i + 1)
       goes_on none = record {
         marks = s.marks ++ false ∷ [];
         here = next_row.stays sys free d i depth p cone fixed left s.marks s.here row;

@@ -60,8 +60,8 @@ module _ (p : Polyhedron) (cone : ListedCone) (d : Dictionary) (fixed left : Lis
   taken_low k c = omega (arith, taken_within p cone d fixed left marks s k c, as_many p cone s.over, s.over.few)
 
   -- what is not fixed is a row taken, or left
-  not_fixed_cases : (P : Type 0) (k : ℕ) → Contains d.key k → (Contains fixed k → ⊥) → (Contains (labels_of marks) k → P) →
-      (Contains left k → P) → P
+  not_fixed_cases : (P : Type 0) (k : ℕ) → Contains d.key k → (Contains fixed k → ⊥) →
+      (Contains (labels_of marks) k → P) → (Contains left k → P) → P
   not_fixed_cases P k c n taken rest =
       ⊎_elim (λ f. absurd (n f)) (λ r. ⊎_elim taken rest (Contains-append_cases (labels_of marks) left k r))
       (Contains-append_cases fixed (labels_of marks ++ left) k (s.key.there k c))
@@ -70,8 +70,10 @@ module _ (p : Polyhedron) (cone : ListedCone) (d : Dictionary) (fixed left : Lis
     -- the rows of the key that are not linear are those taken
     pub taken_not_linear : (k : ℕ) → Contains (labels_of marks) k → (row_of rows k).linear ≡ false
     taken_not_linear k c =
-        row_not_linear rows free d fixed are k (s.key.back k (in_second fixed (labels_of marks) left k c)) (taken_low k c)
-        (λ f. distinct_apart fixed (labels_of marks ++ left) s.distinct k f (Contains-append_left (labels_of marks) left k c))
+        row_not_linear rows free d fixed are k
+        (s.key.back k (in_second fixed (labels_of marks) left k c)) (taken_low k c)
+        (λ f. distinct_apart fixed (labels_of marks ++ left) s.distinct k f
+        (Contains-append_left (labels_of marks) left k c))
 
     pub is_taken : (k : ℕ) → Contains d.key k → k < 8192 → (row_of rows k).linear ≡ false → Contains (labels_of marks) k
     is_taken k c low e =

@@ -1,6 +1,5 @@
 -- The last coordinate that is not free, among the first labels of a key.
-use Rattle.std.proofs.Common.{◌≡◌, ⊎_elim, false, ℕ, zero, suc, ◌+◌, ◌-◌, ◌<◌, ◌≤◌, List, [], ◌∷◌, length, sym, ap, subst, ◌∙◌, get_or, arith}
-use Rattle.std.proofs.lemmas.Bool.{cases_lt}
+use Rattle.std.proofs.Common.{◌≡◌, false, ℕ, zero, suc, ◌+◌, ◌-◌, ◌<◌, ◌≤◌, List, [], ◌∷◌, length, sym, subst, ◌∙◌, get_or, arith}
 use Rattle.std.proofs.lemmas.List.{get_or_default}
 use Rattle.std.proofs.lemmas.List.Elements.{Contains-get_or}
 use Rattle.std.specs.List.{Contains}
@@ -20,7 +19,8 @@ ascending_places (x ∷ xs) a zero (suc j) l m =
 ascending_places (x ∷ xs) a (suc i) zero l m = absurd (omega arith)
 ascending_places (x ∷ xs) a (suc i) (suc j) l m = ascending_places xs a.1 i j (omega arith) (omega arith)
 
-pub at_most : (xs : List ℕ) → IsAscending xs → (i : ℕ) → i < length xs → (k : ℕ) (c : Contains xs k) → c.0 ≤ i → k ≤ get_or xs i 0
+at_most : (xs : List ℕ) → IsAscending xs → (i : ℕ) → i < length xs → (k : ℕ) (c : Contains xs k) →
+    c.0 ≤ i → k ≤ get_or xs i 0
 at_most xs a i m k c l =
     subst (λ j. j ≤ get_or xs i 0) (get_or_default xs c.0 0 k c.1 ∙ c.2) (ascending_places xs a c.0 i l m)
 

@@ -104,7 +104,9 @@ writes_beginning kind rows old new xs P (Err y) r b a = record { whole = tt; par
 
 -- ---- the loop
 -- of the vectors under the prefix these are written, and those under the marks, at which the dictionary stands, are left
-pub record IsInLoop (sys : System) (free : List ℕ) (d : Dictionary) (depth : ℕ) (p : Polyhedron) (cone : ListedCone) (fixed left : List ℕ) (prefix : List Bool) (rows count : ℕ) (old now : Option (List ℕ)) (i : ℕ) : Type 0 where
+pub record IsInLoop (sys : System) (free : List ℕ) (d : Dictionary) (depth : ℕ) (p : Polyhedron)
+    (cone : ListedCone) (fixed left : List ℕ) (prefix : List Bool) (rows count : ℕ)
+    (old now : Option (List ℕ)) (i : ℕ) : Type 0 where
   pub marks : List Bool
   pub here : IsAt sys free d i depth p cone fixed left marks
   pub shown : List Vector
@@ -115,10 +117,11 @@ pub record IsInLoop (sys : System) (free : List ℕ) (d : Dictionary) (depth : �
 abbrev pub InLoop : System → List ℕ → Dictionary → ℕ → ℕ → ℕ → ℕ → Option (List ℕ) → Option (List ℕ) → ℕ → Type 0
 InLoop sys free d from depth rows count old now i =
     (p : Polyhedron) (cone : ListedCone) (fixed left : List ℕ) (prefix : List Bool) →
-    IsAt sys free d from depth p cone fixed left prefix → IsInLoop sys free d depth p cone fixed left prefix rows count old now i
+    IsAt sys free d from depth p cone fixed left prefix →
+    IsInLoop sys free d depth p cone fixed left prefix rows count old now i
 
-pub loop_start : (sys : System) (free : List ℕ) (d : Dictionary) (from depth : ℕ) (rows : ℕ) (old : Option (List ℕ)) → rows < 2 ^ 64 →
-    InLoop sys free d from depth rows rows old old from
+pub loop_start : (sys : System) (free : List ℕ) (d : Dictionary) (from depth : ℕ) (rows : ℕ) (old : Option (List ℕ)) →
+    rows < 2 ^ 64 → InLoop sys free d from depth rows rows old old from
 loop_start sys free d from depth rows old few p cone fixed left prefix at = record {
   marks = prefix;
   here = at;
@@ -152,7 +155,8 @@ module _ (sys : System) (free : List ℕ) (d : Dictionary) (depth rows count : �
     }
 
     module _ (k : ℕ) (column : IsColumnOf d free i k) (new : Dictionary) (pivot : IsPivot d i k new) where
-      pub deeper : (less : ℕ) → suc less ≡ depth → IsAt sys free new (i + 1) less p cone fixed (without k left) (s.marks ++ true ∷ [])
+      pub deeper : (less : ℕ) → suc less ≡ depth →
+          IsAt sys free new (i + 1) less p cone fixed (without k left) (s.marks ++ true ∷ [])
       deeper = next_row.goes_deeper sys free d i depth p cone fixed left s.marks s.here row k column new pivot
 
       is_new : IsNew cone.n (taken_at cone s.marks) (first_without_mark cone s.marks)

@@ -36,8 +36,9 @@ count_left p cone d fixed left marks s =
     omega (arith, all, length-append fixed (labels_of marks ++ left), length-append (labels_of marks) left)
 
 -- ---- where a dictionary stands, and its next row
-module _ (sys : System) (free : List ℕ) (d : Dictionary) (i depth : ℕ) (p : Polyhedron) (cone : ListedCone) (fixed left : List ℕ)
-    (marks : List Bool) (here : IsAt sys free d i depth p cone fixed left marks) where
+module _ (sys : System) (free : List ℕ) (d : Dictionary) (i depth : ℕ) (p : Polyhedron)
+    (cone : ListedCone) (fixed left : List ℕ) (marks : List Bool)
+    (here : IsAt sys free d i depth p cone fixed left marks) where
   same_rows : length cone.rows ≡ length sys.rows
   same_rows =
       let rows = as_many p cone here.stands.over in
@@ -79,8 +80,9 @@ module _ (sys : System) (free : List ℕ) (d : Dictionary) (i depth : ℕ) (p : 
 
     is_left : (k : ℕ) → IsColumnOf d free i k → Contains left k
     is_left k column =
-        fixed_labels.is_left p cone d fixed left marks here.stands sys.rows free here.fixed_are k column.inside column.coordinate
-        column.not_free
+        fixed_labels.is_left p cone d fixed left marks here.stands sys.rows free here.fixed_are k
+        column.inside
+        column.coordinate column.not_free
 
     pub is_new : (k : ℕ) → IsColumnOf d free i k → IsNew cone.n (taken_at cone marks) (next_row cone marks)
     is_new k column =
@@ -110,6 +112,9 @@ module _ (sys : System) (free : List ℕ) (d : Dictionary) (i depth : ℕ) (p : 
           pivot_takes p cone d new fixed left marks here.stands k (is_left k column)
           (subst (λ j. IsPivot d j k new) here.next pivot) before
 
+      low : i < 8192
+      low = let few = here.stands.over.few in omega (arith, as_many p cone here.stands.over, before, here.next)
+
       -- the row that enters is neither fixed nor linear
       not_fixed : Contains fixed i → ⊥
       not_fixed f =
@@ -118,17 +123,16 @@ module _ (sys : System) (free : List ℕ) (d : Dictionary) (i depth : ℕ) (p : 
           here.next ∙ only_leaving p cone d new fixed left marks here.stands k (is_left k column)
           (subst (λ j. IsPivot d j k new) here.next pivot) (subst (Contains d.key) here.next old) in
           let high = column.coordinate in
-          let few = here.stands.over.few in
-          omega (arith, as_many p cone here.stands.over, before, here.next)
+          omega (arith, low)
+
+      entering_stays : stays_in sys.rows free i ≡ true
+      entering_stays =
+          row_stays sys.rows free i low ∙ not_from_false (row_of sys.rows i).linear (not_linear k column)
 
       entering : Contains fixed i ↔ (stays_in sys.rows free i ≡ false)
       entering = (
         λ f. absurd (not_fixed f),
-        λ e. absurd (
-        let low : i < 8192 = let few = here.stands.over.few in omega (arith, as_many p cone here.stands.over, before, here.next) in
-        let both : true ≡ false =
-        sym (row_stays sys.rows free i low ∙ not_from_false (row_of sys.rows i).linear (not_linear k column)) ∙ e in
-        cc),
+        λ e. let both : true ≡ false = sym entering_stays ∙ e in absurd (cc),
       )
 
       fixed_now : FixedAre sys.rows free new fixed

@@ -18,7 +18,7 @@ use Rattle.dictionary.specs.Views.{Dictionary}
 use Rattle.hull_lift.specs.Facets.{constant_label}
 use Rattle.listing_laws.specs.ListedCone.{ListedCone, IsConeOf}
 use Rattle.listing_laws.specs.Lists.{Lists}
-use Rattle.listing_laws.specs.Prefixes.{labels_of, IsUnder}
+use Rattle.listing_laws.specs.Prefixes.{IsUnder}
 use Rattle.plain_enum.specs.declared.side.Side.{Side}
 use Rattle.plain_enum.specs.declared.answers.Shown.{Shown}
 use Rattle.plain_enum.specs.Columns.{IsLeftCoordinate, LeavesNoCoordinate}
@@ -66,8 +66,9 @@ one_only [] e = absurd (omega (arith, e))
 one_only (k ∷ []) e = (k, refl)
 one_only (k ∷ j ∷ ks) e = absurd (omega (arith, e))
 
-module _ (sys : System) (free : List ℕ) (d : Dictionary) (from : ℕ) (p : Polyhedron) (cone : ListedCone) (fixed left : List ℕ)
-    (marks : List Bool) (at : IsAt sys free d from 0 p cone fixed left marks) where
+module _ (sys : System) (free : List ℕ) (d : Dictionary) (from : ℕ) (p : Polyhedron)
+    (cone : ListedCone) (fixed left : List ℕ) (marks : List Bool)
+    (at : IsAt sys free d from 0 p cone fixed left marks) where
   abbrev k : ℕ
   k = (one_only left at.count).0
 

@@ -1,5 +1,5 @@
 -- What the lister writes under a prefix of rows.
-use Rattle.std.specs.Prelude.{◌≡◌, ◌↔◌, false, ℕ, suc, ◌+◌, ◌-◌, ◌^◌, min, Bool, List, [], length, Option, Result, IfOk, OnErr}
+use Rattle.std.specs.Prelude.{◌≡◌, ◌↔◌, false, ℕ, suc, ◌+◌, ◌-◌, ◌^◌, min, Bool, List, length, Option, Result, IfOk, OnErr}
 use Rattle.std.specs.List.{Contains, flat_map}
 use Rattle.std.specs.Io.KnownBytes.{Appends}
 use Rattle.poly_num.specs.Vectors.{Vector}
@@ -18,7 +18,8 @@ use Rattle.plain_enum.specs.Standing.{StandsAt}
 
 -- the dictionary stands, in the phase of the cone, at a prefix of the rows before `from`, with so many coordinates
 -- left beside one; of its key those labels are fixed that do not stay: linear rows, and coordinates that are free
-pub record IsAt (sys : System) (free : List ℕ) (d : Dictionary) (from depth : ℕ) (p : Polyhedron) (cone : ListedCone) (fixed left : List ℕ) (marks : List Bool) : Type 0 where
+pub record IsAt (sys : System) (free : List ℕ) (d : Dictionary) (from depth : ℕ) (p : Polyhedron)
+    (cone : ListedCone) (fixed left : List ℕ) (marks : List Bool) : Type 0 where
   pub file : sys ≡ cone_of p
   pub is_cone : IsConeOf sys cone
   pub phase : d.phase ≡ Cone
@@ -43,7 +44,8 @@ pub record WritesRows {E : Type 0} (kind : Kind) (rows : ℕ) (old new : Option 
   pub part : OnErr result ((shown : List Vector) × Begins P shown × AppendsPart old new (flat_map (row_text kind) shown))
 
 -- wherever the dictionary stands, what is under the prefix is written
-abbrev pub WritesUnder : {E : Type 0} → System → List ℕ → Dictionary → ℕ → ℕ → ℕ → Option (List ℕ) → Option (List ℕ) → Result Shown E → Type 0
+abbrev pub WritesUnder : {E : Type 0} → System → List ℕ → Dictionary → ℕ → ℕ → ℕ →
+    Option (List ℕ) → Option (List ℕ) → Result Shown E → Type 0
 WritesUnder sys free d from depth rows old new result =
     (p : Polyhedron) (cone : ListedCone) (fixed left : List ℕ) (marks : List Bool) →
     IsAt sys free d from depth p cone fixed left marks → WritesRows sys.kind rows old new result (IsUnder cone marks)

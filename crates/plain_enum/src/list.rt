@@ -33,7 +33,8 @@ pub fn show<S: Sink>(
     requires rows { HasRows (length sys.now.rows) at.now }
     requires vector { length vector.old ≡ sys.now.n }
     requires kind { shown.listing ≡ sys.now.kind }
-    ensures written { WritesUnder sys.now free.now at.now from 0 shown.rows (S.written out.old) (S.written out.new) result }
+    ensures written { WritesUnder sys.now free.now at.now from 0 shown.rows
+        (S.written out.old) (S.written out.new) result }
     ensures passes { (o : Passed) → IsErrOf result (PlainStop.Overflow o) → ⊥ }
     ensures memory { IsErrOf result PlainStop.Memory → ⊥ }
     ensures vector { length vector.new ≡ sys.now.n }
@@ -91,7 +92,8 @@ pub fn list_under<S: Sink>(
     requires shapes { All (HasShapeOf at.now) deeper.old }
     requires vector { length vector.old ≡ sys.now.n }
     requires kind { shown.listing ≡ sys.now.kind }
-    ensures written { WritesUnder sys.now free.now at.now from (length deeper.old) shown.rows (S.written out.old) (S.written out.new) result }
+    ensures written { WritesUnder sys.now free.now at.now from (length deeper.old) shown.rows
+        (S.written out.old) (S.written out.new) result }
     ensures passes { (o : Passed) → IsErrOf result (PlainStop.Overflow o) → (p : Polyhedron) (cone : ListedCone) (fixed left : List ℕ) (marks : List Bool) →
         IsAt sys.now free.now at.now from (length deeper.old) p cone fixed left marks → Passes p o }
     ensures memory { IsErrOf result PlainStop.Memory → ⊥ }

@@ -85,8 +85,8 @@ pub fn is_first(sys: &System, at: &Dict, rows: u32, col: Label) -> bool
 fn is_zero_at_later(sys: &System, at: &Dict, row: Label, labels: &[u16]) -> bool
     requires row { Contains at.now.labels row.0 }
     requires labels { labels.now ≡ at.now.key }
-    ensures { IsTrue result ↔ ((k : ℕ) → Contains at.now.key k → k < 8192 → (row_of sys.now.rows k).linear ≡ false → row.0 < k →
-        Table.entry (table_of at.now) row.0 k ≡ pos 0) }
+    ensures { IsTrue result ↔ ((k : ℕ) → Contains at.now.key k → k < 8192 → (row_of sys.now.rows k).linear ≡ false →
+        row.0 < k → Table.entry (table_of at.now) row.0 k ≡ pos 0) }
 {
     'labels: for label in labels {
         if !is_zero_if_later(sys, at, row, Label(*label)) {
@@ -134,7 +134,8 @@ fn is_column(at: &Dict, free: &[u32], row: Label, label: Label) -> bool
     requires column { Contains at.now.key label.0 }
     ensures column { IsTrue result → IsColumnOf at.now free.now row.0 label.0 }
     ensures pivots { IsTrue result → CanPivot at.now row.0 label.0 }
-    ensures zero { IsFalse result → 8192 ≤ label.0 → is_member (label.0 - 8192) free.now ≡ false → Table.entry (table_of at.now) row.0 label.0 ≡ pos 0 }
+    ensures zero { IsFalse result → 8192 ≤ label.0 → is_member (label.0 - 8192) free.now ≡ false →
+        Table.entry (table_of at.now) row.0 label.0 ≡ pos 0 }
 {
     label.0 >= 8192 && at.entry(row, label).get() != 0 && !is_free(free, label.0 - 8192)
 }

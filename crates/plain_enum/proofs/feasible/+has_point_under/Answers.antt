@@ -72,7 +72,8 @@ returns-then-branch-clause-tells t c p cone fixed left marks here =
     (c.rows.invariant.told p cone fixed left marks here) (omega (arith, c.rows-test.true, c.rows-i-end.ensures.value))
     c.in-Some-column_of.col.0 c.in-Some-column_of.ensures.some c.take_row.new.next
     c.in_ok-take_row-in-Some.ensures.pivoted (length c.rows.others) (omega (arith, c.rows.invariant.depth))
-    (subst (TellsUnder c.args.sys.now c.args.free.now c.take_row.new.next (c.rows.i + 1) (length c.rows.others)) c.if-branch.true
+    (subst (TellsUnder c.args.sys.now c.args.free.now c.take_row.new.next (c.rows.i + 1) (length c.rows.others))
+    c.if-branch.true
     c.in_ok-has_point_under-in-Some.ensures.tells)
 
 pub rows-preserved : goal.rows-preserved
@@ -86,11 +87,13 @@ rows-preserved t c =
         depth = omega (arith, ap length w.others-is, w.in_ok-has_point_under-in-Some.ensures.depth, c.rows.invariant.depth);
         vector = ap length w.vector-is ∙ w.in_ok-has_point_under-in-Some.ensures.vector;
         told = λ p cone fixed left prefix here.
-            goes_on c.args.sys.now c.args.free.now c.args.at.now (length c.args.deeper.now) c.rows.i p cone fixed left prefix
+            goes_on c.args.sys.now c.args.free.now c.args.at.now (length c.args.deeper.now) c.rows.i
+            p cone fixed left prefix
             (c.rows.invariant.told p cone fixed left prefix here) (omega (arith, c.rows-test.true, c.rows-i-end.ensures.value))
             w.in-Some-column_of.col.0 w.in-Some-column_of.ensures.some w.take_row.new.next
             w.in_ok-take_row-in-Some.ensures.pivoted (length c.rows.others) (omega (arith, c.rows.invariant.depth))
-            (subst (TellsUnder c.args.sys.now c.args.free.now w.take_row.new.next (c.rows.i + 1) (length c.rows.others)) w.if-branch.false
+            (subst (TellsUnder c.args.sys.now c.args.free.now w.take_row.new.next (c.rows.i + 1) (length c.rows.others))
+            w.if-branch.false
             w.in_ok-has_point_under-in-Some.ensures.tells);
       }
       | in_default w ↦ record {
@@ -99,7 +102,8 @@ rows-preserved t c =
         depth = omega (arith, ap length w.others-is, c.rows.invariant.depth);
         vector = ap length w.vector-is ∙ c.rows.invariant.vector;
         told = λ p cone fixed left prefix here.
-            skips c.args.sys.now c.args.free.now c.args.at.now (length c.args.deeper.now) c.rows.i p cone fixed left prefix
+            skips c.args.sys.now c.args.free.now c.args.at.now (length c.args.deeper.now) c.rows.i
+            p cone fixed left prefix
             (c.rows.invariant.told p cone fixed left prefix here) (omega (arith, c.rows-test.true, c.rows-i-end.ensures.value))
             (w.in_default.ensures.none refl);
       }

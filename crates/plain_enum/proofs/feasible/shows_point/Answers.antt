@@ -7,7 +7,8 @@ use Rattle.plain_enum.proofs.feasible.shows_point.Goals as goal
 
 pub returns-in_default-clause-tells : goal.returns-in_default-clause-tells
 returns-in_default-clause-tells c p cone fixed left marks here h =
-    has_coordinate c.args.sys.now c.args.free.now c.args.at.now c.args.from p cone fixed left marks here (c.in_default.ensures.none refl)
+    has_coordinate c.args.sys.now c.args.free.now c.args.at.now c.args.from p cone fixed left marks here
+    (c.in_default.ensures.none refl)
 
 pub returns-in_default-shown_side-clause-tells : goal.returns-in_default-shown_side-clause-tells
 returns-in_default-shown_side-clause-tells c p cone fixed left marks here =

@@ -19,8 +19,8 @@ rows-init g t c =
       vector = c.requires.vector;
       kind = c.requires.kind;
       later = omega arith;
-      written = loop_start c.args.sys.now c.args.free.now c.args.at.now c.args.from (length c.args.deeper.now) c.args.shown.rows
-          (g.S.Sink.written c.args.out.now) c.args.shown.few;
+      written = loop_start c.args.sys.now c.args.free.now c.args.at.now c.args.from (length c.args.deeper.now)
+          c.args.shown.rows (g.S.Sink.written c.args.out.now) c.args.shown.few;
     }
 
 pub returns-in-Err-clause-written : goal.returns-in-Err-clause-written
@@ -32,8 +32,8 @@ returns-in-Err-clause-written g t c p cone fixed left marks at =
 pub returns-in-Err-clause-passes : goal.returns-in-Err-clause-passes
 returns-in-Err-clause-passes g t c o e p cone fixed left marks at =
     let same : c.in-Err.overflow ≡ o = cc in
-    overflows c.args.sys.now c.args.free.now c.args.at.now (length c.args.deeper.now) c.args.shown.rows c.rows.shown.rows
-    (g.S.Sink.written c.args.out.now) (g.S.Sink.written c.rows.out) c.rows.i p cone fixed left marks
+    overflows c.args.sys.now c.args.free.now c.args.at.now (length c.args.deeper.now) c.args.shown.rows
+    c.rows.shown.rows (g.S.Sink.written c.args.out.now) (g.S.Sink.written c.rows.out) c.rows.i p cone fixed left marks
     (c.rows.invariant.written p cone fixed left marks at) c.in-Some-column_of.col.0 o
     c.in-Some-column_of.ensures.pivots
     (subst (λ (v : Overflow). IsOverflow c.args.at.now c.rows.i c.in-Some-column_of.col.0 v) same c.in-Err.ensures.passes)
@@ -94,12 +94,14 @@ rows-preserved g t c =
         kind = ap (λ s. s.listing) w.shown-is ∙ w.in_ok-shown-in-Some.ensures.kind;
         later = omega (arith, ap g.S.Sink.faults w.out-is, w.in_ok-shown-in-Some.ensures.later, c.rows.invariant.later);
         written = λ p cone fixed left prefix at.
-            subst (λ (s : Shown). IsInLoop c.args.sys.now c.args.free.now c.args.at.now (length c.args.deeper.now) p cone fixed left prefix c.args.shown.rows s.rows
+            subst (λ (s : Shown). IsInLoop c.args.sys.now c.args.free.now c.args.at.now (length c.args.deeper.now)
+            p cone fixed left prefix c.args.shown.rows s.rows
             (g.S.Sink.written c.args.out.now) (g.S.Sink.written c.match-column_of.out) (c.rows.i + 1)) (sym w.shown-is)
-            (subst (λ o. IsInLoop c.args.sys.now c.args.free.now c.args.at.now (length c.args.deeper.now) p cone fixed left prefix c.args.shown.rows w.in_ok-shown-in-Some.shown.rows
+            (subst (λ o. IsInLoop c.args.sys.now c.args.free.now c.args.at.now (length c.args.deeper.now)
+            p cone fixed left prefix c.args.shown.rows w.in_ok-shown-in-Some.shown.rows
             (g.S.Sink.written c.args.out.now) (g.S.Sink.written o) (c.rows.i + 1)) (sym w.out-is)
-            (goes_on c.args.sys.now c.args.free.now c.args.at.now (length c.args.deeper.now) c.args.shown.rows c.rows.shown.rows
-            (g.S.Sink.written c.args.out.now) (g.S.Sink.written c.rows.out) c.rows.i p cone fixed left prefix
+            (goes_on c.args.sys.now c.args.free.now c.args.at.now (length c.args.deeper.now) c.args.shown.rows
+            c.rows.shown.rows (g.S.Sink.written c.args.out.now) (g.S.Sink.written c.rows.out) c.rows.i p cone fixed left prefix
             (c.rows.invariant.written p cone fixed left prefix at)
             (omega (arith, c.rows-test.true, c.rows-i-end.ensures.value)) w.in-Some-column_of.col.0
             w.in-Some-column_of.ensures.some w.take_row.new.next w.in_default-take_row.ensures.pivoted
@@ -114,12 +116,14 @@ rows-preserved g t c =
         kind = ap (λ s. s.listing) w.shown-is ∙ c.rows.invariant.kind;
         later = omega (arith, ap g.S.Sink.faults w.out-is, c.rows.invariant.later);
         written = λ p cone fixed left prefix at.
-            subst (λ (s : Shown). IsInLoop c.args.sys.now c.args.free.now c.args.at.now (length c.args.deeper.now) p cone fixed left prefix c.args.shown.rows s.rows
+            subst (λ (s : Shown). IsInLoop c.args.sys.now c.args.free.now c.args.at.now (length c.args.deeper.now)
+            p cone fixed left prefix c.args.shown.rows s.rows
             (g.S.Sink.written c.args.out.now) (g.S.Sink.written c.match-column_of.out) (c.rows.i + 1)) (sym w.shown-is)
-            (subst (λ o. IsInLoop c.args.sys.now c.args.free.now c.args.at.now (length c.args.deeper.now) p cone fixed left prefix c.args.shown.rows c.rows.shown.rows
+            (subst (λ o. IsInLoop c.args.sys.now c.args.free.now c.args.at.now (length c.args.deeper.now)
+            p cone fixed left prefix c.args.shown.rows c.rows.shown.rows
             (g.S.Sink.written c.args.out.now) (g.S.Sink.written o) (c.rows.i + 1)) (sym w.out-is)
-            (skipped c.args.sys.now c.args.free.now c.args.at.now (length c.args.deeper.now) c.args.shown.rows c.rows.shown.rows
-            (g.S.Sink.written c.args.out.now) (g.S.Sink.written c.rows.out) c.rows.i p cone fixed left prefix
+            (skipped c.args.sys.now c.args.free.now c.args.at.now (length c.args.deeper.now) c.args.shown.rows
+            c.rows.shown.rows (g.S.Sink.written c.args.out.now) (g.S.Sink.written c.rows.out) c.rows.i p cone fixed left prefix
             (c.rows.invariant.written p cone fixed left prefix at)
             (omega (arith, c.rows-test.true, c.rows-i-end.ensures.value)) (w.in_default.ensures.none refl)));
       }
@@ -128,7 +132,8 @@ rows-preserved g t c =
 pub returns-in-None-clause-written : goal.returns-in-None-clause-written
 returns-in-None-clause-written g t c p cone fixed left marks at =
     c.show.ensures.written p cone fixed left marks
-    (subst (λ n. IsAt c.args.sys.now c.args.free.now c.args.at.now c.args.from n p cone fixed left marks) (let z = c.in-None.ensures.cases in omega arith) at)
+    (subst (λ n. IsAt c.args.sys.now c.args.free.now c.args.at.now c.args.from n p cone fixed left marks)
+    (let z = c.in-None.ensures.cases in omega arith) at)
 
 pub returns-after-rows-clause-written : goal.returns-after-rows-clause-written
 returns-after-rows-clause-written g t c p cone fixed left marks at =

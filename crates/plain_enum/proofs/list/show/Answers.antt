@@ -9,7 +9,8 @@ use Rattle.plain_enum.proofs.list.show.Goals as goal
 
 pub returns-in_default-clause-written : goal.returns-in_default-clause-written
 returns-in_default-clause-written g c p cone fixed left marks at =
-    absurd (has_coordinate c.args.sys.now c.args.free.now c.args.at.now c.args.from p cone fixed left marks at (c.in_default.ensures.none refl))
+    absurd (has_coordinate c.args.sys.now c.args.free.now c.args.at.now c.args.from
+    p cone fixed left marks at (c.in_default.ensures.none refl))
 
 pub returns-in_default-shown_side-clause-written : goal.returns-in_default-shown_side-clause-written
 returns-in_default-shown_side-clause-written g c p cone fixed left marks at =

@@ -1,4 +1,4 @@
-use Rattle.std.proofs.Common.{◌≡◌, false, ℕ, ◌+◌, ◌<◌, pos, refl, sym, subst, arith}
+use Rattle.std.proofs.Common.{◌≡◌, false, ◌<◌, pos, refl, sym, subst, arith}
 use Rattle.std.specs.List.{Contains}
 use Rattle.poly_model.specs.Dictionaries.{Table}
 use Rattle.poly_model.specs.Systems.{row_of}

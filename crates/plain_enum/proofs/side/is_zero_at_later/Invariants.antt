@@ -8,5 +8,5 @@ use Rattle.plain_enum.proofs.side.is_zero_at_later.Given as goal
 -- it is 0 at the later rows among the labels before this one, but for those that are linear
 abbrev pub invariant-labels : goal.invariant-labels
 invariant-labels l =
-    (k : ℕ) (c : Contains l.labels k) → c.0 < l.label-index → k < 8192 → (row_of l.sys.rows k).linear ≡ false → l.row.0 < k →
-    Table.entry (table_of l.at) l.row.0 k ≡ pos 0
+    (k : ℕ) (c : Contains l.labels k) → c.0 < l.label-index → k < 8192 →
+    (row_of l.sys.rows k).linear ≡ false → l.row.0 < k → Table.entry (table_of l.at) l.row.0 k ≡ pos 0

@@ -1,4 +1,4 @@
-use Rattle.std.proofs.Common.{◌≡◌, ◌+◌, ◌≤◌, true, false, IsNone, IfSome, refl, sym, subst, ◌∙◌, arith}
+use Rattle.std.proofs.Common.{◌≡◌, ◌+◌, true, false, IsNone, IfSome, sym, subst, ◌∙◌, arith}
 use Rattle.std.proofs.lemmas.Option.{IfSome_then}
 use Rattle.plain_enum.proofs.LeftCoordinates.{IsLastBefore, is_last, stays_last, still_none, is_left_coordinate, leaves_none}
 use Rattle.plain_enum.proofs.side.left_coordinate.Goals.{then-is_kept, else-is_kept}
@@ -29,10 +29,11 @@ pub returns-clause-some : goal.returns-clause-some
 returns-clause-some c =
     IfSome_then c.labels.found c.labels.invariant.some
     (λ k h. is_left_coordinate c.args.at.now c.args.free.now c.labels-label-items.result.now
-    (c.labels-label-items.ensures.value ∙ c.key-key.ensures) c.labels.label-index (let l = c.labels-test.false in omega arith) k.0 h)
+    (c.labels-label-items.ensures.value ∙ c.key-key.ensures) c.labels.label-index
+    (let l = c.labels-test.false in omega arith) k.0 h)
 
 pub returns-clause-none : goal.returns-clause-none
 returns-clause-none c n =
     leaves_none c.args.at.now c.args.free.now c.labels-label-items.result.now
-    (c.labels-label-items.ensures.value ∙ c.key-key.ensures) c.labels.label-index (let l = c.labels-test.false in omega arith)
-    (c.labels.invariant.none n)
+    (c.labels-label-items.ensures.value ∙ c.key-key.ensures) c.labels.label-index
+    (let l = c.labels-test.false in omega arith) (c.labels.invariant.none n)
