@@ -56,7 +56,8 @@ fn print<S: Sink>(
     requires shapes { All (HasShapeOf at.now) deeper.old }
     requires vector { length vector.old ≡ sys.now.n }
     ensures written { (p : Polyhedron) (cone : ListedCone) (left : List ℕ) →
-        IsAt sys.now [] at.now 1 (length deeper.old) p cone [] left [] → AreLines (cone_of p) [] → WritesListing p (S.written out.old) (S.written out.new) result }
+        IsAt sys.now [] at.now 1 (length deeper.old) p cone [] left [] → AreLines (cone_of p) [] →
+        WritesListing p (S.written out.old) (S.written out.new) result }
     ensures overflow { (o : Passed) → IsErrOf result (PlainStop.Overflow o) → (p : Polyhedron) (cone : ListedCone) (left : List ℕ) →
         IsAt sys.now [] at.now 1 (length deeper.old) p cone [] left [] → Passes p o }
     ensures memory { IsErrOf result PlainStop.Memory → ⊥ }
