@@ -1,10 +1,10 @@
--- Where one label is left and nothing is fixed: the primitive vector of its column, its opposite, and what is shown.
+-- Where one label is left: the primitive vector of its column, its opposite, and what is shown.
 use Rattle.std.proofs.Common.{◌≡◌, ◌≢◌, ◌↔◌, ⊎_elim, Bool, ℕ, suc, ◌-◌, ◌<◌, ◌≤◌, ℤ, pos, neg_ℤ, ◌*ℤ◌, ◌<ℤ◌, List, [], ◌∷◌, length, get_or, sym, ap, subst, ◌∙◌, arith}
 use Rattle.std.specs.Prelude.{◌≤ℤ◌, int_div}
 use Rattle.std.specs.List.{Contains}
 use Rattle.std.proofs.lemmas.Int.{ints}
 use Rattle.std.proofs.lemmas.List.{get_or-map, get_or_default, length-map}
-use Rattle.std.proofs.lemmas.List.Elements.{Contains-get_or, Contains-append_left, Contains-append_cases}
+use Rattle.std.proofs.lemmas.List.Elements.{Contains-get_or}
 use Rattle.poly_num.specs.Vectors.{Vector, ◌·◌, IsPrimitive, IsMultipleOf}
 use Rattle.poly_num.specs.Divisors.{MakesPrimitive, gcd_of_all}
 use Rattle.poly_num.proofs.Ring.{mul_zero, mul-neg, neg-mul, one_mul}
@@ -36,7 +36,9 @@ use Rattle.plain_enum.specs.declared.side.Side.TheVariants.{Along, Against}
 use Rattle.plain_enum.specs.Columns.{IsOnSide, IsFirst}
 use Rattle.plain_enum.specs.Shown.{IsShownOn, primitive_column, vector_on}
 use Rattle.plain_enum.specs.Standing.{StandsAt, LeavesColumn}
+use Rattle.plain_enum.proofs.Parts.{in_second}
 use Rattle.plain_enum.proofs.RowsTaken.{as_many}
+use Rattle.plain_enum.proofs.FixedLabels.{FixedAre, taken_not_linear, is_taken}
 use Rattle.plain_enum.proofs.OneLeft.{test_by_entries}
 
 -- ---- signs under a positive factor
@@ -55,9 +57,9 @@ not_negative_back : (p x e : ℤ) → pos 0 <ℤ p → p *ℤ x ≡ e → pos 0 
 not_negative_back p x e h m l =
     subst (λ t. pos 0 ≤ℤ t) m (subst (λ t. t ≤ℤ (p *ℤ x)) (mul_zero p) (keeps_at_most p (pos 0) x h l))
 
-module _ (p : Polyhedron) (cone : ListedCone) (d : Dictionary) (k : ℕ) (marks : List Bool)
-    (stands : StandsAt p cone d [] (k ∷ []) marks) (s : LeavesColumn p cone d marks k)
-    (listed : IsConeOf (cone_of p) cone) where
+module _ (p : Polyhedron) (cone : ListedCone) (free : List ℕ) (d : Dictionary)
+    (fixed : List ℕ) (k : ℕ) (marks : List Bool) (stands : StandsAt p cone d fixed (k ∷ []) marks) (are : FixedAre (cone_of p).rows free d fixed)
+    (s : LeavesColumn p cone d marks k) (listed : IsConeOf (cone_of p) cone) where
   abbrev z : Vector
   z = column_of d k p.n
 
@@ -169,7 +171,8 @@ module _ (p : Polyhedron) (cone : ListedCone) (d : Dictionary) (k : ℕ) (marks 
           (Contains-get_or cone.rows (i - 1) [] (omega (arith, back_below i b))))
 
   -- ---- the local test
-  test_there : IsFirst d (length (cone_of p).rows) k → PassesLocalTest cone (labels_of marks) s.leaves.duals z
+  test_there : IsFirst (cone_of p).rows d (length (cone_of p).rows) k →
+      PassesLocalTest cone (labels_of marks) s.leaves.duals z
   test_there h =
       (test_by_entries p cone d marks k s).1
       (λ i a e j c l.
@@ -177,16 +180,15 @@ module _ (p : Polyhedron) (cone : ListedCone) (d : Dictionary) (k : ℕ) (marks 
       let within = stands.within in
       let few = stands.over.few in
       h i a (below i (omega arith)) e j
-      (stands.key.back j (Contains-append_left (labels_of marks) (k ∷ []) j c))
-      (omega (arith, as_many p cone stands.over)) l)
+      (stands.key.back j (in_second fixed (labels_of marks) (k ∷ []) j c))
+      (omega (arith, as_many p cone stands.over))
+      (taken_not_linear p cone d fixed (k ∷ []) marks stands (cone_of p).rows free are j c) l)
 
-  test_back : PassesLocalTest cone (labels_of marks) s.leaves.duals z → IsFirst d (length (cone_of p).rows) k
-  test_back h i a b e j c low l =
-      ⊎_elim (λ t. (test_by_entries p cone d marks k s).0 h i a e j t l) (λ t. absurd (not_left t))
-      (Contains-append_cases (labels_of marks) (k ∷ []) j (stands.key.there j c))
-    where
-      not_left : Contains (k ∷ []) j → ⊥
-      not_left t = let high = stands.coordinates j t in omega arith
+  test_back : PassesLocalTest cone (labels_of marks) s.leaves.duals z →
+      IsFirst (cone_of p).rows d (length (cone_of p).rows) k
+  test_back h i a b e j c low n l =
+      (test_by_entries p cone d marks k s).0 h i a e j
+      (is_taken p cone d fixed (k ∷ []) marks stands (cone_of p).rows free are j c low n) l
 
   -- ---- shown
   zero_back : (e : ℤ) (side : Side) → sign_on side e ≡ pos 0 → e ≡ pos 0

@@ -44,10 +44,10 @@ module _ (sys : System) (d : Dictionary) (new : IsNew sys Cone d) (depth : ℕ) 
   abbrev cone : ListedCone
   cone = cone_over [] (cone_of p)
 
-  begins : IsAt sys d 1 depth p cone [] (coordinate_key 0 p.n) []
+  begins : IsAt sys [] d 1 depth p cone [] (coordinate_key 0 p.n) []
   begins = begins_at sys d new p file plain depth width few
 
-  pub tells_feasible : (found : Bool) → TellsUnder sys d 1 depth found → p.kind ≡ H → IsTrue found ↔ IsFeasible (cone_of p)
+  pub tells_feasible : (found : Bool) → TellsUnder sys [] d 1 depth found → p.kind ≡ H → IsTrue found ↔ IsFeasible (cone_of p)
   tells_feasible found told kind =
       let vertex = by_vertex (cone_of p) cone (nothing_is_base (cone_of p) plain.columns plain.rows) found
       (told p cone [] (coordinate_key 0 p.n) [] begins) in
@@ -56,5 +56,5 @@ module _ (sys : System) (d : Dictionary) (new : IsNew sys Cone d) (depth : ℕ) 
 
   pub passes_there : (o : Overflow) →
       ((q : Polyhedron) (other : ListedCone) (fixed left : List ℕ) (marks : List Bool) →
-      IsAt sys d 1 depth q other fixed left marks → Passes q o) → Passes p o
+      IsAt sys [] d 1 depth q other fixed left marks → Passes q o) → Passes p o
   passes_there o passes = passes p cone [] (coordinate_key 0 p.n) [] begins

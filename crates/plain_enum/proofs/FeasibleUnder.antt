@@ -40,62 +40,69 @@ tells_one cone marks y false l e = λ h.
 -- ---- the loop
 -- the dictionary stands at marks under which are only vectors under the prefix, and all of these that have a positive
 -- first entry
-pub record IsInLoop (sys : System) (d : Dictionary) (depth : ℕ) (p : Polyhedron) (cone : ListedCone) (fixed left : List ℕ) (prefix : List Bool) (i : ℕ) : Type 0 where
+pub record IsInLoop (sys : System) (free : List ℕ) (d : Dictionary) (depth : ℕ) (p : Polyhedron)
+    (cone : ListedCone) (fixed left : List ℕ) (prefix : List Bool) (i : ℕ) : Type 0 where
   pub marks : List Bool
-  pub here : IsAt sys d i depth p cone fixed left marks
+  pub here : IsAt sys free d i depth p cone fixed left marks
   pub within : (y : Vector) → IsUnder cone marks y → IsUnder cone prefix y
   pub points : (y : Vector) → IsUnder cone prefix y → pos 0 <ℤ at 0 y → IsUnder cone marks y
 
 -- so it is wherever the dictionary stands
-abbrev pub InLoop : System → Dictionary → ℕ → ℕ → ℕ → Type 0
-InLoop sys d from depth i =
+abbrev pub InLoop : System → List ℕ → Dictionary → ℕ → ℕ → ℕ → Type 0
+InLoop sys free d from depth i =
     (p : Polyhedron) (cone : ListedCone) (fixed left : List ℕ) (prefix : List Bool) →
-    IsAt sys d from depth p cone fixed left prefix → IsInLoop sys d depth p cone fixed left prefix i
+    IsAt sys free d from depth p cone fixed left prefix → IsInLoop sys free d depth p cone fixed left prefix i
 
-pub loop_start : (sys : System) (d : Dictionary) (from depth : ℕ) → InLoop sys d from depth from
-loop_start sys d from depth p cone fixed left prefix here = record {
+pub loop_start : (sys : System) (free : List ℕ) (d : Dictionary) (from depth : ℕ) → InLoop sys free d from depth from
+loop_start sys free d from depth p cone fixed left prefix here = record {
   marks = prefix;
   here = here;
   within = λ y u. u;
   points = λ y u l. u;
 }
 
-module _ (sys : System) (d : Dictionary) (depth i : ℕ) (p : Polyhedron) (cone : ListedCone) (fixed left : List ℕ)
-    (prefix : List Bool) (s : IsInLoop sys d depth p cone fixed left prefix i) where
+module _ (sys : System) (free : List ℕ) (d : Dictionary) (depth i : ℕ) (p : Polyhedron)
+    (cone : ListedCone) (fixed left : List ℕ) (prefix : List Bool)
+    (s : IsInLoop sys free d depth p cone fixed left prefix i) where
   pub ends : length sys.rows < i → 0 < depth → TellsPoint cone prefix false
   ends behind some h =
-      next_row.too_short sys d i depth p cone fixed left s.marks s.here some
+      next_row.too_short sys free d i depth p cone fixed left s.marks s.here some
       (prefix_lemmas.full cone (is_listable sys cone s.here.is_cone) s.marks h.vector
-      (next_row.all_decided sys d i depth p cone fixed left s.marks s.here behind) (s.points h.vector h.under h.positive))
+      (next_row.all_decided sys free d i depth p cone fixed left s.marks s.here behind)
+      (s.points h.vector h.under h.positive))
 
   pub passes_now : (k : ℕ) (o : Overflow) → CanPivot d i k → IsOverflow d i k o → Passes p o
-  passes_now = next_row.overflows sys d i depth p cone fixed left s.marks s.here
+  passes_now = next_row.overflows sys free d i depth p cone fixed left s.marks s.here
 
   module _ (row : i ≤ length sys.rows) where
-    pub skips : HasNoColumn d i → IsInLoop sys d depth p cone fixed left prefix (i + 1)
+    pub skips : HasNoColumn d free i → IsInLoop sys free d depth p cone fixed left prefix (i + 1)
     skips none =
-        let same = λ (y : Vector). prefix_lemmas.skipped cone s.marks (next_row.before sys d i depth p cone fixed left s.marks s.here row) y
-        (next_row.follows sys d i depth p cone fixed left s.marks s.here row none) in
+        let same = λ (y : Vector). prefix_lemmas.skipped cone s.marks
+        (next_row.before sys free d i depth p cone fixed left s.marks s.here row) y
+        (next_row.follows sys free d i depth p cone fixed left s.marks s.here row none) in
         record {
           marks = s.marks ++ false ∷ [];
-          here = next_row.stays sys d i depth p cone fixed left s.marks s.here row;
+          here = next_row.stays sys free d i depth p cone fixed left s.marks s.here row;
           within = λ y u. s.within y ((same y).1 u);
           points = λ y u l. (same y).0 (s.points y u l);
         }
 
-    module _ (k : ℕ) (column : IsColumnOf d i k) (new : Dictionary) (pivot : IsPivot d i k new) (less : ℕ) (e : suc less ≡ depth) where
-      pub below : IsAt sys new (i + 1) less p cone fixed (without k left) (s.marks ++ true ∷ [])
-      below = next_row.goes_deeper sys d i depth p cone fixed left s.marks s.here row k column new pivot less e
+    module _ (k : ℕ) (column : IsColumnOf d free i k) (new : Dictionary) (pivot : IsPivot d i k new)
+        (less : ℕ) (e : suc less ≡ depth) where
+      pub below : IsAt sys free new (i + 1) less p cone fixed (without k left) (s.marks ++ true ∷ [])
+      below = next_row.goes_deeper sys free d i depth p cone fixed left s.marks s.here row k column new pivot less e
 
       parts : (y : Vector) → IsUnder cone s.marks y ↔ (IsUnder cone (s.marks ++ true ∷ []) y ⊎ IsUnder cone (s.marks ++ false ∷ []) y)
       parts y =
-          prefix_lemmas.taken_or_not cone s.marks (next_row.before sys d i depth p cone fixed left s.marks s.here row) y
-          (next_row.is_new sys d i depth p cone fixed left s.marks s.here row k column)
+          prefix_lemmas.taken_or_not cone s.marks
+          (next_row.before sys free d i depth p cone fixed left s.marks s.here row) y
+          (next_row.is_new sys free d i depth p cone fixed left s.marks s.here row k column)
 
-      pub goes_on : TellsUnder sys new (i + 1) less false → IsInLoop sys d depth p cone fixed left prefix (i + 1)
+      pub goes_on : TellsUnder sys free new (i + 1) less false →
+          IsInLoop sys free d depth p cone fixed left prefix (i + 1)
       goes_on none = record {
         marks = s.marks ++ false ∷ [];
-        here = next_row.stays sys d i depth p cone fixed left s.marks s.here row;
+        here = next_row.stays sys free d i depth p cone fixed left s.marks s.here row;
         within = λ y u. s.within y ((parts y).1 (inr u));
         points = λ y u l.
             ⊎_elim
@@ -104,7 +111,7 @@ module _ (sys : System) (d : Dictionary) (depth i : ℕ) (p : Polyhedron) (cone 
             (λ f. f) ((parts y).0 (s.points y u l));
       }
 
-      pub finds : TellsUnder sys new (i + 1) less true → TellsPoint cone prefix true
+      pub finds : TellsUnder sys free new (i + 1) less true → TellsPoint cone prefix true
       finds some =
           let h = some p cone fixed (without k left) (s.marks ++ true ∷ []) below in
           record {

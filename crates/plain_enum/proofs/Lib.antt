@@ -3,6 +3,8 @@ pub mod Counting
 pub mod Parts
 pub mod RowsTaken
 pub mod Standings
+pub mod FixedLabels
+pub mod LeftCoordinates
 pub mod OneLeft
 pub mod Steps
 pub mod ColumnShown

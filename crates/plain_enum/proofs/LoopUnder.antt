@@ -104,22 +104,25 @@ writes_beginning kind rows old new xs P (Err y) r b a = record { whole = tt; par
 
 -- ---- the loop
 -- of the vectors under the prefix these are written, and those under the marks, at which the dictionary stands, are left
-pub record IsInLoop (sys : System) (d : Dictionary) (depth : ℕ) (p : Polyhedron) (cone : ListedCone) (fixed left : List ℕ) (prefix : List Bool) (rows count : ℕ) (old now : Option (List ℕ)) (i : ℕ) : Type 0 where
+pub record IsInLoop (sys : System) (free : List ℕ) (d : Dictionary) (depth : ℕ) (p : Polyhedron)
+    (cone : ListedCone) (fixed left : List ℕ) (prefix : List Bool) (rows count : ℕ)
+    (old now : Option (List ℕ)) (i : ℕ) : Type 0 where
   pub marks : List Bool
-  pub here : IsAt sys d i depth p cone fixed left marks
+  pub here : IsAt sys free d i depth p cone fixed left marks
   pub shown : List Vector
   pub listed : IsListedUpTo cone prefix marks shown
   pub written : HasWritten sys.kind old now rows count shown
 
 -- so it is wherever the dictionary stands
-abbrev pub InLoop : System → Dictionary → ℕ → ℕ → ℕ → ℕ → Option (List ℕ) → Option (List ℕ) → ℕ → Type 0
-InLoop sys d from depth rows count old now i =
+abbrev pub InLoop : System → List ℕ → Dictionary → ℕ → ℕ → ℕ → ℕ → Option (List ℕ) → Option (List ℕ) → ℕ → Type 0
+InLoop sys free d from depth rows count old now i =
     (p : Polyhedron) (cone : ListedCone) (fixed left : List ℕ) (prefix : List Bool) →
-    IsAt sys d from depth p cone fixed left prefix → IsInLoop sys d depth p cone fixed left prefix rows count old now i
+    IsAt sys free d from depth p cone fixed left prefix →
+    IsInLoop sys free d depth p cone fixed left prefix rows count old now i
 
-pub loop_start : (sys : System) (d : Dictionary) (from depth : ℕ) (rows : ℕ) (old : Option (List ℕ)) → rows < 2 ^ 64 →
-    InLoop sys d from depth rows rows old old from
-loop_start sys d from depth rows old few p cone fixed left prefix at = record {
+pub loop_start : (sys : System) (free : List ℕ) (d : Dictionary) (from depth : ℕ) (rows : ℕ) (old : Option (List ℕ)) →
+    rows < 2 ^ 64 → InLoop sys free d from depth rows rows old old from
+loop_start sys free d from depth rows old few p cone fixed left prefix at = record {
   marks = prefix;
   here = at;
   shown = [];
@@ -127,53 +130,54 @@ loop_start sys d from depth rows old few p cone fixed left prefix at = record {
   written = record { bytes = Appends-nil old; count = counted_none rows few };
 }
 
-module _ (sys : System) (d : Dictionary) (depth rows count : ℕ) (old now : Option (List ℕ)) (i : ℕ)
+module _ (sys : System) (free : List ℕ) (d : Dictionary) (depth rows count : ℕ) (old now : Option (List ℕ)) (i : ℕ)
     (p : Polyhedron) (cone : ListedCone) (fixed left : List ℕ) (prefix : List Bool)
-    (s : IsInLoop sys d depth p cone fixed left prefix rows count old now i) where
+    (s : IsInLoop sys free d depth p cone fixed left prefix rows count old now i) where
   listable : IsListable cone
   listable = is_listable sys cone s.here.is_cone
 
   pub overflows : (k : ℕ) (o : Overflow) → CanPivot d i k → IsOverflow d i k o → Passes p o
-  overflows = next_row.overflows sys d i depth p cone fixed left s.marks s.here
+  overflows = next_row.overflows sys free d i depth p cone fixed left s.marks s.here
 
   -- ---- at a row
   module _ (row : i ≤ length sys.rows) where
     before : length s.marks < length cone.rows
-    before = next_row.before sys d i depth p cone fixed left s.marks s.here row
+    before = next_row.before sys free d i depth p cone fixed left s.marks s.here row
 
-    pub skipped : HasNoColumn d i → IsInLoop sys d depth p cone fixed left prefix rows count old now (i + 1)
+    pub skipped : HasNoColumn d free i → IsInLoop sys free d depth p cone fixed left prefix rows count old now (i + 1)
     skipped none = record {
       marks = s.marks ++ false ∷ [];
-      here = next_row.stays sys d i depth p cone fixed left s.marks s.here row;
+      here = next_row.stays sys free d i depth p cone fixed left s.marks s.here row;
       shown = s.shown;
       listed = loop_skips cone s.marks before prefix s.shown
-          (next_row.follows sys d i depth p cone fixed left s.marks s.here row none) s.listed;
+          (next_row.follows sys free d i depth p cone fixed left s.marks s.here row none) s.listed;
       written = s.written;
     }
 
-    module _ (k : ℕ) (column : IsColumnOf d i k) (new : Dictionary) (pivot : IsPivot d i k new) where
-      pub deeper : (less : ℕ) → suc less ≡ depth → IsAt sys new (i + 1) less p cone fixed (without k left) (s.marks ++ true ∷ [])
-      deeper = next_row.goes_deeper sys d i depth p cone fixed left s.marks s.here row k column new pivot
+    module _ (k : ℕ) (column : IsColumnOf d free i k) (new : Dictionary) (pivot : IsPivot d i k new) where
+      pub deeper : (less : ℕ) → suc less ≡ depth →
+          IsAt sys free new (i + 1) less p cone fixed (without k left) (s.marks ++ true ∷ [])
+      deeper = next_row.goes_deeper sys free d i depth p cone fixed left s.marks s.here row k column new pivot
 
       is_new : IsNew cone.n (taken_at cone s.marks) (first_without_mark cone s.marks)
-      is_new = next_row.is_new sys d i depth p cone fixed left s.marks s.here row k column
+      is_new = next_row.is_new sys free d i depth p cone fixed left s.marks s.here row k column
 
       -- what the deeper dictionary writes
       module _ (less : ℕ) (e : suc less ≡ depth) (later : Option (List ℕ)) where
         abbrev Below : {E : Type 0} → Result Shown E → Type 0
-        Below result = WritesUnder sys new (i + 1) less count now later result
+        Below result = WritesUnder sys free new (i + 1) less count now later result
 
         rows_below : {E : Type 0} (result : Result Shown E) → Below result →
             WritesRows sys.kind count now later result (IsUnder cone (s.marks ++ true ∷ []))
         rows_below result w = w p cone fixed (without k left) (s.marks ++ true ∷ []) (deeper less e)
 
         pub goes_on : {E : Type 0} (x : Shown) → Below {E = E} (Ok x) →
-            IsInLoop sys d depth p cone fixed left prefix rows x.rows old later (i + 1)
+            IsInLoop sys free d depth p cone fixed left prefix rows x.rows old later (i + 1)
         goes_on x w =
             let more = (rows_below (Ok x) w).whole in
             record {
               marks = s.marks ++ false ∷ [];
-              here = next_row.stays sys d i depth p cone fixed left s.marks s.here row;
+              here = next_row.stays sys free d i depth p cone fixed left s.marks s.here row;
               shown = s.shown ++ more.0;
               listed = loop_takes cone s.marks before prefix s.shown more.0 is_new s.listed more.1;
               written = written_on sys.kind old now later rows count x.rows s.shown more.0 s.written more.2;
@@ -200,8 +204,8 @@ module _ (sys : System) (d : Dictionary) (depth rows count : ℕ) (old now : Opt
     whole = (
       s.shown,
       loop_ends cone listable prefix s.marks s.shown
-          (next_row.all_decided sys d i depth p cone fixed left s.marks s.here behind)
-          (next_row.too_short sys d i depth p cone fixed left s.marks s.here some) s.listed,
+          (next_row.all_decided sys free d i depth p cone fixed left s.marks s.here behind)
+          (next_row.too_short sys free d i depth p cone fixed left s.marks s.here some) s.listed,
       subst (λ n. HasWritten sys.kind old now rows n s.shown) (sym same) s.written,
     );
     part = tt;

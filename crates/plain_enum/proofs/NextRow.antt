@@ -1,17 +1,19 @@
 -- Where a dictionary stands at a prefix of rows: how many labels are left, and the next row, taken or not.
-use Rattle.std.proofs.Common.{◌≡◌, ◌≢◌, ⊎_elim, Bool, true, false, ℕ, suc, ◌+◌, ◌<◌, ◌≤◌, pos, List, [], ◌∷◌, ◌++◌, length, length-append, refl, sym, ap, ◌∙◌, subst, arith}
+use Rattle.std.proofs.Common.{◌≡◌, ◌≢◌, ◌↔◌, ⊎_elim, Bool, true, false, ℕ, suc, ◌+◌, ◌-◌, ◌<◌, ◌≤◌, pos, List, [], ◌∷◌, ◌++◌, length, length-append, get_or, refl, sym, ap, ◌∙◌, subst, arith}
 use Rattle.std.specs.List.{Contains}
-use Rattle.std.proofs.lemmas.List.Elements.{Contains-append_cases}
+use Rattle.std.proofs.lemmas.Bool.{false_from_ne_true, not_from_false}
+use Rattle.std.proofs.lemmas.List.{get_or-map}
+use Rattle.poly_num.specs.Vectors.{Vector, ◌·◌}
 use Rattle.poly_model.specs.declared.overflow.Overflow.{Overflow}
-use Rattle.poly_model.specs.Independence.{Follows, IsNew}
-use Rattle.poly_model.specs.Systems.{System, Polyhedron}
+use Rattle.poly_model.specs.Independence.{Vanish, Follows, IsNew}
+use Rattle.poly_model.specs.Systems.{Row, row_of, no_row, System, Polyhedron}
 use Rattle.poly_model.specs.Overflows.{Passes, IsPassing}
 use Rattle.poly_model.specs.Spaces.{IsSpaceOf, cone_space}
 use Rattle.poly_model.specs.Dictionaries.{Table, IsDictionary}
-use Rattle.linear_laws.proofs.Members.{Contains-nil}
 use Rattle.dictionary_laws.proofs.Members.{without}
 use Rattle.dictionary_laws.proofs.PhasePoints.{phase_points}
 use Rattle.dictionary.specs.Views.{Dictionary, CanPivot, IsPivot, IsOverflow, table_of}
+use Rattle.dictionary.specs.MainPhase.{stays_in}
 use Rattle.listing_laws.specs.ListedCone.{ListedCone}
 use Rattle.listing_laws.specs.Prefixes.{taken_at, next_row, labels_of}
 use Rattle.listing_laws.proofs.FirstLists.{length-taken, labels-with}
@@ -19,10 +21,12 @@ use Rattle.plain_enum.specs.Columns.{IsColumnOf, HasNoColumn}
 use Rattle.plain_enum.specs.Listed.{IsAt}
 use Rattle.plain_enum.specs.Standing.{parted, StandsAt}
 use Rattle.plain_enum.proofs.Counting.{length_of_cobasis}
-use Rattle.plain_enum.proofs.Parts.{in_third}
-use Rattle.plain_enum.proofs.RowsTaken.{as_many}
-use Rattle.plain_enum.proofs.Standings.{stands_dictionary, taken_within, new_by_entry, follows_by_entries}
-use Rattle.plain_enum.proofs.Steps.{pivot_takes, dictionary_stays}
+use Rattle.plain_enum.proofs.Parts.{in_first}
+use Rattle.plain_enum.proofs.RowsTaken.{as_many, vanish_at_taken}
+use Rattle.plain_enum.proofs.Standings.{stands_dictionary, new_by_entry, follows_by_entries}
+use Rattle.plain_enum.proofs.FixedLabels as fixed_labels
+use Rattle.plain_enum.proofs.FixedLabels.{FixedAre, row_stays, left_in_key, left_not_free}
+use Rattle.plain_enum.proofs.Steps.{only_leaving, pivot_takes, dictionary_stays}
 
 -- ---- how many labels are left
 count_left : (p : Polyhedron) (cone : ListedCone) (d : Dictionary) (fixed left : List ℕ) (marks : List Bool) →
@@ -32,8 +36,9 @@ count_left p cone d fixed left marks s =
     omega (arith, all, length-append fixed (labels_of marks ++ left), length-append (labels_of marks) left)
 
 -- ---- where a dictionary stands, and its next row
-module _ (sys : System) (d : Dictionary) (i depth : ℕ) (p : Polyhedron) (cone : ListedCone) (fixed left : List ℕ)
-    (marks : List Bool) (here : IsAt sys d i depth p cone fixed left marks) where
+module _ (sys : System) (free : List ℕ) (d : Dictionary) (i depth : ℕ) (p : Polyhedron)
+    (cone : ListedCone) (fixed left : List ℕ) (marks : List Bool)
+    (here : IsAt sys free d i depth p cone fixed left marks) where
   same_rows : length cone.rows ≡ length sys.rows
   same_rows =
       let rows = as_many p cone here.stands.over in
@@ -55,57 +60,96 @@ module _ (sys : System) (d : Dictionary) (i depth : ℕ) (p : Polyhedron) (cone 
     before = omega (arith, same_rows, here.next, row)
 
     -- the next row not taken
-    pub stays : IsAt sys d (i + 1) depth p cone fixed left (marks ++ false ∷ [])
+    pub stays : IsAt sys free d (i + 1) depth p cone fixed left (marks ++ false ∷ [])
     stays = record {
       file = here.file;
       is_cone = here.is_cone;
       phase = here.phase;
       stands = dictionary_stays p cone d fixed left marks here.stands before;
-      nothing_fixed = here.nothing_fixed;
+      fixed_are = here.fixed_are;
       next = omega (arith, length-append marks (false ∷ []), here.next);
       count = here.count;
     }
 
-    pub follows : HasNoColumn d i → Follows cone.n (taken_at cone marks) (next_row cone marks)
+    pub follows : HasNoColumn d free i → Follows cone.n (taken_at cone marks) (next_row cone marks)
     follows none =
         follows_by_entries p cone d fixed left marks here.stands before
         (λ k c. subst (λ j. Table.entry (table_of d) j k ≡ pos 0) here.next
-        (none k (here.stands.key.back k (in_third fixed (labels_of marks) left k c)) (here.stands.coordinates k c)))
+        (none k (left_in_key p cone d fixed left marks here.stands k c) (here.stands.coordinates k c)
+        (left_not_free p cone d fixed left marks here.stands sys.rows free here.fixed_are k c)))
 
-    is_left : (k : ℕ) → IsColumnOf d i k → Contains left k
+    is_left : (k : ℕ) → IsColumnOf d free i k → Contains left k
     is_left k column =
-        ⊎_elim
-        (λ f. absurd (Contains-nil k (subst (λ ks. Contains ks k) here.nothing_fixed f)))
-        (λ r. ⊎_elim
-        (λ t. absurd (
-        let low = taken_within p cone d fixed left marks here.stands k t in
-        let few = here.stands.over.few in
-        let high = column.coordinate in
-        omega (arith, as_many p cone here.stands.over)))
-        (λ l. l)
-        (Contains-append_cases (labels_of marks) left k r))
-        (Contains-append_cases fixed (labels_of marks ++ left) k (here.stands.key.there k column.inside))
+        fixed_labels.is_left p cone d fixed left marks here.stands sys.rows free here.fixed_are k
+        column.inside
+        column.coordinate column.not_free
 
-    pub is_new : (k : ℕ) → IsColumnOf d i k → IsNew cone.n (taken_at cone marks) (next_row cone marks)
+    pub is_new : (k : ℕ) → IsColumnOf d free i k → IsNew cone.n (taken_at cone marks) (next_row cone marks)
     is_new k column =
         new_by_entry p cone d fixed left marks here.stands before k (is_left k column)
         (λ z. column.nonzero (subst (λ j. Table.entry (table_of d) j k ≡ pos 0) (sym here.next) z))
 
+    -- a linear row is 0 wherever the base is, so where the next row has a column it is not linear
+    zero_if_linear : (row_of sys.rows i).linear ≡ true → (z : Vector) → length z ≡ cone.n → Vanish cone.base z →
+        next_row cone marks · z ≡ pos 0
+    zero_if_linear e z wide base =
+        ap (λ g. g · z)
+        (ap (λ gs. get_or gs (length marks) []) here.is_cone.rows
+        ∙ get_or-map (λ (r : Row). r.entries) sys.rows (length marks) no_row [] (omega (arith, same_rows, before))
+        ∙ ap (λ m. Row.entries (get_or sys.rows m no_row)) (omega (arith, here.next)))
+        ∙ ((here.is_cone.fixed z wide).0 base).1 (i - 1) no_row (omega (arith, here.next, row)) e
+
+    not_linear : (k : ℕ) → IsColumnOf d free i k → (row_of sys.rows i).linear ≡ false
+    not_linear k column =
+        let new = is_new k column in
+        false_from_ne_true (row_of sys.rows i).linear
+        (λ e. new.3 (zero_if_linear e new.0 new.1 ((vanish_at_taken cone marks new.0 here.stands.within).0 new.2).0))
+
     -- the next row taken
-    module _ (k : ℕ) (column : IsColumnOf d i k) (new : Dictionary) (pivot : IsPivot d i k new) where
+    module _ (k : ℕ) (column : IsColumnOf d free i k) (new : Dictionary) (pivot : IsPivot d i k new) where
       taken : StandsAt p cone new fixed (without k left) (marks ++ true ∷ [])
       taken =
           pivot_takes p cone d new fixed left marks here.stands k (is_left k column)
           (subst (λ j. IsPivot d j k new) here.next pivot) before
 
+      low : i < 8192
+      low = let few = here.stands.over.few in omega (arith, as_many p cone here.stands.over, before, here.next)
+
+      -- the row that enters is neither fixed nor linear
+      not_fixed : Contains fixed i → ⊥
+      not_fixed f =
+          let old = here.stands.key.back i (in_first fixed (labels_of marks) left i f) in
+          let same : i ≡ k =
+          here.next ∙ only_leaving p cone d new fixed left marks here.stands k (is_left k column)
+          (subst (λ j. IsPivot d j k new) here.next pivot) (subst (Contains d.key) here.next old) in
+          let high = column.coordinate in
+          omega (arith, low)
+
+      entering_stays : stays_in sys.rows free i ≡ true
+      entering_stays =
+          row_stays sys.rows free i low ∙ not_from_false (row_of sys.rows i).linear (not_linear k column)
+
+      entering : Contains fixed i ↔ (stays_in sys.rows free i ≡ false)
+      entering = (
+        λ f. absurd (not_fixed f),
+        λ e. let both : true ≡ false = sym entering_stays ∙ e in absurd (cc),
+      )
+
+      fixed_now : FixedAre sys.rows free new fixed
+      fixed_now j c =
+          ⊎_elim
+          (λ (e : j ≡ i). subst (λ m. Contains fixed m ↔ (stays_in sys.rows free m ≡ false)) (sym e) entering)
+          (λ (h : Contains d.key j × (j ≢ k)). here.fixed_are j h.0)
+          (pivot.key.exchanges.only j c)
+
       pub goes_deeper : (less : ℕ) → suc less ≡ depth →
-          IsAt sys new (i + 1) less p cone fixed (without k left) (marks ++ true ∷ [])
+          IsAt sys free new (i + 1) less p cone fixed (without k left) (marks ++ true ∷ [])
       goes_deeper less e = record {
         file = here.file;
         is_cone = here.is_cone;
         phase = pivot.phase ∙ here.phase;
         stands = taken;
-        nothing_fixed = here.nothing_fixed;
+        fixed_are = fixed_now;
         next = omega (arith, length-append marks (true ∷ []), here.next);
         count =
             let all = count_left p cone d fixed left marks here.stands in

@@ -1,5 +1,7 @@
 -- Lists of labels in parts: members, and each label once.
-use Rattle.std.proofs.Common.{⊎_elim, ℕ, List, [], ◌∷◌, ◌++◌}
+use Rattle.std.proofs.Common.{◌≡◌, ⊎_elim, ℕ, ◌+◌, ◌<◌, ◌≤◌, List, [], ◌∷◌, ◌++◌, sym, ap, subst, ◌∙◌, get_or, arith}
+use Rattle.std.proofs.lemmas.Bool.{cases_lt}
+use Rattle.std.proofs.lemmas.List.{get_or_default}
 use Rattle.std.specs.List.{Contains}
 use Rattle.std.proofs.lemmas.List.Elements.{Contains-append_left, Contains-append_right, Contains-append_cases}
 use Rattle.linear_laws.proofs.Members.{Contains-nil, Contains-first, Contains-later}
@@ -46,3 +48,13 @@ in_second xs ys zs k c = Contains-append_right xs (ys ++ zs) k (Contains-append_
 
 pub in_third : (xs ys zs : List ℕ) (k : ℕ) → Contains zs k → Contains (xs ++ (ys ++ zs)) k
 in_third xs ys zs k c = Contains-append_right xs (ys ++ zs) k (Contains-append_right ys zs k c)
+
+-- ---- up to a place
+-- a fact of the elements before place i and of that at it
+pub with_next : (P : ℕ → Type 0) (xs : List ℕ) (i : ℕ) → ((k : ℕ) (c : Contains xs k) → c.0 < i → P k) →
+    P (get_or xs i 0) → (k : ℕ) (c : Contains xs k) → c.0 < i + 1 → P k
+with_next P xs i h p k c l =
+    ⊎_elim (h k c)
+    (λ (m : i ≤ c.0). let e : c.0 ≡ i = omega arith in
+    subst P (ap (λ j. get_or xs j 0) (sym e) ∙ get_or_default xs c.0 0 k c.1 ∙ c.2) p)
+    (cases_lt c.0 i)

@@ -1,4 +1,4 @@
--- What is shown where the dictionary stands and one label is left: the last label of the key is the one that is left.
+-- What is shown where the dictionary stands and one label is left: the one coordinate of the key that is not free.
 use Rattle.std.proofs.Common.{◌≡◌, ⊎_elim, Bool, ℕ, ◌-◌, ◌^◌, ◌<◌, ◌≤◌, List, [], ◌∷◌, length, map, refl, sym, ap, subst, ◌∙◌, arith, append-nil, Option, Ok, Err}
 use Rattle.std.specs.List.{Contains, flat_map, range_with_len}
 use Rattle.std.specs.Io.KnownBytes.{Appends}
@@ -18,16 +18,14 @@ use Rattle.dictionary.specs.Views.{Dictionary}
 use Rattle.hull_lift.specs.Facets.{constant_label}
 use Rattle.listing_laws.specs.ListedCone.{ListedCone, IsConeOf}
 use Rattle.listing_laws.specs.Lists.{Lists}
-use Rattle.listing_laws.specs.Prefixes.{labels_of, IsUnder}
+use Rattle.listing_laws.specs.Prefixes.{IsUnder}
 use Rattle.plain_enum.specs.declared.side.Side.{Side}
 use Rattle.plain_enum.specs.declared.answers.Shown.{Shown}
-use Rattle.plain_enum.specs.Columns.{IsLastLabel}
+use Rattle.plain_enum.specs.Columns.{IsLeftCoordinate, LeavesNoCoordinate}
 use Rattle.plain_enum.specs.Shown.{IsShownOn, primitive_column, vector_on}
 use Rattle.plain_enum.specs.Listed.{IsAt, counted, WritesRows}
 use Rattle.plain_enum.specs.Standing.{StandsAt, LeavesColumn}
-use Rattle.plain_enum.proofs.Parts.{in_third}
-use Rattle.plain_enum.proofs.RowsTaken.{as_many}
-use Rattle.plain_enum.proofs.Standings.{taken_within}
+use Rattle.plain_enum.proofs.FixedLabels.{FixedAre, left_in_key, left_not_free, is_left}
 use Rattle.plain_enum.proofs.OneLeft.{one_is_left}
 use Rattle.plain_enum.proofs.ColumnShown.{one_on, none_on}
 
@@ -68,34 +66,29 @@ one_only [] e = absurd (omega (arith, e))
 one_only (k ∷ []) e = (k, refl)
 one_only (k ∷ j ∷ ks) e = absurd (omega (arith, e))
 
-module _ (sys : System) (d : Dictionary) (from : ℕ) (p : Polyhedron) (cone : ListedCone) (fixed left : List ℕ)
-    (marks : List Bool) (at : IsAt sys d from 0 p cone fixed left marks) where
+module _ (sys : System) (free : List ℕ) (d : Dictionary) (from : ℕ) (p : Polyhedron)
+    (cone : ListedCone) (fixed left : List ℕ) (marks : List Bool)
+    (at : IsAt sys free d from 0 p cone fixed left marks) where
   abbrev k : ℕ
   k = (one_only left at.count).0
 
-  stands : StandsAt p cone d [] (k ∷ []) marks
-  stands =
-      subst (λ ks. StandsAt p cone d [] ks marks) (one_only left at.count).1
-      (subst (λ ks. StandsAt p cone d ks left marks) at.nothing_fixed at.stands)
+  stands : StandsAt p cone d fixed (k ∷ []) marks
+  stands = subst (λ ks. StandsAt p cone d fixed ks marks) (one_only left at.count).1 at.stands
 
   in_key : Contains d.key k
-  in_key = stands.key.back k (in_third [] (labels_of marks) (k ∷ []) k (Contains-first k []))
+  in_key = left_in_key p cone d fixed (k ∷ []) marks stands k (Contains-first k [])
 
-  pub has_label : d.key ≡ [] → ⊥
-  has_label e = Contains-nil k (subst (λ ks. Contains ks k) e in_key)
+  pub has_coordinate : LeavesNoCoordinate d free → ⊥
+  has_coordinate none =
+      none k in_key (stands.coordinates k (Contains-first k []))
+      (left_not_free p cone d fixed (k ∷ []) marks stands sys.rows free at.fixed_are k (Contains-first k []))
 
-  -- a label of a row taken is no coordinate's, so the last label is the one that is left
-  last_is_left : (col : ℕ) → IsLastLabel d col → col ≡ k
-  last_is_left col l =
-      ⊎_elim
-      (λ c. absurd (
-      let high = stands.coordinates k (Contains-first k []) in
-      let above = l.last k in_key in
-      let low = taken_within p cone d [] (k ∷ []) marks stands col c in
-      let few = stands.over.few in
-      omega (arith, as_many p cone stands.over)))
-      (λ c. ⊎_elim (λ e. sym e) (λ n. absurd (Contains-nil col n)) (Contains-cons_cases col k [] c))
-      (Contains-append_cases (labels_of marks) (k ∷ []) col (stands.key.there col l.inside))
+  -- a coordinate of the key that is not free is the one that is left
+  is_the_one : (col : ℕ) → IsLeftCoordinate d free col → col ≡ k
+  is_the_one col l =
+      ⊎_elim (λ e. sym e) (λ n. absurd (Contains-nil col n))
+      (Contains-cons_cases col k []
+      (is_left p cone d fixed (k ∷ []) marks stands sys.rows free at.fixed_are col l.inside l.coordinate l.not_free))
 
   left_below : p.n ≤ 256 → k < constant_label
   left_below narrow =
@@ -109,27 +102,30 @@ module _ (sys : System) (d : Dictionary) (from : ℕ) (p : Polyhedron) (cone : L
       (Contains-append_cases (range_with_len 1 (length (cone_of p).rows)) (map coordinate_label (range_with_len 0 (p.n - 0))) k
       (is_label (cone_space p) d.key stands.dictionary.dictionary.cobasis k in_key))
 
-  module _ (narrow : sys.n ≤ 256) (col : ℕ) (last : IsLastLabel d col) where
+  module _ (narrow : sys.n ≤ 256) (col : ℕ) (is : IsLeftCoordinate d free col) where
     same_width : sys.n ≡ p.n
     same_width = ap (λ (s : System). s.n) at.file
 
     leaves : LeavesColumn p cone d marks k
-    leaves = one_is_left p cone d [] k marks stands (left_below (subst (λ n. n ≤ 256) same_width narrow))
+    leaves = one_is_left p cone d fixed k marks stands (left_below (subst (λ n. n ≤ 256) same_width narrow))
+
+    are : FixedAre (cone_of p).rows free d fixed
+    are = subst (λ (s : System). FixedAre s.rows free d fixed) at.file at.fixed_are
 
     listed : IsConeOf (cone_of p) cone
     listed = subst (λ s. IsConeOf s cone) at.file at.is_cone
 
     pub nothing_here : ((side : Side) → IsShownOn sys d col side → ⊥) → Lists (IsUnder cone marks) []
     nothing_here n =
-        none_on p cone d k marks stands leaves listed
+        none_on p cone free d fixed k marks stands are leaves listed
         (λ side h. n side (subst (λ s. IsShownOn s d col side) (sym at.file)
-        (subst (λ j. IsShownOn (cone_of p) d j side) (sym (last_is_left col last)) h)))
+        (subst (λ j. IsShownOn (cone_of p) d j side) (sym (is_the_one col is)) h)))
 
     pub one_here : (side : Side) → IsShownOn sys d col side →
         Lists (IsUnder cone marks) (vector_on side (primitive_column d col sys.n) ∷ [])
     one_here side h =
         subst (λ n. Lists (IsUnder cone marks) (vector_on side (primitive_column d col n) ∷ [])) (sym same_width)
-        (subst (λ j. Lists (IsUnder cone marks) (vector_on side (primitive_column d j p.n) ∷ [])) (sym (last_is_left col last))
-        (one_on p cone d k marks stands leaves listed side
-        (subst (λ j. IsShownOn (cone_of p) d j side) (last_is_left col last)
+        (subst (λ j. Lists (IsUnder cone marks) (vector_on side (primitive_column d j p.n) ∷ [])) (sym (is_the_one col is))
+        (one_on p cone free d fixed k marks stands are leaves listed side
+        (subst (λ j. IsShownOn (cone_of p) d j side) (is_the_one col is)
         (subst (λ s. IsShownOn s d col side) at.file h))))

@@ -68,7 +68,7 @@ module _ (p : Polyhedron) (cone : ListedCone) (d new : Dictionary) (fixed left :
   is = pivot.dictionary (cone_space p) (phase_points p).cone s.dictionary
 
   -- ---- the row that enters was not in the key, but as the label that leaves
-  only_leaving : Contains d.key r → r ≡ k
+  pub only_leaving : Contains d.key r → r ≡ k
   only_leaving c = ⊎_elim (λ (e : r ≡ k). e) (λ (n : r ≢ k). absurd (by n (dual_over p d.key s.dictionary.dictionary.cobasis k old)))
       (cases_eq r k)
     where

@@ -20,7 +20,7 @@ TellsPoint cone marks true = HasPointUnder cone marks
 TellsPoint cone marks false = HasPointUnder cone marks → ⊥
 
 -- wherever the dictionary stands, it is told whether a vector under the prefix has a positive first entry
-abbrev pub TellsUnder : System → Dictionary → ℕ → ℕ → Bool → Type 0
-TellsUnder sys d from depth found =
+abbrev pub TellsUnder : System → List ℕ → Dictionary → ℕ → ℕ → Bool → Type 0
+TellsUnder sys free d from depth found =
     (p : Polyhedron) (cone : ListedCone) (fixed left : List ℕ) (marks : List Bool) →
-    IsAt sys d from depth p cone fixed left marks → TellsPoint cone marks found
+    IsAt sys free d from depth p cone fixed left marks → TellsPoint cone marks found

@@ -1,6 +1,6 @@
 -- What the lister writes under a prefix of rows.
-use Rattle.std.specs.Prelude.{◌≡◌, ℕ, suc, ◌+◌, ◌-◌, ◌^◌, min, Bool, List, [], length, Option, Result, IfOk, OnErr}
-use Rattle.std.specs.List.{flat_map}
+use Rattle.std.specs.Prelude.{◌≡◌, ◌↔◌, false, ℕ, suc, ◌+◌, ◌-◌, ◌^◌, min, Bool, List, length, Option, Result, IfOk, OnErr}
+use Rattle.std.specs.List.{Contains, flat_map}
 use Rattle.std.specs.Io.KnownBytes.{Appends}
 use Rattle.poly_num.specs.Vectors.{Vector}
 use Rattle.poly_model.specs.declared.kind.Kind.{Kind}
@@ -9,6 +9,7 @@ use Rattle.poly_model.specs.Systems.{System, Polyhedron, cone_of}
 use Rattle.poly_model.specs.ListingText.{row_text}
 use Rattle.poly_io.specs.Written.{AppendsPart}
 use Rattle.dictionary.specs.Views.{Dictionary}
+use Rattle.dictionary.specs.MainPhase.{stays_in}
 use Rattle.listing_laws.specs.ListedCone.{ListedCone, IsConeOf}
 use Rattle.listing_laws.specs.Lists.{Lists, Begins}
 use Rattle.listing_laws.specs.Prefixes.{IsUnder}
@@ -16,13 +17,14 @@ use Rattle.plain_enum.specs.declared.answers.Shown.{Shown}
 use Rattle.plain_enum.specs.Standing.{StandsAt}
 
 -- the dictionary stands, in the phase of the cone, at a prefix of the rows before `from`, with so many coordinates
--- left beside one; nothing is fixed
-pub record IsAt (sys : System) (d : Dictionary) (from depth : ℕ) (p : Polyhedron) (cone : ListedCone) (fixed left : List ℕ) (marks : List Bool) : Type 0 where
+-- left beside one; of its key those labels are fixed that do not stay: linear rows, and coordinates that are free
+pub record IsAt (sys : System) (free : List ℕ) (d : Dictionary) (from depth : ℕ) (p : Polyhedron)
+    (cone : ListedCone) (fixed left : List ℕ) (marks : List Bool) : Type 0 where
   pub file : sys ≡ cone_of p
   pub is_cone : IsConeOf sys cone
   pub phase : d.phase ≡ Cone
   pub stands : StandsAt p cone d fixed left marks
-  pub nothing_fixed : fixed ≡ []
+  pub fixed_are : (k : ℕ) → Contains d.key k → Contains fixed k ↔ (stays_in sys.rows free k ≡ false)
   pub next : from ≡ length marks + 1
   pub count : length left ≡ suc depth
 
@@ -42,10 +44,11 @@ pub record WritesRows {E : Type 0} (kind : Kind) (rows : ℕ) (old new : Option 
   pub part : OnErr result ((shown : List Vector) × Begins P shown × AppendsPart old new (flat_map (row_text kind) shown))
 
 -- wherever the dictionary stands, what is under the prefix is written
-abbrev pub WritesUnder : {E : Type 0} → System → Dictionary → ℕ → ℕ → ℕ → Option (List ℕ) → Option (List ℕ) → Result Shown E → Type 0
-WritesUnder sys d from depth rows old new result =
+abbrev pub WritesUnder : {E : Type 0} → System → List ℕ → Dictionary → ℕ → ℕ → ℕ →
+    Option (List ℕ) → Option (List ℕ) → Result Shown E → Type 0
+WritesUnder sys free d from depth rows old new result =
     (p : Polyhedron) (cone : ListedCone) (fixed left : List ℕ) (marks : List Bool) →
-    IsAt sys d from depth p cone fixed left marks → WritesRows sys.kind rows old new result (IsUnder cone marks)
+    IsAt sys free d from depth p cone fixed left marks → WritesRows sys.kind rows old new result (IsUnder cone marks)
 
 -- the other one has as many rows and columns
 pub record HasShapeOf (d other : Dictionary) : Type 0 where

@@ -9,11 +9,11 @@ use Rattle.plain_enum.specs.declared.side.Side.{Side}
 use Rattle.plain_enum.specs.declared.side.Side.TheVariants.{Along, Against}
 use Rattle.plain_enum.specs.Columns.{IsOnSide, IsFirst}
 
--- the column is shown on this side: the cone lies there, the rows of the cobasis are the first list, and the column
--- is one that is shown
+-- the column is shown on this side: the cone lies there, the rows of the cobasis that are not linear are the first
+-- list, and the column is one that is shown
 pub record IsShownOn (sys : System) (d : Dictionary) (col : ℕ) (side : Side) : Type 0 where
   pub on_side : IsOnSide d (length sys.rows) col side
-  pub first : IsFirst d (length sys.rows) col
+  pub first : IsFirst sys.rows d (length sys.rows) col
   pub shown : IsShownAt sys d col
 
 -- the vector of a column without common divisor

@@ -16,7 +16,7 @@ ghost use Rattle.plain_enum.specs.Plain.{IsPlain};
 use crate::begin::{Beginning, at_coordinates};
 use crate::list::take_row;
 use crate::shown::{shown_side, write_direction};
-use crate::side::{column_of, last_coordinate};
+use crate::side::{column_of, left_coordinate};
 use dictionary::Dict;
 use poly_model::{Label, Overflow, System};
 use poly_num::Num;
@@ -47,21 +47,21 @@ pub fn feasible_plain(alloc: Global, sys: &System) -> Result<bool, FeasibleStop>
         mut deeper,
         mut vector,
     } = begun;
-    match has_point_under(sys, &at, &mut deeper, 1, &mut vector) {
+    match has_point_under(sys, &[], &at, &mut deeper, 1, &mut vector) {
         Ok(found) => Ok(found),
         Err(overflow) => Err(FeasibleStop::Overflow(overflow)),
     }
 }
 
 // Whether the direction that is left is shown, and its vector has a positive first entry.
-fn shows_point(sys: &System, at: &Dict, from: u32, vector: &mut [Num]) -> bool
+fn shows_point(sys: &System, free: &[u32], at: &Dict, from: u32, vector: &mut [Num]) -> bool
     requires rows { HasRows (length sys.now.rows) at.now }
     requires vector { length vector.old ≡ sys.now.n }
-    ensures tells { TellsUnder sys.now at.now from 0 result }
+    ensures tells { TellsUnder sys.now free.now at.now from 0 result }
     ensures vector { length vector.new ≡ sys.now.n }
 {
     let _n = sys.n();
-    let Some(col) = last_coordinate(at) else {
+    let Some(col) = left_coordinate(at, free) else {
         return false;
     };
     let Some(side) = shown_side(sys, at, col) else {
@@ -80,10 +80,12 @@ fn starts_positive(vector: &[Num]) -> bool
 }
 
 /// Whether a vector under a prefix of rows has a positive first entry: one whose first list of tight rows has, of the
-/// rows before the label `from`, exactly the ones that `at` has in its cobasis. `deeper` has a dictionary of the same
-/// shape for each further row that a list takes; what they hold is written over, and so is `vector`.
+/// rows before the label `from`, exactly the ones that `at` has in its cobasis, beside the labels that are fixed there:
+/// linear rows, and coordinates that are free. `free` are the free columns, ascending. `deeper` has a dictionary of the
+/// same shape for each further row that a list takes; what they hold is written over, and so is `vector`.
 pub(crate) fn has_point_under(
     sys: &System,
+    free: &[u32],
     at: &Dict,
     deeper: &mut [Dict],
     from: u32,
@@ -93,21 +95,21 @@ pub(crate) fn has_point_under(
     requires from { 0 < from }
     requires shapes { All (HasShapeOf at.now) deeper.old }
     requires vector { length vector.old ≡ sys.now.n }
-    ensures tells { IfOk result (TellsUnder sys.now at.now from (length deeper.old)) }
+    ensures tells { IfOk result (TellsUnder sys.now free.now at.now from (length deeper.old)) }
     ensures passes { (o : Passed) → IsErrOf result o → (p : Polyhedron) (cone : ListedCone) (fixed left : List ℕ) (marks : List Bool) →
-        IsAt sys.now at.now from (length deeper.old) p cone fixed left marks → Passes p o }
+        IsAt sys.now free.now at.now from (length deeper.old) p cone fixed left marks → Passes p o }
     ensures shapes { All (HasShapeOf at.now) deeper.new }
     ensures depth { length deeper.new ≡ length deeper.old }
     ensures vector { length vector.new ≡ sys.now.n }
 {
     match deeper.split_first_mut() {
-        None => Ok(shows_point(sys, at, from, vector)),
+        None => Ok(shows_point(sys, free, at, from, vector)),
         Some((next, others)) => {
             'rows: for i in from..sys.rows() + 1 {
                 let row = Label(i as u16);
-                if let Some(col) = column_of(at, row) {
+                if let Some(col) = column_of(at, free, row) {
                     take_row(at, row, col, next)?;
-                    if has_point_under(sys, next, others, i + 1, vector)? {
+                    if has_point_under(sys, free, next, others, i + 1, vector)? {
                         return Ok(true);
                     }
                 }

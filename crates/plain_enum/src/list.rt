@@ -13,16 +13,17 @@ ghost use Rattle.plain_enum.specs.Listed.{WritesUnder, HasShapeOf, IsAt};
 
 use crate::answers::{PlainStop, Shown};
 use crate::shown::{shown_side, write_direction};
-use crate::side::{column_of, last_coordinate};
+use crate::side::{column_of, left_coordinate};
 use dictionary::Dict;
 use poly_io::{Sink, WriteFault};
 use poly_model::{Label, Overflow, System};
 use poly_num::Num;
 
-/// Shows the direction that is left, if its column is shown on some side. `from` is the label of the first row
-/// that is not decided yet.
+/// Shows the direction that is left, if its column is shown on some side. `free` are the free columns, ascending;
+/// `from` is the label of the first row that is not decided yet.
 pub fn show<S: Sink>(
     sys: &System,
+    free: &[u32],
     at: &Dict,
     from: u32,
     vector: &mut [Num],
@@ -32,7 +33,8 @@ pub fn show<S: Sink>(
     requires rows { HasRows (length sys.now.rows) at.now }
     requires vector { length vector.old ≡ sys.now.n }
     requires kind { shown.listing ≡ sys.now.kind }
-    ensures written { WritesUnder sys.now at.now from 0 shown.rows (S.written out.old) (S.written out.new) result }
+    ensures written { WritesUnder sys.now free.now at.now from 0 shown.rows
+        (S.written out.old) (S.written out.new) result }
     ensures passes { (o : Passed) → IsErrOf result (PlainStop.Overflow o) → ⊥ }
     ensures memory { IsErrOf result PlainStop.Memory → ⊥ }
     ensures vector { length vector.new ≡ sys.now.n }
@@ -41,7 +43,7 @@ pub fn show<S: Sink>(
     ensures fault { IsErrOf result PlainStop.WriteFault → Rose (S.faults out.old) (S.faults out.new) }
 {
     let _n = sys.n();
-    let Some(col) = last_coordinate(at) else {
+    let Some(col) = left_coordinate(at, free) else {
         return Ok(shown);
     };
     let Some(side) = shown_side(sys, at, col) else {
@@ -72,10 +74,12 @@ pub(crate) fn take_row(at: &Dict, row: Label, col: Label, next: &mut Dict) -> Re
 }
 
 /// Shows the vectors under a prefix of rows: those whose first list of tight rows has, of the rows before the label
-/// `from`, exactly the ones that `at` has in its cobasis. `deeper` has a dictionary of the same shape for each further
-/// row that a list takes; what they hold is written over.
+/// `from`, exactly the ones that `at` has in its cobasis, beside the labels that are fixed there: linear rows, and
+/// coordinates that are free. `free` are the free columns, ascending. `deeper` has a dictionary of the same shape for
+/// each further row that a list takes; what they hold is written over.
 pub fn list_under<S: Sink>(
     sys: &System,
+    free: &[u32],
     at: &Dict,
     deeper: &mut [Dict],
     from: u32,
@@ -88,9 +92,10 @@ pub fn list_under<S: Sink>(
     requires shapes { All (HasShapeOf at.now) deeper.old }
     requires vector { length vector.old ≡ sys.now.n }
     requires kind { shown.listing ≡ sys.now.kind }
-    ensures written { WritesUnder sys.now at.now from (length deeper.old) shown.rows (S.written out.old) (S.written out.new) result }
+    ensures written { WritesUnder sys.now free.now at.now from (length deeper.old) shown.rows
+        (S.written out.old) (S.written out.new) result }
     ensures passes { (o : Passed) → IsErrOf result (PlainStop.Overflow o) → (p : Polyhedron) (cone : ListedCone) (fixed left : List ℕ) (marks : List Bool) →
-        IsAt sys.now at.now from (length deeper.old) p cone fixed left marks → Passes p o }
+        IsAt sys.now free.now at.now from (length deeper.old) p cone fixed left marks → Passes p o }
     ensures memory { IsErrOf result PlainStop.Memory → ⊥ }
     ensures shapes { All (HasShapeOf at.now) deeper.new }
     ensures depth { length deeper.new ≡ length deeper.old }
@@ -100,16 +105,16 @@ pub fn list_under<S: Sink>(
     ensures fault { IsErrOf result PlainStop.WriteFault → Rose (S.faults out.old) (S.faults out.new) }
 {
     match deeper.split_first_mut() {
-        None => show(sys, at, from, vector, shown, out),
+        None => show(sys, free, at, from, vector, shown, out),
         Some((next, others)) => {
             let mut shown = shown;
             'rows: for i in from..sys.rows() + 1 {
                 let row = Label(i as u16);
-                if let Some(col) = column_of(at, row) {
+                if let Some(col) = column_of(at, free, row) {
                     if let Err(overflow) = take_row(at, row, col, next) {
                         return Err(PlainStop::Overflow(overflow));
                     }
-                    shown = list_under(sys, next, others, i + 1, vector, shown, out)?;
+                    shown = list_under(sys, free, next, others, i + 1, vector, shown, out)?;
                 }
             }
             Ok(shown)

@@ -55,10 +55,11 @@ fn print<S: Sink>(
     requires rows { HasRows (length sys.now.rows) at.now }
     requires shapes { All (HasShapeOf at.now) deeper.old }
     requires vector { length vector.old ≡ sys.now.n }
-    ensures written { (p : Polyhedron) (cone : ListedCone) (left : List ℕ) → IsAt sys.now at.now 1 (length deeper.old) p cone [] left [] →
-        AreLines (cone_of p) [] → WritesListing p (S.written out.old) (S.written out.new) result }
+    ensures written { (p : Polyhedron) (cone : ListedCone) (left : List ℕ) →
+        IsAt sys.now [] at.now 1 (length deeper.old) p cone [] left [] → AreLines (cone_of p) [] →
+        WritesListing p (S.written out.old) (S.written out.new) result }
     ensures overflow { (o : Passed) → IsErrOf result (PlainStop.Overflow o) → (p : Polyhedron) (cone : ListedCone) (left : List ℕ) →
-        IsAt sys.now at.now 1 (length deeper.old) p cone [] left [] → Passes p o }
+        IsAt sys.now [] at.now 1 (length deeper.old) p cone [] left [] → Passes p o }
     ensures memory { IsErrOf result PlainStop.Memory → ⊥ }
     ensures later { S.faults out.old ≤ S.faults out.new }
     ensures fault { IsErrOf result PlainStop.WriteFault → Rose (S.faults out.old) (S.faults out.new) }
@@ -69,7 +70,7 @@ fn print<S: Sink>(
         Err(WriteFault) => return Err(PlainStop::WriteFault),
     };
     let begun = Shown { listing, rows: 0 };
-    let Shown { listing, rows } = list_under(sys, at, deeper, 1, vector, begun, out)?;
+    let Shown { listing, rows } = list_under(sys, &[], at, deeper, 1, vector, begun, out)?;
     match listing.finish(out) {
         Ok(()) => Ok(Listed { rows, lines: 0 }),
         Err(WriteFault) => Err(PlainStop::WriteFault),

@@ -20,7 +20,7 @@ pub fn shown_side(sys: &System, at: &Dict, col: Label) -> Option<Side>
 {
     let rows = sys.rows();
     let side = side_of(at, rows, col)?;
-    if is_shown(sys, at, col) && is_first(at, rows, col) {
+    if is_shown(sys, at, col) && is_first(sys, at, rows, col) {
         Some(side)
     } else {
         None

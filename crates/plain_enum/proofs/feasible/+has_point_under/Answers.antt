@@ -18,7 +18,7 @@ rows-init t c =
       shapes = shapes_rest c.args.at.now c.in-Some.next.now c.in-Some.others.now all;
       depth = c.in-Some.ensures.cases.1;
       vector = c.requires.vector;
-      told = loop_start c.args.sys.now c.args.at.now c.args.from (length c.args.deeper.now);
+      told = loop_start c.args.sys.now c.args.free.now c.args.at.now c.args.from (length c.args.deeper.now);
     }
 
 pub returns-in_err-take_row-in-Some-clause-passes :
@@ -26,7 +26,7 @@ pub returns-in_err-take_row-in-Some-clause-passes :
 returns-in_err-take_row-in-Some-clause-passes t c o e p cone fixed left marks here =
     let q = err_from_is_err_and c.from_residual.result c.from_residual.ensures.1 in
     let same : c.in_err-take_row-in-Some.field-0.0 ≡ o = sym q.2 ∙ err_of c.from_residual.result o q.0 e q.1 in
-    passes_now c.args.sys.now c.args.at.now (length c.args.deeper.now) c.rows.i p cone fixed left marks
+    passes_now c.args.sys.now c.args.free.now c.args.at.now (length c.args.deeper.now) c.rows.i p cone fixed left marks
     (c.rows.invariant.told p cone fixed left marks here) c.in-Some-column_of.col.0 o c.in-Some-column_of.ensures.pivots
     (subst (λ (v : Overflow). IsOverflow c.args.at.now c.rows.i c.in-Some-column_of.col.0 v) same
     c.in_err-take_row-in-Some.ensures.passes)
@@ -61,18 +61,19 @@ returns-in_err-has_point_under-in-Some-clause-passes t c o e p cone fixed left m
     let q = err_from_is_err_and r.result r.ensures.1 in
     let same : c.in_err-has_point_under-in-Some.field-0.0 ≡ o = sym q.2 ∙ err_of r.result o q.0 e q.1 in
     c.in_err-has_point_under-in-Some.ensures.passes o (ap (λ v. Err v) same) p cone fixed _ _
-    (below c.args.sys.now c.args.at.now (length c.args.deeper.now) c.rows.i p cone fixed left marks
+    (below c.args.sys.now c.args.free.now c.args.at.now (length c.args.deeper.now) c.rows.i p cone fixed left marks
     (c.rows.invariant.told p cone fixed left marks here) (omega (arith, c.rows-test.true, c.rows-i-end.ensures.value))
     c.in-Some-column_of.col.0 c.in-Some-column_of.ensures.some c.take_row.new.next
     c.in_ok-take_row-in-Some.ensures.pivoted (length c.rows.others) (omega (arith, c.rows.invariant.depth)))
 
 pub returns-then-branch-clause-tells : goal.returns-then-branch-clause-tells
 returns-then-branch-clause-tells t c p cone fixed left marks here =
-    finds c.args.sys.now c.args.at.now (length c.args.deeper.now) c.rows.i p cone fixed left marks
+    finds c.args.sys.now c.args.free.now c.args.at.now (length c.args.deeper.now) c.rows.i p cone fixed left marks
     (c.rows.invariant.told p cone fixed left marks here) (omega (arith, c.rows-test.true, c.rows-i-end.ensures.value))
     c.in-Some-column_of.col.0 c.in-Some-column_of.ensures.some c.take_row.new.next
     c.in_ok-take_row-in-Some.ensures.pivoted (length c.rows.others) (omega (arith, c.rows.invariant.depth))
-    (subst (TellsUnder c.args.sys.now c.take_row.new.next (c.rows.i + 1) (length c.rows.others)) c.if-branch.true
+    (subst (TellsUnder c.args.sys.now c.args.free.now c.take_row.new.next (c.rows.i + 1) (length c.rows.others))
+    c.if-branch.true
     c.in_ok-has_point_under-in-Some.ensures.tells)
 
 pub rows-preserved : goal.rows-preserved
@@ -86,11 +87,13 @@ rows-preserved t c =
         depth = omega (arith, ap length w.others-is, w.in_ok-has_point_under-in-Some.ensures.depth, c.rows.invariant.depth);
         vector = ap length w.vector-is ∙ w.in_ok-has_point_under-in-Some.ensures.vector;
         told = λ p cone fixed left prefix here.
-            goes_on c.args.sys.now c.args.at.now (length c.args.deeper.now) c.rows.i p cone fixed left prefix
+            goes_on c.args.sys.now c.args.free.now c.args.at.now (length c.args.deeper.now) c.rows.i
+            p cone fixed left prefix
             (c.rows.invariant.told p cone fixed left prefix here) (omega (arith, c.rows-test.true, c.rows-i-end.ensures.value))
             w.in-Some-column_of.col.0 w.in-Some-column_of.ensures.some w.take_row.new.next
             w.in_ok-take_row-in-Some.ensures.pivoted (length c.rows.others) (omega (arith, c.rows.invariant.depth))
-            (subst (TellsUnder c.args.sys.now w.take_row.new.next (c.rows.i + 1) (length c.rows.others)) w.if-branch.false
+            (subst (TellsUnder c.args.sys.now c.args.free.now w.take_row.new.next (c.rows.i + 1) (length c.rows.others))
+            w.if-branch.false
             w.in_ok-has_point_under-in-Some.ensures.tells);
       }
       | in_default w ↦ record {
@@ -99,7 +102,8 @@ rows-preserved t c =
         depth = omega (arith, ap length w.others-is, c.rows.invariant.depth);
         vector = ap length w.vector-is ∙ c.rows.invariant.vector;
         told = λ p cone fixed left prefix here.
-            skips c.args.sys.now c.args.at.now (length c.args.deeper.now) c.rows.i p cone fixed left prefix
+            skips c.args.sys.now c.args.free.now c.args.at.now (length c.args.deeper.now) c.rows.i
+            p cone fixed left prefix
             (c.rows.invariant.told p cone fixed left prefix here) (omega (arith, c.rows-test.true, c.rows-i-end.ensures.value))
             (w.in_default.ensures.none refl);
       }
@@ -107,7 +111,7 @@ rows-preserved t c =
 
 pub returns-after-rows-clause-tells : goal.returns-after-rows-clause-tells
 returns-after-rows-clause-tells t c p cone fixed left marks here =
-    ends c.args.sys.now c.args.at.now (length c.args.deeper.now) c.rows.i p cone fixed left marks
+    ends c.args.sys.now c.args.free.now c.args.at.now (length c.args.deeper.now) c.rows.i p cone fixed left marks
     (c.rows.invariant.told p cone fixed left marks here)
     (omega (arith, c.rows-test.false, c.rows-i-end.ensures.value)) (omega (arith, c.rows.invariant.depth))
 

@@ -15,5 +15,5 @@ invariant-rows l =
       shapes : All (HasShapeOf l.at) l.others;
       depth : length l.others + 1 ≡ length l.fn.deeper;
       vector : length l.vector ≡ l.sys.n;
-      told : InLoop l.sys l.at l.fn.from (length l.fn.deeper) l.i;
+      told : InLoop l.sys l.free l.at l.fn.from (length l.fn.deeper) l.i;
     }

@@ -19,21 +19,21 @@ rows-init g t c =
       vector = c.requires.vector;
       kind = c.requires.kind;
       later = omega arith;
-      written = loop_start c.args.sys.now c.args.at.now c.args.from (length c.args.deeper.now) c.args.shown.rows
-          (g.S.Sink.written c.args.out.now) c.args.shown.few;
+      written = loop_start c.args.sys.now c.args.free.now c.args.at.now c.args.from (length c.args.deeper.now)
+          c.args.shown.rows (g.S.Sink.written c.args.out.now) c.args.shown.few;
     }
 
 pub returns-in-Err-clause-written : goal.returns-in-Err-clause-written
 returns-in-Err-clause-written g t c p cone fixed left marks at =
-    stops c.args.sys.now c.args.at.now (length c.args.deeper.now) c.args.shown.rows c.rows.shown.rows
+    stops c.args.sys.now c.args.free.now c.args.at.now (length c.args.deeper.now) c.args.shown.rows c.rows.shown.rows
     (g.S.Sink.written c.args.out.now) (g.S.Sink.written c.rows.out) c.rows.i p cone fixed left marks
     (c.rows.invariant.written p cone fixed left marks at) _
 
 pub returns-in-Err-clause-passes : goal.returns-in-Err-clause-passes
 returns-in-Err-clause-passes g t c o e p cone fixed left marks at =
     let same : c.in-Err.overflow ≡ o = cc in
-    overflows c.args.sys.now c.args.at.now (length c.args.deeper.now) c.args.shown.rows c.rows.shown.rows
-    (g.S.Sink.written c.args.out.now) (g.S.Sink.written c.rows.out) c.rows.i p cone fixed left marks
+    overflows c.args.sys.now c.args.free.now c.args.at.now (length c.args.deeper.now) c.args.shown.rows
+    c.rows.shown.rows (g.S.Sink.written c.args.out.now) (g.S.Sink.written c.rows.out) c.rows.i p cone fixed left marks
     (c.rows.invariant.written p cone fixed left marks at) c.in-Some-column_of.col.0 o
     c.in-Some-column_of.ensures.pivots
     (subst (λ (v : Overflow). IsOverflow c.args.at.now c.rows.i c.in-Some-column_of.col.0 v) same c.in-Err.ensures.passes)
@@ -63,7 +63,7 @@ list_under-requires g t c κs within = (
 
 pub returns-in_err-shown-in-Some-clause-written : goal.returns-in_err-shown-in-Some-clause-written
 returns-in_err-shown-in-Some-clause-written g t c p cone fixed left marks at =
-    breaks c.args.sys.now c.args.at.now (length c.args.deeper.now) c.args.shown.rows c.rows.shown.rows
+    breaks c.args.sys.now c.args.free.now c.args.at.now (length c.args.deeper.now) c.args.shown.rows c.rows.shown.rows
     (g.S.Sink.written c.args.out.now) (g.S.Sink.written c.rows.out) c.rows.i p cone fixed left marks
     (c.rows.invariant.written p cone fixed left marks at) (omega (arith, c.rows-test.true, c.rows-i-end.ensures.value))
     c.in-Some-column_of.col.0 c.in-Some-column_of.ensures.some c.take_row.new.next c.in_default-take_row.ensures.pivoted
@@ -76,7 +76,7 @@ returns-in_err-shown-in-Some-clause-passes g t c o e p cone fixed left marks at 
     let far : c.in_err-shown-in-Some.field-0.0 ≡ PlainStop.Overflow o = sym q.2 ∙ err_of c.from_residual.result (PlainStop.Overflow o) q.0 e q.1 in
     let now = c.rows.invariant.written p cone fixed left marks at in
     c.in_err-shown-in-Some.ensures.passes o (ap (λ v. Err v) far) p cone fixed _ _
-    (deeper c.args.sys.now c.args.at.now (length c.args.deeper.now) c.args.shown.rows c.rows.shown.rows
+    (deeper c.args.sys.now c.args.free.now c.args.at.now (length c.args.deeper.now) c.args.shown.rows c.rows.shown.rows
     (g.S.Sink.written c.args.out.now) (g.S.Sink.written c.rows.out) c.rows.i p cone fixed left marks now
     (omega (arith, c.rows-test.true, c.rows-i-end.ensures.value)) c.in-Some-column_of.col.0 c.in-Some-column_of.ensures.some
     c.take_row.new.next c.in_default-take_row.ensures.pivoted (length c.rows.others) (omega (arith, c.rows.invariant.depth)))
@@ -94,12 +94,14 @@ rows-preserved g t c =
         kind = ap (λ s. s.listing) w.shown-is ∙ w.in_ok-shown-in-Some.ensures.kind;
         later = omega (arith, ap g.S.Sink.faults w.out-is, w.in_ok-shown-in-Some.ensures.later, c.rows.invariant.later);
         written = λ p cone fixed left prefix at.
-            subst (λ (s : Shown). IsInLoop c.args.sys.now c.args.at.now (length c.args.deeper.now) p cone fixed left prefix c.args.shown.rows s.rows
+            subst (λ (s : Shown). IsInLoop c.args.sys.now c.args.free.now c.args.at.now (length c.args.deeper.now)
+            p cone fixed left prefix c.args.shown.rows s.rows
             (g.S.Sink.written c.args.out.now) (g.S.Sink.written c.match-column_of.out) (c.rows.i + 1)) (sym w.shown-is)
-            (subst (λ o. IsInLoop c.args.sys.now c.args.at.now (length c.args.deeper.now) p cone fixed left prefix c.args.shown.rows w.in_ok-shown-in-Some.shown.rows
+            (subst (λ o. IsInLoop c.args.sys.now c.args.free.now c.args.at.now (length c.args.deeper.now)
+            p cone fixed left prefix c.args.shown.rows w.in_ok-shown-in-Some.shown.rows
             (g.S.Sink.written c.args.out.now) (g.S.Sink.written o) (c.rows.i + 1)) (sym w.out-is)
-            (goes_on c.args.sys.now c.args.at.now (length c.args.deeper.now) c.args.shown.rows c.rows.shown.rows
-            (g.S.Sink.written c.args.out.now) (g.S.Sink.written c.rows.out) c.rows.i p cone fixed left prefix
+            (goes_on c.args.sys.now c.args.free.now c.args.at.now (length c.args.deeper.now) c.args.shown.rows
+            c.rows.shown.rows (g.S.Sink.written c.args.out.now) (g.S.Sink.written c.rows.out) c.rows.i p cone fixed left prefix
             (c.rows.invariant.written p cone fixed left prefix at)
             (omega (arith, c.rows-test.true, c.rows-i-end.ensures.value)) w.in-Some-column_of.col.0
             w.in-Some-column_of.ensures.some w.take_row.new.next w.in_default-take_row.ensures.pivoted
@@ -114,12 +116,14 @@ rows-preserved g t c =
         kind = ap (λ s. s.listing) w.shown-is ∙ c.rows.invariant.kind;
         later = omega (arith, ap g.S.Sink.faults w.out-is, c.rows.invariant.later);
         written = λ p cone fixed left prefix at.
-            subst (λ (s : Shown). IsInLoop c.args.sys.now c.args.at.now (length c.args.deeper.now) p cone fixed left prefix c.args.shown.rows s.rows
+            subst (λ (s : Shown). IsInLoop c.args.sys.now c.args.free.now c.args.at.now (length c.args.deeper.now)
+            p cone fixed left prefix c.args.shown.rows s.rows
             (g.S.Sink.written c.args.out.now) (g.S.Sink.written c.match-column_of.out) (c.rows.i + 1)) (sym w.shown-is)
-            (subst (λ o. IsInLoop c.args.sys.now c.args.at.now (length c.args.deeper.now) p cone fixed left prefix c.args.shown.rows c.rows.shown.rows
+            (subst (λ o. IsInLoop c.args.sys.now c.args.free.now c.args.at.now (length c.args.deeper.now)
+            p cone fixed left prefix c.args.shown.rows c.rows.shown.rows
             (g.S.Sink.written c.args.out.now) (g.S.Sink.written o) (c.rows.i + 1)) (sym w.out-is)
-            (skipped c.args.sys.now c.args.at.now (length c.args.deeper.now) c.args.shown.rows c.rows.shown.rows
-            (g.S.Sink.written c.args.out.now) (g.S.Sink.written c.rows.out) c.rows.i p cone fixed left prefix
+            (skipped c.args.sys.now c.args.free.now c.args.at.now (length c.args.deeper.now) c.args.shown.rows
+            c.rows.shown.rows (g.S.Sink.written c.args.out.now) (g.S.Sink.written c.rows.out) c.rows.i p cone fixed left prefix
             (c.rows.invariant.written p cone fixed left prefix at)
             (omega (arith, c.rows-test.true, c.rows-i-end.ensures.value)) (w.in_default.ensures.none refl)));
       }
@@ -128,10 +132,11 @@ rows-preserved g t c =
 pub returns-in-None-clause-written : goal.returns-in-None-clause-written
 returns-in-None-clause-written g t c p cone fixed left marks at =
     c.show.ensures.written p cone fixed left marks
-    (subst (λ n. IsAt c.args.sys.now c.args.at.now c.args.from n p cone fixed left marks) (let z = c.in-None.ensures.cases in omega arith) at)
+    (subst (λ n. IsAt c.args.sys.now c.args.free.now c.args.at.now c.args.from n p cone fixed left marks)
+    (let z = c.in-None.ensures.cases in omega arith) at)
 
 pub returns-after-rows-clause-written : goal.returns-after-rows-clause-written
 returns-after-rows-clause-written g t c p cone fixed left marks at =
-    ends c.args.sys.now c.args.at.now (length c.args.deeper.now) c.args.shown.rows c.rows.shown.rows
+    ends c.args.sys.now c.args.free.now c.args.at.now (length c.args.deeper.now) c.args.shown.rows c.rows.shown.rows
     (g.S.Sink.written c.args.out.now) (g.S.Sink.written c.rows.out) c.rows.i p cone fixed left marks
     (c.rows.invariant.written p cone fixed left marks at) c.rows.shown refl (omega (arith, c.rows-test.false, c.rows-i-end.ensures.value)) (omega (arith, c.rows.invariant.depth))

@@ -17,5 +17,6 @@ invariant-rows g l =
       vector : length l.vector ≡ l.sys.n;
       kind : l.shown.listing ≡ l.sys.kind;
       later : g.S.Sink.faults l.fn.out ≤ g.S.Sink.faults l.out;
-      written : InLoop l.sys l.at l.fn.from (length l.fn.deeper) l.fn.shown.rows l.shown.rows (g.S.Sink.written l.fn.out) (g.S.Sink.written l.out) l.i;
+      written : InLoop l.sys l.free l.at l.fn.from (length l.fn.deeper) l.fn.shown.rows l.shown.rows
+          (g.S.Sink.written l.fn.out) (g.S.Sink.written l.out) l.i;
     }

@@ -1,16 +1,18 @@
-use Rattle.std.proofs.Common.{◌≡◌, ℕ, ◌≤◌, pos, take, IsNone, IfSome}
+use Rattle.std.proofs.Common.{◌≡◌, ℕ, ◌-◌, ◌≤◌, false, pos, take, IsNone, IfSome}
 use Rattle.std.specs.List.{Contains}
 use Rattle.poly_model.specs.Dictionaries.{Table}
+use Rattle.poly_model.specs.Spaces.{is_member}
 use Rattle.dictionary.specs.Views.{table_of, CanPivot}
 use Rattle.plain_enum.specs.Columns.{IsColumnOf}
 use Rattle.plain_enum.proofs.side.column_of.Given as goal
 
--- what is found is a column of the row, and where nothing is, it is 0 at the coordinates before this label
+-- what is found is a column of the row, and where nothing is, it is 0 at the coordinates before this label that are
+-- not free
 abbrev pub invariant-labels : goal.invariant-labels
 invariant-labels l =
     record {
-      some : IfSome l.found (λ k. IsColumnOf l.at l.row.0 k.0);
+      some : IfSome l.found (λ k. IsColumnOf l.at l.free l.row.0 k.0);
       pivots : IfSome l.found (λ k. CanPivot l.at l.row.0 k.0);
       none : IsNone l.found → (k : ℕ) → Contains (take l.label-index l.label-items) k → 8192 ≤ k →
-          Table.entry (table_of l.at) l.row.0 k ≡ pos 0;
+          is_member (k - 8192) l.free ≡ false → Table.entry (table_of l.at) l.row.0 k ≡ pos 0;
     }
