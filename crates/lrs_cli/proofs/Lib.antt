@@ -1,5 +1,4 @@
 pub mod FaultLemmas
 pub mod StatusLemmas
-pub mod UnitRows
-pub mod PlainFiles
 pub mod EndLemmas
+pub mod NothingWritten

@@ -8,7 +8,6 @@ ghost use Rattle.poly_model.specs.Systems.{Polyhedron, cone_of};
 ghost use Rattle.poly_model.specs.Extreme.{IsFeasible};
 ghost use Rattle.poly_model.specs.Overflows.{Passes};
 ghost use Rattle.poly_reader.specs.declared.bad.BadFile.{BadFile};
-ghost use Rattle.plain_enum.specs.Plain.{IsPlain};
 ghost use Rattle.lrs_cli.specs.Supported.{is_supported};
 ghost use Rattle.lrs_cli.specs.Answers.{Told, IsSupported, IsUnsupported, IsBadFile, IsInfeasible, IsOverflow, IsListed, IsPartlyListed, IsTextOf, WritesWhole, WritesPart, Lists, StopsListing, WritesNothing};
 
@@ -81,7 +80,6 @@ fn read_supported<I: Source>(alloc: Global, input: &mut I) -> Result<Poly, Input
 
 // Prints the listing of a polyhedron that is feasible.
 fn print_listing<O: Sink>(alloc: Global, poly: &Poly, out: &mut O) -> Status
-    requires { is_supported poly.now ≡ true }
     ensures lists { Lists result ⊎ (result ≡ Status.OutOfMemory) }
     ensures done { (rows lines : ℕ) → result ≡ Status.Done rows lines → WritesWhole (O.written out.old) (O.written out.new) rows lines poly.now }
     ensures stopped { StopsListing result → WritesPart (O.written out.old) (O.written out.new) poly.now }
@@ -105,10 +103,10 @@ fn print_listing<O: Sink>(alloc: Global, poly: &Poly, out: &mut O) -> Status
 fn print_cone<O: Sink>(alloc: Global, cone: &System, out: &mut O) -> Status
     ensures lists { Lists result ⊎ (result ≡ Status.OutOfMemory) }
     ensures feasible { result ≡ Status.Infeasible → ⊥ }
-    ensures done { (rows lines : ℕ) → result ≡ Status.Done rows lines → (p : Polyhedron) → cone.now ≡ cone_of p → IsPlain p →
+    ensures done { (rows lines : ℕ) → result ≡ Status.Done rows lines → (p : Polyhedron) → cone.now ≡ cone_of p →
         IsFeasible (cone_of p) → WritesWhole (O.written out.old) (O.written out.new) rows lines p }
-    ensures stopped { StopsListing result → (p : Polyhedron) → cone.now ≡ cone_of p → IsPlain p → WritesPart (O.written out.old) (O.written out.new) p }
-    ensures overflow { (o : Passed) → result ≡ Status.Overflow o → (p : Polyhedron) → cone.now ≡ cone_of p → IsPlain p → Passes p o }
+    ensures stopped { StopsListing result → (p : Polyhedron) → cone.now ≡ cone_of p → WritesPart (O.written out.old) (O.written out.new) p }
+    ensures overflow { (o : Passed) → result ≡ Status.Overflow o → (p : Polyhedron) → cone.now ≡ cone_of p → Passes p o }
     ensures write { result ≡ Status.WriteFault → Rose (O.faults out.old) (O.faults out.new) }
     ensures unwritten { WritesNothing result → out.new ≡ out.old }
 {

@@ -19,73 +19,131 @@ fn sorted_lines<'a>(alloc: Global, text: &'a [u8]) -> Result<Vec<&'a [u8]>, Allo
     Ok(lines)
 }
 
+/// A file, its listing with the rows in some order, and how many rows and lines that has.
+#[derive(Clone, Copy)]
+struct Row {
+    file: &'static str,
+    listing: &'static str,
+    rows: u64,
+    lines: u32,
+}
+
 #[test]
 fn converts_files(rt: HostRuntime) -> Result<(), Fail> {
-    let alloc = rt.alloc();
-    let rows = [
-        (SQUARE, SQUARE_LISTING, 4),
+    for row in [
+        Row {
+            file: SQUARE,
+            listing: SQUARE_LISTING,
+            rows: 4,
+            lines: 0,
+        },
         // A row twice, and a row of zeros.
-        (
-            "H-representation\nbegin\n6 3 integer\n0 1 0\n0 1 0\n0 0 1\n1 -1 0\n1 0 -1\n0 0 0\nend\n",
-            SQUARE_LISTING,
-            4,
-        ),
+        Row {
+            file: "H-representation\nbegin\n6 3 integer\n0 1 0\n0 1 0\n0 0 1\n1 -1 0\n1 0 -1\n0 0 0\nend\n",
+            listing: SQUARE_LISTING,
+            rows: 4,
+            lines: 0,
+        },
         // A vertex and two rays.
-        (
-            "H-representation\nbegin\n2 3 integer\n0 1 0\n0 0 1\nend\n",
-            "V-representation\nbegin\n***** 3 rational\n 1 0 0\n 0 1 0\n 0 0 1\nend\n",
-            3,
-        ),
+        Row {
+            file: "H-representation\nbegin\n2 3 integer\n0 1 0\n0 0 1\nend\n",
+            listing: "V-representation\nbegin\n***** 3 rational\n 1 0 0\n 0 1 0\n 0 0 1\nend\n",
+            rows: 3,
+            lines: 0,
+        },
+        // The half plane with its line, and the plane without rows.
+        Row {
+            file: "H-representation\nbegin\n1 3 integer\n0 1 0\nend\n",
+            listing: "V-representation\nlinearity 1 1\nbegin\n***** 3 rational\n 0 0 1\n 1 0 0\n 0 1 0\nend\n",
+            rows: 2,
+            lines: 1,
+        },
+        Row {
+            file: "H-representation\nbegin\n0 3 integer\nend\n",
+            listing: "V-representation\nlinearity 2 1 2\nbegin\n***** 3 rational\n 0 1 0\n 0 0 1\n 1 0 0\nend\n",
+            rows: 1,
+            lines: 2,
+        },
         // The point of the space without coordinates.
-        (
-            "H-representation\nbegin\n1 1 integer\n5\nend\n",
-            "V-representation\nbegin\n***** 1 rational\n 1\nend\n",
-            1,
-        ),
-        (
-            "H-representation\nbegin\n3 3 integer\n0 1 0\n0 0 1\n4 -2 -6\nend\n",
-            "V-representation\nbegin\n***** 3 rational\n 1 0 0\n 1 2 0\n 1 0 2/3\nend\n",
-            3,
-        ),
+        Row {
+            file: "H-representation\nbegin\n1 1 integer\n5\nend\n",
+            listing: "V-representation\nbegin\n***** 1 rational\n 1\nend\n",
+            rows: 1,
+            lines: 0,
+        },
+        Row {
+            file: "H-representation\nbegin\n3 3 integer\n0 1 0\n0 0 1\n4 -2 -6\nend\n",
+            listing: "V-representation\nbegin\n***** 3 rational\n 1 0 0\n 1 2 0\n 1 0 2/3\nend\n",
+            rows: 3,
+            lines: 0,
+        },
         // A segment that does not reach the origin.
-        (
-            "H-representation\nbegin\n3 2 integer\n-1 1\n0 1\n2 -1\nend\n",
-            "V-representation\nbegin\n***** 2 rational\n 1 1\n 1 2\nend\n",
-            2,
-        ),
+        Row {
+            file: "H-representation\nbegin\n3 2 integer\n-1 1\n0 1\n2 -1\nend\n",
+            listing: "V-representation\nbegin\n***** 2 rational\n 1 1\n 1 2\nend\n",
+            rows: 2,
+            lines: 0,
+        },
         // No kind, a name, fractions.
-        (
-            "segment\nbegin 2 2 rational 1/2 -1 +0 01 end",
-            "V-representation\nbegin\n***** 2 rational\n 1 0\n 1 1/2\nend\n",
-            2,
-        ),
+        Row {
+            file: "segment\nbegin 2 2 rational 1/2 -1 +0 01 end",
+            listing: "V-representation\nbegin\n***** 2 rational\n 1 0\n 1 1/2\nend\n",
+            rows: 2,
+            lines: 0,
+        },
+        // A pyramid over a square.
+        Row {
+            file: "H-representation\nbegin\n5 4 integer\n0 0 0 1\n1 -1 0 -1\n1 1 0 -1\n1 0 -1 -1\n1 0 1 -1\nend\n",
+            listing: "V-representation\nbegin\n***** 4 rational\n 1 1 1 0\n 1 1 -1 0\n 1 -1 1 0\n 1 -1 -1 0\n 1 0 0 1\nend\n",
+            rows: 5,
+            lines: 0,
+        },
+        // The segment of an equation in the quadrant.
+        Row {
+            file: "H-representation\nlinearity 1 1\nbegin\n3 3 integer\n-1 1 1\n0 1 0\n0 0 1\nend\n",
+            listing: "V-representation\nbegin\n***** 3 rational\n 1 1 0\n 1 0 1\nend\n",
+            rows: 2,
+            lines: 0,
+        },
+        // A point by as many equations, and a line by one: which is not an axis.
+        Row {
+            file: "H-representation\nlinearity 2 1 2\nbegin\n2 3 integer\n-1 1 0\n-2 0 3\nend\n",
+            listing: "V-representation\nbegin\n***** 3 rational\n 1 1 2/3\nend\n",
+            rows: 1,
+            lines: 0,
+        },
+        Row {
+            file: "H-representation\nlinearity 1 1\nbegin\n1 3 integer\n1 1 -2\nend\n",
+            listing: "V-representation\nlinearity 1 1\nbegin\n***** 3 rational\n 0 2 1\n 1 -1 0\nend\n",
+            rows: 1,
+            lines: 1,
+        },
         // The square without the number of its rows, and with its rows broken.
-        (
-            "H-representation\nbegin\n***** 3 integer\n0 1 0\n0 0 1\n1 -1 0\n1 0 -1\nend\n",
-            SQUARE_LISTING,
-            4,
-        ),
-        (
-            "H-representation\r\nbegin\r\n4 3\ninteger 0\n1 0 0\t0 1\n\n1 -1 0 1 0\n-1 end of it\nmaxoutput 3\n",
-            SQUARE_LISTING,
-            4,
-        ),
-    ];
-    for (file, listing, count) in rows {
-        let mut input = MemSource::new(file.as_bytes(), &[]);
+        Row {
+            file: "H-representation\nbegin\n***** 3 integer\n0 1 0\n0 0 1\n1 -1 0\n1 0 -1\nend\n",
+            listing: SQUARE_LISTING,
+            rows: 4,
+            lines: 0,
+        },
+        Row {
+            file: "H-representation\r\nbegin\r\n4 3\ninteger 0\n1 0 0\t0 1\n\n1 -1 0 1 0\n-1 end of it\nmaxoutput 3\n",
+            listing: SQUARE_LISTING,
+            rows: 4,
+            lines: 0,
+        },
+    ] {
+        let alloc = rt.alloc();
+        let mut input = MemSource::new(row.file.as_bytes(), &[]);
         let mut out = MemSink::new(alloc, &[]);
         let status = lrs(alloc, ["convert"].as_slice(), &mut input, &mut out);
-        assert_eq!(rt;
-            status,
-            Status::Done {
-                rows: count,
-                lines: 0
-            },
-            "{file}"
-        );
+        let done = Status::Done {
+            rows: row.rows,
+            lines: row.lines,
+        };
+        assert_eq!(rt; status, done, "{}", row.file);
         let got = sorted_lines(alloc, out.written())?;
-        let want = sorted_lines(alloc, listing.as_bytes())?;
-        assert_eq!(rt; got, want, "{file}");
+        let want = sorted_lines(alloc, row.listing.as_bytes())?;
+        assert_eq!(rt; got, want, "{}", row.file);
     }
     Ok(())
 }
@@ -93,40 +151,39 @@ fn converts_files(rt: HostRuntime) -> Result<(), Fail> {
 #[test]
 fn refuses_what_it_cannot_list(rt: HostRuntime) {
     let alloc = rt.alloc();
+    // Points.
+    let file = "V-representation\nbegin\n1 2 integer\n1 1\nend\n";
+    let mut input = MemSource::new(file.as_bytes(), &[]);
+    let mut out = MemSink::new(alloc, &[]);
+    let status = lrs(alloc, ["convert"].as_slice(), &mut input, &mut out);
+    assert_eq!(rt; status, Status::Unsupported, "{file}");
+    assert_eq!(rt; out.written(), b"".as_slice());
+}
+
+#[test]
+fn says_that_a_product_passes(rt: HostRuntime) {
+    let alloc = rt.alloc();
     for file in [
-        // The half plane.
-        "H-representation\nbegin\n1 3 integer\n0 1 0\nend\n",
-        // No point, and no row that bounds the coordinate from below.
-        "H-representation\nbegin\n2 2 integer\n-1 1\n0 -1\nend\n",
-        // A pyramid over a square.
-        "H-representation\nbegin\n5 4 integer\n0 0 0 1\n1 -1 0 -1\n1 1 0 -1\n1 0 -1 -1\n1 0 1 -1\nend\n",
-        // A row that is linear.
-        "linearity 1 1\nbegin\n1 2 integer\n0 1\nend\n",
-        // Points.
-        "V-representation\nbegin\n1 2 integer\n1 1\nend\n",
+        // One extreme point has the denominator 3 * 2^199 - 1.
+        "H-representation\nbegin\n4 3 integer\n\
+         1 -1267650600228229401496703205376 -1\n\
+         1 -1 -1901475900342344102245054808064\n0 1 0\n0 0 1\nend\n",
+        // Two rows whose exchange needs 2^128.
+        "H-representation\nbegin\n2 3 integer\n\
+         0 18446744073709551616 1\n0 1 18446744073709551616\nend\n",
     ] {
         let mut input = MemSource::new(file.as_bytes(), &[]);
         let mut out = MemSink::new(alloc, &[]);
         let status = lrs(alloc, ["convert"].as_slice(), &mut input, &mut out);
-        assert_eq!(rt; status, Status::Unsupported, "{file}");
-        assert_eq!(rt; out.written(), b"".as_slice());
-    }
-    // One extreme point has the denominator 3 * 2^199 - 1.
-    let file = "H-representation\nbegin\n4 3 integer\n\
-                1 -1267650600228229401496703205376 -1\n\
-                1 -1 -1901475900342344102245054808064\n0 1 0\n0 0 1\nend\n";
-    let mut input = MemSource::new(file.as_bytes(), &[]);
-    let mut out = MemSink::new(alloc, &[]);
-    let status = lrs(alloc, ["convert"].as_slice(), &mut input, &mut out);
-    assert!(rt;
-        matches!(
+        let told = matches!(
             status,
             Status::Overflow(Overflow {
                 phase: Phase::Cone,
                 ..
             })
-        )
-    );
+        );
+        assert!(rt; told && out.written().is_empty(), "{file}");
+    }
 }
 
 #[test]
@@ -137,6 +194,11 @@ fn tells_that_there_is_no_point(rt: HostRuntime) {
         // At infinity there is a ray.
         "H-representation\nbegin\n2 2 integer\n-1 0\n0 1\nend\n",
         "H-representation\nbegin\n2 2 integer\n-1 -1\n0 1\nend\n",
+        "H-representation\nbegin\n2 2 integer\n-1 1\n0 -1\nend\n",
+        // Equations without a common point, and one that no inequality leaves a point of.
+        "H-representation\nlinearity 2 1 2\nbegin\n2 2 integer\n-1 1\n-2 1\nend\n",
+        "H-representation\nlinearity 1 1\nbegin\n1 1 integer\n5\nend\n",
+        "H-representation\nlinearity 1 1\nbegin\n3 3 integer\n1 1 1\n0 1 0\n0 0 1\nend\n",
     ] {
         let mut input = MemSource::new(file.as_bytes(), &[]);
         let mut out = MemSink::new(alloc, &[]);

@@ -2,10 +2,10 @@ use Rattle.std.proofs.Common.{◌≡◌, sym, ◌∙◌}
 use Rattle.lrs_cli.proofs.convert.print_cone.Goals as goal
 
 pub returns-in-Ok-clause-done : goal.returns-in-Ok-clause-done
-returns-in-Ok-clause-done g c rows lines e p file plain feasible =
+returns-in-Ok-clause-done g c rows lines e p file feasible =
     let rows_are : c.in-Ok.listed.rows ≡ rows = cc in
     let lines_are : c.in-Ok.listed.lines ≡ lines = cc in
-    let whole = (c.in-Ok.ensures.written p file plain).whole in
+    let whole = (c.in-Ok.ensures.written p file).whole in
     record {
       feasible = feasible;
       listing = whole.0;
