@@ -7,9 +7,8 @@ use Rattle.poly_model.specs.Overflows.{Passes}
 use Rattle.poly_reader.specs.declared.bad.BadFile.{BadFile as Fault}
 use Rattle.poly_reader.specs.Reading.{reading}
 use Rattle.lrs_cli.specs.declared.status.Status.{Status}
-use Rattle.lrs_cli.specs.declared.status.Status.TheVariants.{Done, Usage, BadFile, Infeasible, Overflow, ReadFault, WriteFault, OutOfMemory, Unsupported}
-use Rattle.lrs_cli.specs.Supported.{is_supported}
-use Rattle.lrs_cli.specs.Answers.{Told, Knows, HasNoObstacle, IsUnsupported, IsBadFile, IsOverflow, Ends}
+use Rattle.lrs_cli.specs.declared.status.Status.TheVariants.{Done, Usage, BadFile, Infeasible, Overflow, ReadFault, WriteFault, OutOfMemory}
+use Rattle.lrs_cli.specs.Answers.{Told, Knows, HasNoObstacle, IsBadFile, IsOverflow, Ends}
 
 same_ok : (p q : Polyhedron) → ◌≡◌ {A = Result Polyhedron Fault} (Ok p) (Ok q) → p ≡ q
 same_ok p q e = cc
@@ -25,13 +24,6 @@ not_bad : (source : Option (List ℕ)) → Knows source HasNoObstacle → (f : F
 not_bad None k f t = k
 not_bad (Some text) k f t = not_both k.polyhedron f (sym k.read ∙ t)
 
-not_unsupported : (source : Option (List ℕ)) → Knows source HasNoObstacle → Told source IsUnsupported → ⊥
-not_unsupported None k t = k
-not_unsupported (Some text) k t =
-    let same = same_polyhedron text t.polyhedron k.polyhedron t.read k.read in
-    let no : true ≡ false = sym k.supported ∙ subst (λ p. is_supported p ≡ false) same t.holds in
-    cc
-
 not_overflow : (source : Option (List ℕ)) → Knows source HasNoObstacle → (o : Passed) → Told source (IsOverflow o) → ⊥
 not_overflow None k o t = k
 not_overflow (Some text) k o t =
@@ -40,14 +32,13 @@ not_overflow (Some text) k o t =
 -- no other answer is left
 module _ (source : Option (List ℕ)) (known : Knows source HasNoObstacle) where
   pub ends : (s : Status) → (s ≡ Usage → ⊥) → ((f : Fault) → s ≡ BadFile f → Told source (IsBadFile f)) →
-      (s ≡ ReadFault → ⊥) → (s ≡ WriteFault → ⊥) → (s ≡ Unsupported → Told source IsUnsupported) →
+      (s ≡ ReadFault → ⊥) → (s ≡ WriteFault → ⊥) →
       ((o : Passed) → s ≡ Overflow o → Told source (IsOverflow o)) → Ends s
-  ends (Done rows lines) a b c d e f = tt
-  ends Infeasible a b c d e f = tt
-  ends OutOfMemory a b c d e f = tt
-  ends Usage a b c d e f = absurd (a refl)
-  ends (BadFile x) a b c d e f = absurd (not_bad source known x (b x refl))
-  ends ReadFault a b c d e f = absurd (c refl)
-  ends WriteFault a b c d e f = absurd (d refl)
-  ends Unsupported a b c d e f = absurd (not_unsupported source known (e refl))
-  ends (Overflow o) a b c d e f = absurd (not_overflow source known o (f o refl))
+  ends (Done rows lines) a b c d e = tt
+  ends Infeasible a b c d e = tt
+  ends OutOfMemory a b c d e = tt
+  ends Usage a b c d e = absurd (a refl)
+  ends (BadFile x) a b c d e = absurd (not_bad source known x (b x refl))
+  ends ReadFault a b c d e = absurd (c refl)
+  ends WriteFault a b c d e = absurd (d refl)
+  ends (Overflow o) a b c d e = absurd (not_overflow source known o (e o refl))

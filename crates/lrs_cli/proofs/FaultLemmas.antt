@@ -1,11 +1,11 @@
--- What is told of a text: the first fault of what was taken from a source is that of all that it had.
+-- What is told of a text: the polyhedron, or the first fault, of what was taken from a source is that of all that it had.
 use Rattle.std.proofs.Common.{◌≡◌, ◌++◌, ◌⊎◌, inl, inr, true, ℕ, List, [], length, arith, refl, sym, ◌∙◌, Option, Some, None, Err, length-append, append-nil}
 use Rattle.std.specs.Prelude.{nat_lt}
 use Rattle.std.proofs.lemmas.Bool.{lt-ltb}
 use Rattle.poly_reader.specs.declared.bad.BadFile.{BadFile}
 use Rattle.poly_reader.specs.declared.bad.BadKind.TheVariants.{TooLong}
 use Rattle.poly_reader.specs.Reading.{reading}
-use Rattle.poly_reader.specs.Taking.{FindsFault}
+use Rattle.poly_reader.specs.Taking.{FindsPolyhedron, FindsFault}
 use Rattle.poly_model.specs.Systems.{Polyhedron}
 use Rattle.lrs_cli.specs.Answers.{Told, IsTextOf, Describes, IsBadFile}
 
@@ -31,6 +31,12 @@ pub fault_of_source : (old new : Option (List ℕ)) (f : BadFile) → FindsFault
 fault_of_source None new f h = tt
 fault_of_source (Some whole) None f h = absurd h.taken
 fault_of_source (Some whole) (Some rest) f h = rw h.taken (fault_of_all h.text rest f h.enough h.read)
+
+-- the polyhedron that was found is that of all that the source had
+pub text_of_source : (old new : Option (List ℕ)) (p : Polyhedron) → FindsPolyhedron old new p → Told old (IsTextOf p)
+text_of_source None new p h = tt
+text_of_source (Some whole) None p h = absurd h.taken
+text_of_source (Some whole) (Some rest) p h = rw (h.taken, h.ends, append-nil p.text) h.read
 
 -- what holds of the polyhedron of a text
 pub described : (P : Polyhedron → Type 0) (p : Polyhedron) (source : Option (List ℕ)) → Told source (IsTextOf p) → P p →

@@ -1,5 +1,5 @@
 -- Which answer of the program comes when.
-use Rattle.std.specs.Prelude.{◌≡◌, ℕ, List, [], ◌∷◌, codes, Option, Some, None, Ok, Err, true, false, ⊤}
+use Rattle.std.specs.Prelude.{◌≡◌, ℕ, List, [], ◌∷◌, codes, Option, Some, None, Ok, Err, ⊤}
 use Rattle.std.specs.Io.KnownBytes.{Appends}
 use Rattle.poly_model.specs.declared.overflow.Overflow.{Overflow as Passed}
 use Rattle.poly_model.specs.Systems.{Polyhedron, cone_of}
@@ -10,9 +10,8 @@ use Rattle.poly_io.specs.Written.{AppendsPart}
 use Rattle.poly_reader.specs.declared.bad.BadFile.{BadFile as Fault}
 use Rattle.poly_reader.specs.Reading.{reading}
 use Rattle.plain_enum.specs.Plain.{IsCountedListing}
-use Rattle.lrs_cli.specs.Supported.{is_supported}
 use Rattle.lrs_cli.specs.declared.status.Status.{Status}
-use Rattle.lrs_cli.specs.declared.status.Status.TheVariants.{Done, Usage, BadFile, Infeasible, Overflow, ReadFault, WriteFault, OutOfMemory, Unsupported}
+use Rattle.lrs_cli.specs.declared.status.Status.TheVariants.{Done, Usage, BadFile, Infeasible, Overflow, ReadFault, WriteFault, OutOfMemory}
 
 -- the words are the one command that there is so far
 abbrev pub IsLine : List (List ℕ) → Type 0
@@ -33,13 +32,9 @@ pub record Describes (P : Polyhedron → Type 0) (text : List ℕ) : Type 0 wher
   pub read : reading text ≡ Ok polyhedron
   pub holds : P polyhedron
 
--- the text describes a polyhedron that is listed so far
-abbrev pub IsSupported : List ℕ → Type 0
-IsSupported text = Describes (λ p. is_supported p ≡ true) text
-
--- the text describes a polyhedron that is not listed yet
-abbrev pub IsUnsupported : List ℕ → Type 0
-IsUnsupported text = Describes (λ p. is_supported p ≡ false) text
+-- the text describes a polyhedron
+abbrev pub IsPolyhedral : List ℕ → Type 0
+IsPolyhedral text = Describes (λ p. ⊤) text
 
 -- the text describes a polyhedron without a point
 abbrev pub IsInfeasible : List ℕ → Type 0
@@ -84,13 +79,11 @@ Ends WriteFault = ⊥
 Ends (BadFile f) = ⊥
 Ends Usage = ⊥
 Ends ReadFault = ⊥
-Ends Unsupported = ⊥
 
--- the text describes a polyhedron that is listed so far, and at none of its dictionaries a product passes
+-- the text describes a polyhedron, and at none of its dictionaries a product passes
 pub record HasNoObstacle (text : List ℕ) : Type 0 where
   pub polyhedron : Polyhedron
   pub read : reading text ≡ Ok polyhedron
-  pub supported : is_supported polyhedron ≡ true
   pub fits : (o : Passed) → Passes polyhedron o → ⊥
 
 -- of these bytes that is known
@@ -98,7 +91,7 @@ abbrev pub Knows : Option (List ℕ) → (List ℕ → Type 0) → Type 0
 Knows None P = ⊥
 Knows (Some bytes) P = P bytes
 
--- the answers of a polyhedron that is listed so far
+-- the answers of a text that describes a polyhedron
 abbrev pub Lists : Status → Type 0
 Lists (Done rows lines) = Unit {0}
 Lists Infeasible = Unit {0}
@@ -108,7 +101,6 @@ Lists (BadFile f) = ⊥
 Lists Usage = ⊥
 Lists ReadFault = ⊥
 Lists OutOfMemory = ⊥
-Lists Unsupported = ⊥
 
 -- the answers of a listing that was given up
 abbrev pub StopsListing : Status → Type 0
@@ -120,7 +112,6 @@ StopsListing OutOfMemory = ⊥
 StopsListing (BadFile f) = ⊥
 StopsListing Usage = ⊥
 StopsListing ReadFault = ⊥
-StopsListing Unsupported = ⊥
 
 -- the answers before which nothing is written
 abbrev pub WritesNothing : Status → Type 0
@@ -132,4 +123,3 @@ WritesNothing OutOfMemory = Unit {0}
 WritesNothing (BadFile f) = Unit {0}
 WritesNothing Usage = Unit {0}
 WritesNothing ReadFault = Unit {0}
-WritesNothing Unsupported = Unit {0}

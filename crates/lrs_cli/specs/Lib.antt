@@ -1,3 +1,2 @@
-pub mod Supported
 pub mod StatusLine
 pub mod Answers

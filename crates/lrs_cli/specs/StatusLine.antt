@@ -5,7 +5,7 @@ use Rattle.poly_model.specs.LabelText.{key_text, place_text, phase_text}
 use Rattle.poly_reader.specs.declared.bad.BadKind.{BadKind}
 use Rattle.poly_reader.specs.declared.bad.BadKind.TheVariants as kinds
 use Rattle.lrs_cli.specs.declared.status.Status.{Status}
-use Rattle.lrs_cli.specs.declared.status.Status.TheVariants.{Done, Usage, BadFile, Infeasible, Overflow as Overflowed, ReadFault, WriteFault, OutOfMemory, Unsupported}
+use Rattle.lrs_cli.specs.declared.status.Status.TheVariants.{Done, Usage, BadFile, Infeasible, Overflow as Overflowed, ReadFault, WriteFault, OutOfMemory}
 
 -- the name of what is wrong with a file
 abbrev pub kind_text : BadKind → List ℕ
@@ -46,7 +46,6 @@ line_of (Overflowed o) = codes "lrs: overflow " ++ (overflow_text o ++ codes "\n
 line_of ReadFault = codes "lrs: read fault\n"
 line_of WriteFault = codes "lrs: write fault\n"
 line_of OutOfMemory = codes "lrs: out of memory\n"
-line_of Unsupported = codes "lrs: unsupported\n"
 
 abbrev pub number_of : Status → ℕ
 number_of (Done rows lines) = 0
@@ -57,4 +56,3 @@ number_of (Overflowed o) = 5
 number_of ReadFault = 6
 number_of WriteFault = 7
 number_of OutOfMemory = 15
-number_of Unsupported = 16

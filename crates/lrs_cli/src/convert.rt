@@ -1,5 +1,5 @@
 //! `convert`: a file from the input, its listing to the output.
-ghost use Rattle.std.specs.Prelude.{◌≡◌, ◌⊎◌, ◌≤◌, ℕ, true, OnOk, IfOk, IsErrOf};
+ghost use Rattle.std.specs.Prelude.{◌≡◌, ◌⊎◌, ℕ};
 ghost use Rattle.std.specs.Io.KnownBytes.{IsAtEnd};
 ghost use Rattle.poly_io.specs.Causes.{Rose};
 ghost use Rattle.poly_io.specs.Taken.{TakesAtMost};
@@ -8,16 +8,14 @@ ghost use Rattle.poly_model.specs.Systems.{Polyhedron, cone_of};
 ghost use Rattle.poly_model.specs.Extreme.{IsFeasible};
 ghost use Rattle.poly_model.specs.Overflows.{Passes};
 ghost use Rattle.poly_reader.specs.declared.bad.BadFile.{BadFile};
-ghost use Rattle.lrs_cli.specs.Supported.{is_supported};
-ghost use Rattle.lrs_cli.specs.Answers.{Told, IsSupported, IsUnsupported, IsBadFile, IsInfeasible, IsOverflow, IsListed, IsPartlyListed, IsTextOf, WritesWhole, WritesPart, Lists, StopsListing, WritesNothing};
+ghost use Rattle.lrs_cli.specs.Answers.{Told, IsPolyhedral, IsBadFile, IsInfeasible, IsOverflow, IsListed, IsPartlyListed, WritesWhole, WritesPart, Lists, StopsListing, WritesNothing};
 
 use crate::status::Status;
-use crate::supported::is_supported;
 use hull_lift::system_of;
 use plain_enum::{FeasibleStop, PlainStop, feasible_plain, list_plain};
 use poly_io::{Sink, Source};
 use poly_model::{Poly, System};
-use poly_reader::{BadFile, ReadStop, read_poly};
+use poly_reader::{ReadStop, read_poly};
 use std::alloc::Global;
 
 /// Reads a file to its end and prints its listing.
@@ -29,52 +27,18 @@ pub fn convert<I: Source, O: Sink>(alloc: Global, input: &mut I, out: &mut O) ->
     ensures stopped { StopsListing result → Told (I.left input.old) (IsPartlyListed (O.written out.old) (O.written out.new)) }
     ensures infeasible { result ≡ Status.Infeasible → Told (I.left input.old) IsInfeasible }
     ensures overflow { (o : Passed) → result ≡ Status.Overflow o → Told (I.left input.old) (IsOverflow o) }
-    ensures supported { Lists result → Told (I.left input.old) IsSupported }
-    ensures unsupported { result ≡ Status.Unsupported → Told (I.left input.old) IsUnsupported }
+    ensures polyhedral { Lists result → Told (I.left input.old) IsPolyhedral }
     ensures bad { (f : BadFile) → result ≡ Status.BadFile f → Told (I.left input.old) (IsBadFile f) }
     ensures read { result ≡ Status.ReadFault → Rose (I.faults input.old) (I.faults input.new) }
     ensures write { result ≡ Status.WriteFault → Rose (O.faults out.old) (O.faults out.new) }
     ensures unwritten { WritesNothing result → out.new ≡ out.old }
     ensures taken { TakesAtMost (I.left input.old) (I.left input.new) 67108865 }
 {
-    match read_supported(alloc, input) {
-        Ok(poly) => print_listing(alloc, &poly, out),
-        Err(InputStop::Fault) => Status::ReadFault,
-        Err(InputStop::Bad(f)) => Status::BadFile(f),
-        Err(InputStop::Unsupported) => Status::Unsupported,
-        Err(InputStop::Memory) => Status::OutOfMemory,
-    }
-}
-
-// Why the input is not listed.
-#[derive(Clone, Copy, PartialEq, Eq, Debug)]
-enum InputStop {
-    Fault,
-    Bad(BadFile),
-    Unsupported,
-    Memory,
-}
-
-fn read_supported<I: Source>(alloc: Global, input: &mut I) -> Result<Poly, InputStop>
-    ensures read { IfOk result (λ poly. Told (I.left input.old) (IsTextOf poly)) }
-    ensures supported { IfOk result (λ poly. is_supported poly ≡ true) }
-    ensures end { OnOk result (IsAtEnd (I.left input.new)) }
-    ensures bad { (f : BadFile) → IsErrOf result (InputStop.Bad f) → Told (I.left input.old) (IsBadFile f) }
-    ensures unsupported { IsErrOf result InputStop.Unsupported → Told (I.left input.old) IsUnsupported }
-    ensures fault { IsErrOf result InputStop.Fault → Rose (I.faults input.old) (I.faults input.new) }
-    ensures taken { TakesAtMost (I.left input.old) (I.left input.new) 67108865 }
-{
     match read_poly(alloc, input) {
-        Ok(poly) => {
-            if is_supported(&poly) {
-                Ok(poly)
-            } else {
-                Err(InputStop::Unsupported)
-            }
-        }
-        Err(ReadStop::Fault) => Err(InputStop::Fault),
-        Err(ReadStop::Bad(f)) => Err(InputStop::Bad(f)),
-        Err(ReadStop::Memory) => Err(InputStop::Memory),
+        Ok(poly) => print_listing(alloc, &poly, out),
+        Err(ReadStop::Fault) => Status::ReadFault,
+        Err(ReadStop::Bad(f)) => Status::BadFile(f),
+        Err(ReadStop::Memory) => Status::OutOfMemory,
     }
 }
 

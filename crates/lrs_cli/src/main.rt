@@ -3,7 +3,6 @@
 
 mod convert;
 mod status;
-mod supported;
 #[cfg(test)]
 mod tests;
 mod top;

@@ -28,8 +28,6 @@ pub enum Status {
     WriteFault,
     /// This process has no memory left.
     OutOfMemory,
-    /// The input describes a polyhedron that this program does not list yet.
-    Unsupported,
 }
 
 impl Status {
@@ -46,7 +44,6 @@ impl Status {
             Status::ReadFault => 6,
             Status::WriteFault => 7,
             Status::OutOfMemory => 15,
-            Status::Unsupported => 16,
         }
     }
 }
@@ -69,7 +66,6 @@ pub fn status_line<S: Sink>(status: &Status, out: &mut S) -> Result<(), WriteFau
         Status::ReadFault => write_all(out, b"lrs: read fault\n"),
         Status::WriteFault => write_all(out, b"lrs: write fault\n"),
         Status::OutOfMemory => write_all(out, b"lrs: out of memory\n"),
-        Status::Unsupported => write_all(out, b"lrs: unsupported\n"),
     }
 }
 

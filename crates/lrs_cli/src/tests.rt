@@ -118,6 +118,47 @@ fn converts_files(rt: HostRuntime) -> Result<(), Fail> {
             rows: 1,
             lines: 1,
         },
+        // The points of the square with an inner one: four facets, and not `1 0 0`.
+        Row {
+            file: "V-representation\nbegin\n5 3 rational\n1 0 0\n1 1 0\n1 0 1\n1 1 1\n1 1/2 1/2\nend\n",
+            listing: "H-representation\nbegin\n***** 3 rational\n 0 1 0\n 0 0 1\n 1 -1 0\n 1 0 -1\nend\n",
+            rows: 4,
+            lines: 0,
+        },
+        // The quadrant by its vertex and two rays.
+        Row {
+            file: "V-representation\nbegin\n3 3 integer\n1 0 0\n0 1 0\n0 0 1\nend\n",
+            listing: "H-representation\nbegin\n***** 3 rational\n 0 1 0\n 0 0 1\nend\n",
+            rows: 2,
+            lines: 0,
+        },
+        // A segment in the plane.
+        Row {
+            file: "V-representation\nbegin\n2 3 integer\n1 0 0\n1 1 1\nend\n",
+            listing: "H-representation\nlinearity 1 1\nbegin\n***** 3 rational\n 0 -1 1\n 0 1 0\n 1 -1 0\nend\n",
+            rows: 2,
+            lines: 1,
+        },
+        // A half plane by a point, a ray and a line.
+        Row {
+            file: "V-representation\nlinearity 1 3\nbegin\n3 3 integer\n1 1 0\n0 1 0\n0 0 1\nend\n",
+            listing: "H-representation\nbegin\n***** 3 rational\n -1 1 0\nend\n",
+            rows: 1,
+            lines: 0,
+        },
+        // The point of the space without coordinates, and a ray without a point: the origin is added.
+        Row {
+            file: "V-representation\nbegin\n1 1 integer\n1\nend\n",
+            listing: "H-representation\nbegin\n***** 1 rational\nend\n",
+            rows: 0,
+            lines: 0,
+        },
+        Row {
+            file: "V-representation\nbegin\n1 2 integer\n0 1\nend\n",
+            listing: "H-representation\nbegin\n***** 2 rational\n 0 1\nend\n",
+            rows: 1,
+            lines: 0,
+        },
         // The square without the number of its rows, and with its rows broken.
         Row {
             file: "H-representation\nbegin\n***** 3 integer\n0 1 0\n0 0 1\n1 -1 0\n1 0 -1\nend\n",
@@ -146,18 +187,6 @@ fn converts_files(rt: HostRuntime) -> Result<(), Fail> {
         assert_eq!(rt; got, want, "{}", row.file);
     }
     Ok(())
-}
-
-#[test]
-fn refuses_what_it_cannot_list(rt: HostRuntime) {
-    let alloc = rt.alloc();
-    // Points.
-    let file = "V-representation\nbegin\n1 2 integer\n1 1\nend\n";
-    let mut input = MemSource::new(file.as_bytes(), &[]);
-    let mut out = MemSink::new(alloc, &[]);
-    let status = lrs(alloc, ["convert"].as_slice(), &mut input, &mut out);
-    assert_eq!(rt; status, Status::Unsupported, "{file}");
-    assert_eq!(rt; out.written(), b"".as_slice());
 }
 
 #[test]
@@ -297,7 +326,6 @@ fn prints_status_lines(rt: HostRuntime) -> Result<(), Fail> {
             "lrs: bad file: WideNumber at line 12\n",
         ),
         (Status::Infeasible, "lrs: infeasible\n"),
-        (Status::Unsupported, "lrs: unsupported\n"),
     ];
     for (status, line) in rows {
         let mut out = MemSink::new(rt.alloc(), &[]);

@@ -5,7 +5,7 @@ ghost use Rattle.poly_io.specs.Causes.{Rose};
 ghost use Rattle.poly_io.specs.Taken.{TakesAtMost};
 ghost use Rattle.poly_model.specs.declared.overflow.Overflow.{Overflow as Passed};
 ghost use Rattle.poly_reader.specs.declared.bad.BadFile.{BadFile};
-ghost use Rattle.lrs_cli.specs.Answers.{IsLine, Told, IsSupported, IsUnsupported, IsBadFile, IsInfeasible, IsOverflow, IsListed, IsPartlyListed, Lists, StopsListing, WritesNothing, Knows, HasNoObstacle, Ends};
+ghost use Rattle.lrs_cli.specs.Answers.{IsLine, Told, IsPolyhedral, IsBadFile, IsInfeasible, IsOverflow, IsListed, IsPartlyListed, Lists, StopsListing, WritesNothing, Knows, HasNoObstacle, Ends};
 
 use crate::convert::convert;
 use crate::status::Status;
@@ -24,8 +24,7 @@ pub fn lrs<I: Source, O: Sink>(alloc: Global, words: &[&str], input: &mut I, out
     ensures stopped { StopsListing result → Told (I.left input.old) (IsPartlyListed (O.written out.old) (O.written out.new)) }
     ensures infeasible { result ≡ Status.Infeasible → Told (I.left input.old) IsInfeasible }
     ensures overflow { (o : Passed) → result ≡ Status.Overflow o → Told (I.left input.old) (IsOverflow o) }
-    ensures supported { Lists result → Told (I.left input.old) IsSupported }
-    ensures unsupported { result ≡ Status.Unsupported → Told (I.left input.old) IsUnsupported }
+    ensures polyhedral { Lists result → Told (I.left input.old) IsPolyhedral }
     ensures bad { (f : BadFile) → result ≡ Status.BadFile f → Told (I.left input.old) (IsBadFile f) }
     ensures read { result ≡ Status.ReadFault → Rose (I.faults input.old) (I.faults input.new) }
     ensures write { result ≡ Status.WriteFault → Rose (O.faults out.old) (O.faults out.new) }
