@@ -14,11 +14,13 @@ use Rattle.dictionary_laws.specs.MainSpace.{equations_of}
 use Rattle.dictionary.specs.Views.{Dictionary, IsDictionaryIn, table_of}
 use Rattle.linearity.specs.Elimination.{IsDictionaryOf, IsEliminated}
 
--- the equations of the file have a common point: of an H file a vector that is not 0 at infinity and meets them all
+-- the equations of the file have a common point: of an H file a vector that is not 0 at infinity and meets them all. The
+-- linear rows of a V file always have one
 abbrev pub AreConsistent : Polyhedron → Type 0
 AreConsistent p = HasPointOn (prepare_space p) (equations_of p)
 
--- equations come first: a product passes at the pivot of a linear row, or at any, and the equations have a common point
+-- equations come before inequalities: a pivot of a linear row needs a product that passes; or that of some row does, and
+-- the equations have a common point
 pub record PassesInOrder (p : Polyhedron) (o : Overflow) : Type 0 where
   pub passes : Passes p o
   pub order : ((row_of (cone_of p).rows passes.r).linear ≡ true) ⊎ AreConsistent p
