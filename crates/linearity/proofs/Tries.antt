@@ -83,6 +83,12 @@ overflows p d i k o h can over = record {
       (subst (λ ks. IsPassing ks d.key (table_of d) i k o) h.dictionary.labels over.passes);
 }
 
+-- it passes at the pivot of that row
+pub overflows_at : (p : Polyhedron) (d : Dictionary) (i k : ℕ) (o : Overflow) → IsDictionaryOf p d → CanPivot d i k →
+    IsOverflow d i k o → (passes : Passes p o) × (passes.r ≡ i)
+unfolding overflows
+overflows_at p d i k o h can over = (overflows p d i k o h can over, refl)
+
 -- ---- the rows that have been tried
 module _ (sys : System) (others : Bool) where
   -- the pivot of the next row overflows, and nothing has changed

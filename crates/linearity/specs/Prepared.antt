@@ -1,8 +1,10 @@
 -- What is prepared before a search.
-use Rattle.std.specs.Prelude.{◌≡◌, ℕ, ◌+◌, ◌<◌, ◌≤◌, true, false, pos, List, length}
+use Rattle.std.specs.Prelude.{◌≡◌, ◌⊎◌, ℕ, ◌+◌, ◌<◌, ◌≤◌, true, false, pos, List, length}
 use Rattle.std.specs.List.{Contains}
 use Rattle.poly_num.specs.Vectors.{Vector}
+use Rattle.poly_model.specs.declared.overflow.Overflow.{Overflow}
 use Rattle.poly_model.specs.declared.overflow.Phase.TheVariants.{Prepare, Main}
+use Rattle.poly_model.specs.Overflows.{Passes}
 use Rattle.poly_model.specs.Systems.{row_of, System, Polyhedron, cone_of}
 use Rattle.poly_model.specs.FreeColumns.{AreFreeColumns, AreLinesOf}
 use Rattle.poly_model.specs.Spaces.{IsStartCobasis, prepare_space, main_space}
@@ -12,9 +14,16 @@ use Rattle.dictionary_laws.specs.MainSpace.{equations_of}
 use Rattle.dictionary.specs.Views.{Dictionary, IsDictionaryIn, table_of}
 use Rattle.linearity.specs.Elimination.{IsDictionaryOf, IsEliminated}
 
--- the equations of the file have a common point: of an H file a vector that is not 0 at infinity and meets them all
+-- the equations of the file have a common point: of an H file a vector that is not 0 at infinity and meets them all. The
+-- linear rows of a V file always have one
 abbrev pub AreConsistent : Polyhedron → Type 0
 AreConsistent p = HasPointOn (prepare_space p) (equations_of p)
+
+-- equations come before inequalities: a pivot of a linear row needs a product that passes; or that of some row does, and
+-- the equations have a common point
+pub record PassesInOrder (p : Polyhedron) (o : Overflow) : Type 0 where
+  pub passes : Passes p o
+  pub order : ((row_of (cone_of p).rows passes.r).linear ≡ true) ⊎ AreConsistent p
 
 -- the lines, by ascending free column, and the dictionary of the start cobasis in the main space
 pub record IsPrepared (p : Polyhedron) (lines : List Vector) (free : List ℕ) (d : Dictionary) : Type 0 where

@@ -5,6 +5,8 @@
 
 mod eliminate;
 mod lines;
+#[cfg(test)]
+mod prepare_tests;
 mod prepared;
 mod preparing;
 #[cfg(test)]

@@ -8,7 +8,7 @@ ghost use Rattle.poly_model.specs.Overflows.{Passes};
 ghost use Rattle.poly_model.specs.Systems.{Polyhedron, row_of, cone_of};
 ghost use Rattle.poly_model.specs.Dictionaries.{Table};
 ghost use Rattle.dictionary.specs.Views.{table_of};
-ghost use Rattle.linearity.specs.Prepared.{AreConsistent, HasNoConstants, IsPrepared, IsReduced, IsUnreduced};
+ghost use Rattle.linearity.specs.Prepared.{AreConsistent, HasNoConstants, PassesInOrder, IsPrepared, IsReduced, IsUnreduced};
 
 use crate::eliminate::enter_rows;
 use crate::lines::{free_columns, lines_of};
@@ -27,8 +27,9 @@ pub enum PrepareStop {
 }
 
 /// The free columns of a system, its lines, and the dictionary of its start cobasis in the phase `Main`. `Inconsistent`
-/// comes exactly where the equations have no common point, if no overflow or want of memory came before. The system is
-/// left as it is, whatever the answer; memory that was taken by then is given back.
+/// comes exactly where the equations have no common point, if no overflow or want of memory came before; and before it
+/// only a pivot of an equation overflows. The system is left as it is, whatever the answer; memory that was taken by
+/// then is given back.
 ///
 /// Rows enter a dictionary of the phase `Prepare`, each for the least coordinate at which it is not 0: first the linear
 /// ones, then the others. What is left are the free columns.
@@ -36,6 +37,7 @@ pub fn prepare(alloc: Global, sys: &System) -> Result<Prepared, PrepareStop>
     ensures prepared { IfOk result (λ r. (p : Polyhedron) → sys.now ≡ cone_of p → IsPrepared p r.lines r.free r.dictionary) }
     ensures inconsistent { IsErrOf result PrepareStop.Inconsistent → (p : Polyhedron) → sys.now ≡ cone_of p → AreConsistent p → ⊥ }
     ensures overflow { (o : Passed) → IsErrOf result (PrepareStop.Overflow o) → (p : Polyhedron) → sys.now ≡ cone_of p → Passes p o }
+    ensures order { (o : Passed) → IsErrOf result (PrepareStop.Overflow o) → (p : Polyhedron) → sys.now ≡ cone_of p → PassesInOrder p o }
     ensures phase { (o : Passed) → IsErrOf result (PrepareStop.Overflow o) → o.phase ≡ Prepare }
 {
     let (_n, _rows) = (sys.n(), sys.rows());
@@ -54,6 +56,7 @@ fn reduce(at: &mut Dict, sys: &System) -> Result<(), PrepareStop>
     ensures reduced { OnOk result ((p : Polyhedron) → sys.now ≡ cone_of p → IsUnreduced p at.old → IsReduced p at.new) }
     ensures inconsistent { IsErrOf result PrepareStop.Inconsistent → (p : Polyhedron) → sys.now ≡ cone_of p → IsUnreduced p at.old → AreConsistent p → ⊥ }
     ensures overflow { (o : Passed) → IsErrOf result (PrepareStop.Overflow o) → (p : Polyhedron) → sys.now ≡ cone_of p → IsUnreduced p at.old → Passes p o }
+    ensures order { (o : Passed) → IsErrOf result (PrepareStop.Overflow o) → (p : Polyhedron) → sys.now ≡ cone_of p → IsUnreduced p at.old → PassesInOrder p o }
     ensures phase { (o : Passed) → IsErrOf result (PrepareStop.Overflow o) → o.phase ≡ at.old.phase }
     ensures memory { IsErrOf result PrepareStop.Memory → ⊥ }
 {

@@ -1,4 +1,4 @@
-use Rattle.std.proofs.Common.{◌≡◌, ◌+◌, Err, true, false, length, subst, sym, ap, ◌∙◌}
+use Rattle.std.proofs.Common.{◌≡◌, ◌+◌, inr, Err, true, false, length, subst, sym, ap, ◌∙◌}
 use Rattle.std.specs.Result.{IsErrOf}
 use Rattle.std.proofs.lemmas.Bool.{true≢false}
 use Rattle.poly_model.specs.declared.overflow.Overflow.{Overflow as Passed}
@@ -7,7 +7,8 @@ use Rattle.linearity.specs.declared.preparing.PrepareStop.{PrepareStop}
 use Rattle.linearity.specs.declared.preparing.PrepareStop.TheVariants.{Overflow}
 use Rattle.linearity.specs.Elimination.{IsEliminated}
 use Rattle.linearity.proofs.Beginnings.{second_pass}
-use Rattle.linearity.proofs.Consistency.{consistent_exactly}
+use Rattle.linearity.specs.Prepared.{PassesInOrder}
+use Rattle.linearity.proofs.Consistency.{consistent_exactly, passes_at_equation}
 use Rattle.linearity.proofs.preparing.reduce.Goals as goal
 
 -- the overflow that is handed on
@@ -23,6 +24,24 @@ returns-in-Err-enter_rows-clause-overflow c o h p file unreduced =
     let first = c.in_default.ensures.entered p file unreduced.of
     (subst (λ (s : System). IsEliminated s.rows false 1 c.args.at.now) (sym file) unreduced.untried) in
     c.in-Err-enter_rows.ensures.passes o (ap (λ x. Err x) (same_overflow c.in-Err-enter_rows.overflow o h)) p file first.0
+
+pub returns-in-Err-clause-order : goal.returns-in-Err-clause-order
+returns-in-Err-clause-order c o h p file unreduced =
+    subst (PassesInOrder p) (same_overflow c.in-Err.overflow o h)
+    (passes_at_equation p c.args.sys.now c.in-Err.ensures.stopped.0 c.args.at.now c.enter_rows.new.at c.in-Err.overflow file
+    unreduced.of c.in-Err.ensures.stopped.1)
+
+pub returns-in-Err-enter_rows-clause-order : goal.returns-in-Err-enter_rows-clause-order
+returns-in-Err-enter_rows-clause-order c o h p file unreduced =
+    let first = c.in_default.ensures.entered p file unreduced.of
+    (subst (λ (s : System). IsEliminated s.rows false 1 c.args.at.now) (sym file) unreduced.untried) in
+    let same = consistent_exactly p c.args.sys.now c.enter_rows.new.at file first.0
+    (c.enter_rows.ensures.phase ∙ unreduced.phase) first.1 in
+    record {
+      passes = c.in-Err-enter_rows.ensures.passes o
+          (ap (λ x. Err x) (same_overflow c.in-Err-enter_rows.overflow o h)) p file first.0;
+      order = inr (same.1 ((c.are_consistent.ensures).0 c.if-not-are_consistent.false));
+    }
 
 pub returns-then-not-are_consistent-clause-inconsistent :
     goal.returns-then-not-are_consistent-clause-inconsistent
