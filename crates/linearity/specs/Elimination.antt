@@ -6,6 +6,8 @@ use Rattle.poly_model.specs.declared.overflow.Phase.TheVariants.{Cone, Prepare}
 use Rattle.poly_model.specs.Systems.{Row, row_of, Polyhedron, cone_of}
 use Rattle.poly_model.specs.Spaces.{Space, IsSpaceOf, HasPoints}
 use Rattle.poly_model.specs.Dictionaries.{Table}
+use Rattle.linearity.specs.declared.eliminate.Pass.{Pass}
+use Rattle.linearity.specs.declared.eliminate.Pass.TheVariants.{Linear, Others}
 use Rattle.dictionary.specs.Views.{Dictionary, IsDictionaryIn, table_of}
 
 -- d is a dictionary of the polyhedron, in the phase of its cone or in that of its file's rows. With few rows and
@@ -19,16 +21,21 @@ pub record IsDictionaryOf (p : Polyhedron) (d : Dictionary) : Type 0 where
   pub points : HasPoints space
   pub dictionary : IsDictionaryIn space d
 
--- the label k is tried after row i: coordinates after all rows, rows that are not linear after the linear ones, and of
--- those that are not the later ones
+-- the label k comes after row i in the order of elimination: coordinates after all rows, rows that are not linear after
+-- the linear ones, and of those that are not the later ones
 abbrev pub IsBehind : List Row → ℕ → ℕ → Type 0
 IsBehind rows i k =
     (8192 ≤ k) ⊎ (((row_of rows k).linear ≡ false) × (((row_of rows i).linear ≡ true) ⊎ (i < k)))
 
--- row i, if it is not in the cobasis, is 0 at every label behind it
+-- row i, if it is not in the cobasis, is 0 at every label behind it: it depends on the rows tried before it
 abbrev pub IsSettled : List Row → Dictionary → ℕ → Type 0
 IsSettled rows d i =
     (Contains d.key i → ⊥) → (k : ℕ) → Contains d.key k → IsBehind rows i k → Table.entry (table_of d) i k ≡ pos 0
+
+-- whether a pass tries the rows that are not linear
+abbrev pub tries_others : Pass → Bool
+tries_others Linear = false
+tries_others Others = true
 
 -- row i has been tried: of the first pass, which tries the linear rows, it is one before `from`; of the second, which
 -- tries the others, it is any linear row, or one before `from`

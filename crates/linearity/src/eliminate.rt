@@ -1,5 +1,5 @@
 //! Gauss's elimination in a dictionary: rows enter the cobasis, each for the least coordinate at which it is not 0.
-ghost use Rattle.std.specs.Prelude.{◌≡◌, ◌≢◌, ◌≤◌, ◌<◌, ◌+◌, ℕ, IsTrue, IsFalse, IsNone, IfSome, IfOk, IfErr, IsErrOf, pos, length};
+ghost use Rattle.std.specs.Prelude.{◌≡◌, ◌≢◌, ◌↔◌, ◌≤◌, ◌<◌, ◌+◌, ℕ, IsTrue, IsFalse, IsNone, IfSome, IfOk, IfErr, IsErrOf, pos, length};
 ghost use Rattle.std.specs.List.{Contains};
 ghost use Rattle.poly_model.specs.declared.overflow.Overflow.{Overflow as Passed};
 ghost use Rattle.poly_model.specs.Dictionaries.{Table};
@@ -7,11 +7,32 @@ ghost use Rattle.poly_model.specs.Overflows.{Passes};
 ghost use Rattle.poly_model.specs.Systems.{Polyhedron, cone_of, row_of};
 ghost use Rattle.dictionary.specs.Views.{table_of, CanPivot};
 ghost use Rattle.linearity.specs.Columns.{IsLeastColumn, HasNoColumn};
-ghost use Rattle.linearity.specs.Elimination.{IsDictionaryOf, IsEliminated};
+ghost use Rattle.linearity.specs.Elimination.{IsDictionaryOf, IsEliminated, tries_others};
 ghost use Rattle.linearity.specs.Turns.{KeepsShape, OverflowsFor, IsEntered, Eliminates, StopsAt};
 
 use dictionary::Dict;
 use poly_model::{Label, Overflow, System};
+
+/// Which rows a pass of elimination tries.
+#[derive(Clone, Copy, PartialEq, Eq, Debug)]
+pub enum Pass {
+    /// The linear rows, which are first.
+    Linear,
+    /// The other rows.
+    Others,
+}
+
+impl Pass {
+    // Whether it tries a row that is linear, or is not.
+    fn tries(self, linear: bool) -> bool
+        ensures { IsTrue result ↔ (linear ≢ tries_others self) }
+    {
+        match self {
+            Pass::Linear => linear,
+            Pass::Others => !linear,
+        }
+    }
+}
 
 // Whether a label of the cobasis is a coordinate at which a row is not 0: then the row can take its place.
 fn is_column(at: &Dict, row: Label, label: Label) -> bool
@@ -57,32 +78,32 @@ fn enter(at: &mut Dict, row: Label) -> Result<(), Overflow>
 }
 
 // Whether a row is tried in a pass: it is a label, and linear in the first pass, not linear in the second.
-fn is_tried(at: &Dict, sys: &System, i: u32, others: bool) -> bool
+fn is_tried(at: &Dict, sys: &System, i: u32, pass: Pass) -> bool
     requires from_one { 0 < i }
     requires within { i ≤ length sys.now.rows }
     requires few { i < 8192 }
     ensures label { IsTrue result → Contains at.now.labels i }
-    ensures kind { IsTrue result → (row_of sys.now.rows i).linear ≢ others }
-    ensures otherwise { IsFalse result → Contains at.now.labels i → (row_of sys.now.rows i).linear ≡ others }
+    ensures kind { IsTrue result → (row_of sys.now.rows i).linear ≢ tries_others pass }
+    ensures otherwise { IsFalse result → Contains at.now.labels i → (row_of sys.now.rows i).linear ≡ tries_others pass }
 {
-    at.has_label(Label(i as u16)) && sys.is_linear(i) != others
+    at.has_label(Label(i as u16)) && pass.tries(sys.is_linear(i))
 }
 
 // Tries a row in a pass. Where its pivot overflows, nothing has changed.
-fn try_row(at: &mut Dict, sys: &System, i: u32, others: bool) -> Result<(), Overflow>
+fn try_row(at: &mut Dict, sys: &System, i: u32, pass: Pass) -> Result<(), Overflow>
     requires from_one { 0 < i }
     requires within { i ≤ length sys.now.rows }
     requires few { i < 8192 }
-    ensures tried { IfOk result (λ _. Eliminates sys.now others i (i + 1) at.old at.new) }
+    ensures tried { IfOk result (λ _. Eliminates sys.now (tries_others pass) i (i + 1) at.old at.new) }
     ensures shape { KeepsShape at.old at.new }
     ensures unchanged { IfErr result (λ _. at.new ≡ at.old) }
-    ensures kind { IfErr result (λ _. (row_of sys.now.rows i).linear ≢ others) }
+    ensures kind { IfErr result (λ _. (row_of sys.now.rows i).linear ≢ tries_others pass) }
     ensures overflows { IfErr result (λ o. (k : ℕ) × OverflowsFor at.old i k o) }
     ensures passes { (o : Passed) → IsErrOf result o → (p : Polyhedron) → sys.now ≡ cone_of p →
         IsDictionaryOf p at.old → Passes p o }
     ensures phase { (o : Passed) → IsErrOf result o → o.phase ≡ at.old.phase }
 {
-    if is_tried(at, sys, i, others) {
+    if is_tried(at, sys, i, pass) {
         enter(at, Label(i as u16))
     } else {
         Ok(())
@@ -90,14 +111,13 @@ fn try_row(at: &mut Dict, sys: &System, i: u32, others: bool) -> Result<(), Over
 }
 
 /// Tries rows of a system for the cobasis, in ascending order: each enters for the least coordinate at which it is not
-/// 0, where there is one (Gauss). The first pass, with `others` false, tries the linear rows, the second one the
-/// others. Rows that are no labels of the dictionary are passed over (the row at infinity, where the dictionary has
+/// 0, where there is one (Gauss). The first pass tries the linear rows, the second one the others. Rows that are no labels of the dictionary are passed over (the row at infinity, where the dictionary has
 /// constants). Where a pivot overflows, the rows before it have been tried. Takes no memory.
-pub fn enter_rows(at: &mut Dict, sys: &System, others: bool) -> Result<(), Overflow>
+pub fn enter_rows(at: &mut Dict, sys: &System, pass: Pass) -> Result<(), Overflow>
     ensures entered { IfOk result (λ _. (p : Polyhedron) → sys.now ≡ cone_of p → IsDictionaryOf p at.old →
-        IsEliminated sys.now.rows others 1 at.old →
-        IsDictionaryOf p at.new × IsEliminated sys.now.rows others (length sys.now.rows + 1) at.new) }
-    ensures stopped { IfErr result (λ o. (i : ℕ) × StopsAt sys.now others i at.old at.new o) }
+        IsEliminated sys.now.rows (tries_others pass) 1 at.old →
+        IsDictionaryOf p at.new × IsEliminated sys.now.rows (tries_others pass) (length sys.now.rows + 1) at.new) }
+    ensures stopped { IfErr result (λ o. (i : ℕ) × StopsAt sys.now (tries_others pass) i at.old at.new o) }
     ensures fewer { (k : ℕ) → Contains at.new.key k → 8192 ≤ k → Contains at.old.key k }
     ensures phase { at.new.phase ≡ at.old.phase }
     ensures labels { at.new.labels ≡ at.old.labels }
@@ -107,7 +127,7 @@ pub fn enter_rows(at: &mut Dict, sys: &System, others: bool) -> Result<(), Overf
     ensures passing_phase { (o : Passed) → IsErrOf result o → o.phase ≡ at.old.phase }
 {
     'rows: for i in 1..sys.rows() + 1 {
-        try_row(at, sys, i, others)?;
+        try_row(at, sys, i, pass)?;
     }
     Ok(())
 }

@@ -14,7 +14,7 @@ mod tests;
 
 ghost use Rattle.linearity.specs.Laws.{EliminationLeavesLines};
 
-pub use eliminate::enter_rows;
+pub use eliminate::{Pass, enter_rows};
 pub use lines::{free_columns, lines_of};
 pub use prepared::Prepared;
 pub use preparing::{PrepareStop, prepare};

@@ -4,13 +4,12 @@ ghost use Rattle.std.specs.Result.{OnOk};
 ghost use Rattle.std.specs.List.{Contains};
 ghost use Rattle.poly_model.specs.declared.overflow.Overflow.{Overflow as Passed};
 ghost use Rattle.poly_model.specs.declared.overflow.Phase.TheVariants.{Prepare};
-ghost use Rattle.poly_model.specs.Overflows.{Passes};
 ghost use Rattle.poly_model.specs.Systems.{Polyhedron, row_of, cone_of};
 ghost use Rattle.poly_model.specs.Dictionaries.{Table};
 ghost use Rattle.dictionary.specs.Views.{table_of};
 ghost use Rattle.linearity.specs.Prepared.{AreConsistent, HasNoConstants, PassesInOrder, IsPrepared, IsReduced, IsUnreduced};
 
-use crate::eliminate::enter_rows;
+use crate::eliminate::{Pass, enter_rows};
 use crate::lines::{free_columns, lines_of};
 use crate::prepared::Prepared;
 use dictionary::Dict;
@@ -36,8 +35,7 @@ pub enum PrepareStop {
 pub fn prepare(alloc: Global, sys: &System) -> Result<Prepared, PrepareStop>
     ensures prepared { IfOk result (λ r. (p : Polyhedron) → sys.now ≡ cone_of p → IsPrepared p r.lines r.free r.dictionary) }
     ensures inconsistent { IsErrOf result PrepareStop.Inconsistent → (p : Polyhedron) → sys.now ≡ cone_of p → AreConsistent p → ⊥ }
-    ensures overflow { (o : Passed) → IsErrOf result (PrepareStop.Overflow o) → (p : Polyhedron) → sys.now ≡ cone_of p → Passes p o }
-    ensures order { (o : Passed) → IsErrOf result (PrepareStop.Overflow o) → (p : Polyhedron) → sys.now ≡ cone_of p → PassesInOrder p o }
+    ensures overflow { (o : Passed) → IsErrOf result (PrepareStop.Overflow o) → (p : Polyhedron) → sys.now ≡ cone_of p → PassesInOrder p o }
     ensures phase { (o : Passed) → IsErrOf result (PrepareStop.Overflow o) → o.phase ≡ Prepare }
 {
     let (_n, _rows) = (sys.n(), sys.rows());
@@ -55,18 +53,17 @@ pub fn prepare(alloc: Global, sys: &System) -> Result<Prepared, PrepareStop>
 fn reduce(at: &mut Dict, sys: &System) -> Result<(), PrepareStop>
     ensures reduced { OnOk result ((p : Polyhedron) → sys.now ≡ cone_of p → IsUnreduced p at.old → IsReduced p at.new) }
     ensures inconsistent { IsErrOf result PrepareStop.Inconsistent → (p : Polyhedron) → sys.now ≡ cone_of p → IsUnreduced p at.old → AreConsistent p → ⊥ }
-    ensures overflow { (o : Passed) → IsErrOf result (PrepareStop.Overflow o) → (p : Polyhedron) → sys.now ≡ cone_of p → IsUnreduced p at.old → Passes p o }
-    ensures order { (o : Passed) → IsErrOf result (PrepareStop.Overflow o) → (p : Polyhedron) → sys.now ≡ cone_of p → IsUnreduced p at.old → PassesInOrder p o }
+    ensures overflow { (o : Passed) → IsErrOf result (PrepareStop.Overflow o) → (p : Polyhedron) → sys.now ≡ cone_of p → IsUnreduced p at.old → PassesInOrder p o }
     ensures phase { (o : Passed) → IsErrOf result (PrepareStop.Overflow o) → o.phase ≡ at.old.phase }
     ensures memory { IsErrOf result PrepareStop.Memory → ⊥ }
 {
-    if let Err(overflow) = enter_rows(at, sys, false) {
+    if let Err(overflow) = enter_rows(at, sys, Pass::Linear) {
         return Err(PrepareStop::Overflow(overflow));
     }
     if !are_consistent(at, sys) {
         return Err(PrepareStop::Inconsistent);
     }
-    match enter_rows(at, sys, true) {
+    match enter_rows(at, sys, Pass::Others) {
         Ok(()) => Ok(()),
         Err(overflow) => Err(PrepareStop::Overflow(overflow)),
     }

@@ -1,7 +1,7 @@
 //! Elimination worked out by hand.
 ghost use Rattle.std.specs.Prelude.{◌≡◌, length};
 
-use crate::enter_rows;
+use crate::{Pass, enter_rows};
 use dictionary::Dict;
 use poly_model::{Key, Kind, Phase, RowKind, System};
 use poly_num::Num;
@@ -62,8 +62,8 @@ fn rows_enter_the_cobasis(rt: HostRuntime) -> Result<(), Fail> {
         let alloc = rt.alloc();
         let cone = cone_of(alloc, case.entries, case.linear)?;
         let mut at = Dict::new(alloc, &cone, Phase::Cone)?;
-        let first = pass(&mut at, &cone, false);
-        let both = pass(&mut at, &cone, true);
+        let first = pass(&mut at, &cone, Pass::Linear);
+        let both = pass(&mut at, &cone, Pass::Others);
         let want = Passes {
             first: key_of(case.first),
             both: key_of(case.both),
@@ -73,8 +73,8 @@ fn rows_enter_the_cobasis(rt: HostRuntime) -> Result<(), Fail> {
     Ok(())
 }
 
-fn pass(at: &mut Dict, cone: &System, others: bool) -> Option<Key> {
-    match enter_rows(at, cone, others) {
+fn pass(at: &mut Dict, cone: &System, which: Pass) -> Option<Key> {
+    match enter_rows(at, cone, which) {
         Ok(()) => Some(at.key()),
         Err(_) => None,
     }

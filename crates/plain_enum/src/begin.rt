@@ -14,7 +14,7 @@ ghost use Rattle.plain_enum.specs.Listed.{HasShapeOf};
 use crate::answers::FeasibleStop;
 use crate::side::is_kept;
 use dictionary::Dict;
-use linearity::{enter_rows, free_columns};
+use linearity::{Pass, enter_rows, free_columns};
 use poly_model::{Label, Phase, System};
 use poly_num::Num;
 use std::alloc::{AllocError, Global};
@@ -82,13 +82,13 @@ pub(crate) fn begin(alloc: Global, sys: &System) -> Result<Beginning, FeasibleSt
     let Ok(mut at) = Dict::new(alloc, sys, Phase::Cone) else {
         return Err(FeasibleStop::Memory);
     };
-    if let Err(overflow) = enter_rows(&mut at, sys, false) {
+    if let Err(overflow) = enter_rows(&mut at, sys, Pass::Linear) {
         return Err(FeasibleStop::Overflow(overflow));
     }
     let Ok(mut last) = at.copy() else {
         return Err(FeasibleStop::Memory);
     };
-    if let Err(overflow) = enter_rows(&mut last, sys, true) {
+    if let Err(overflow) = enter_rows(&mut last, sys, Pass::Others) {
         return Err(FeasibleStop::Overflow(overflow));
     }
     match with_room(alloc, sys, at, last) {

@@ -1,4 +1,5 @@
 use Rattle.linearity.specs.Turns.{KeepsShape, Eliminates}
+use Rattle.linearity.specs.Elimination.{tries_others}
 use Rattle.linearity.proofs.eliminate.enter_rows.Given as goal
 
 -- the rows before this one have been tried
@@ -6,5 +7,5 @@ abbrev pub invariant-rows : goal.invariant-rows
 invariant-rows l =
     record {
       shape : KeepsShape l.fn.at l.at;
-      tried : Eliminates l.sys l.others 1 l.i l.fn.at l.at;
+      tried : Eliminates l.sys (tries_others l.pass) 1 l.i l.fn.at l.at;
     }

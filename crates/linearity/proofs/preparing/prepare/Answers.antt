@@ -20,14 +20,6 @@ returns-in_err-reduce-clause-overflow c o h p file =
     (begins_unreduced c.args.sys.now c.in-Ok.at p file c.n-n.ensures.value c.n-n.ensures.some c.n-n.ensures.narrow
     c.rows-rows.ensures.value c.rows-rows.ensures.few c.in-Ok.ensures)
 
-pub returns-in_err-reduce-clause-order : goal.returns-in_err-reduce-clause-order
-returns-in_err-reduce-clause-order c o h p file =
-    let q = err_from_is_err_and c.from_residual.result c.from_residual.ensures.1 in
-    let same = sym q.2 ∙ one_error c.from_residual.result (Overflow o) q.0 h q.1 in
-    c.in_err-reduce.ensures.order o (ap (λ v. Err v) same) p file
-    (begins_unreduced c.args.sys.now c.in-Ok.at p file c.n-n.ensures.value c.n-n.ensures.some c.n-n.ensures.narrow
-    c.rows-rows.ensures.value c.rows-rows.ensures.few c.in-Ok.ensures)
-
 pub returns-in-Ok-enter_main-clause-prepared : goal.returns-in-Ok-enter_main-clause-prepared
 returns-in-Ok-enter_main-clause-prepared c p file =
     c.in-Ok-enter_main.ensures p file

@@ -17,22 +17,12 @@ same_overflow x o h = cc
 
 pub returns-in-Err-clause-overflow : goal.returns-in-Err-clause-overflow
 returns-in-Err-clause-overflow c o h p file unreduced =
-    c.in-Err.ensures.passes o (ap (λ x. Err x) (same_overflow c.in-Err.overflow o h)) p file unreduced.of
-
-pub returns-in-Err-enter_rows-clause-overflow : goal.returns-in-Err-enter_rows-clause-overflow
-returns-in-Err-enter_rows-clause-overflow c o h p file unreduced =
-    let first = c.in_default.ensures.entered p file unreduced.of
-    (subst (λ (s : System). IsEliminated s.rows false 1 c.args.at.now) (sym file) unreduced.untried) in
-    c.in-Err-enter_rows.ensures.passes o (ap (λ x. Err x) (same_overflow c.in-Err-enter_rows.overflow o h)) p file first.0
-
-pub returns-in-Err-clause-order : goal.returns-in-Err-clause-order
-returns-in-Err-clause-order c o h p file unreduced =
     subst (PassesInOrder p) (same_overflow c.in-Err.overflow o h)
     (passes_at_equation p c.args.sys.now c.in-Err.ensures.stopped.0 c.args.at.now c.enter_rows.new.at c.in-Err.overflow file
     unreduced.of c.in-Err.ensures.stopped.1)
 
-pub returns-in-Err-enter_rows-clause-order : goal.returns-in-Err-enter_rows-clause-order
-returns-in-Err-enter_rows-clause-order c o h p file unreduced =
+pub returns-in-Err-enter_rows-clause-overflow : goal.returns-in-Err-enter_rows-clause-overflow
+returns-in-Err-enter_rows-clause-overflow c o h p file unreduced =
     let first = c.in_default.ensures.entered p file unreduced.of
     (subst (λ (s : System). IsEliminated s.rows false 1 c.args.at.now) (sym file) unreduced.untried) in
     let same = consistent_exactly p c.args.sys.now c.enter_rows.new.at file first.0
