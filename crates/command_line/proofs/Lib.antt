@@ -1,2 +1,3 @@
 mod KnownLines
 mod AcceptedLines
+mod ConvertLines
