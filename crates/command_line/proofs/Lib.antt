@@ -1,0 +1,3 @@
+mod KnownLines
+mod AcceptedLines
+mod ConvertLines
