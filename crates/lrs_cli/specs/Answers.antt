@@ -1,5 +1,5 @@
 -- Which answer of the program comes when.
-use Rattle.std.specs.Prelude.{◌≡◌, ℕ, List, [], ◌∷◌, codes, Option, Some, None, Ok, Err, ⊤}
+use Rattle.std.specs.Prelude.{◌≡◌, ℕ, List, Option, Some, None, Ok, Err, ⊤}
 use Rattle.std.specs.Io.KnownBytes.{Appends}
 use Rattle.poly_model.specs.declared.overflow.Overflow.{Overflow as Passed}
 use Rattle.poly_model.specs.Systems.{Polyhedron, cone_of}
@@ -12,10 +12,6 @@ use Rattle.poly_reader.specs.Reading.{reading}
 use Rattle.plain_enum.specs.Plain.{IsCountedListing}
 use Rattle.lrs_cli.specs.declared.status.Status.{Status}
 use Rattle.lrs_cli.specs.declared.status.Status.TheVariants.{Done, Usage, BadFile, Infeasible, Overflow, ReadFault, WriteFault, OutOfMemory}
-
--- the words are the one command that there is so far
-abbrev pub IsLine : List (List ℕ) → Type 0
-IsLine words = words ≡ codes "convert" ∷ []
 
 -- a fact about bytes, where they are told
 abbrev pub Told : Option (List ℕ) → (List ℕ → Type 0) → Type 0

@@ -284,6 +284,10 @@ fn answers_faults_and_other_words(rt: HostRuntime) {
         &["convert", "convert"],
         &["--help"],
         &["run"],
+        &["help"],
+        &["-h"],
+        &["convert", "--help"],
+        &["--version"],
     ] {
         let mut input = MemSource::new(SQUARE.as_bytes(), &[]);
         let mut out = MemSink::new(alloc, &[]);
