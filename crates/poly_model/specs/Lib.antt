@@ -12,3 +12,5 @@ pub mod Spaces
 pub mod Dictionaries
 pub mod Overflows
 pub mod Tables
+pub mod LexOrder
+pub mod Tree
