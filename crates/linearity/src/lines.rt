@@ -38,7 +38,8 @@ pub fn free_columns(alloc: Global, at: &Dict) -> Result<Vec<u32>, AllocError>
 /// column. Once all rows have been tried they are the lines. Takes memory for the vectors.
 pub fn lines_of(alloc: Global, at: &Dict, n: u32) -> Result<Lines, AllocError>
     requires { n ≤ 256 }
-    ensures { IfOk result (λ lines. lines ≡ coordinate_vectors at.now n) }
+    ensures value { IfOk result (λ lines. lines ≡ coordinate_vectors at.now n) }
+    ensures few { IfOk result (λ lines. length lines ≤ 256) }
 {
     let key = at.key();
     let mut lines = Vec::new(alloc);

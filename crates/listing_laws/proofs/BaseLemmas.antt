@@ -37,7 +37,7 @@ cond_from_both false c e f = absurd (cc)
 abbrev is_tight_point : Vector → Row → Bool
 is_tight_point y row = cond row.point (is_zero (row.entries · y)) false
 
-shows_is_shown : (kind : Kind) (sys : System) (y : Vector) → (shows_of kind sys.rows y ≡ true) ↔ IsShown kind sys y
+pub shows_is_shown : (kind : Kind) (sys : System) (y : Vector) → (shows_of kind sys.rows y ≡ true) ↔ IsShown kind sys y
 shows_is_shown H sys y = (λ e. tt, λ t. refl)
 shows_is_shown V sys y = (λ e. touches (Any-from_list_any (is_tight_point y) sys.rows e), λ t. passes t)
   where

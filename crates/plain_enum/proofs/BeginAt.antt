@@ -1,80 +1,285 @@
--- Where a listing begins: the dictionary of the coordinates stands at the empty prefix, of a polyhedron without free
--- columns and linear rows.
-use Rattle.std.proofs.Common.{◌≡◌, true, false, ℕ, zero, suc, ◌-◌, ◌<◌, List, [], ◌∷◌, ◌++◌, length, refl, sym, ap, ◌∙◌, subst, arith}
-use Rattle.std.specs.List.{All, Contains, range_with_len}
-use Rattle.std.proofs.lemmas.List.Elements.{All-append, Contains-append_left}
-use Rattle.std.proofs.lemmas.List.FromFn.{length-map-range_with_len}
+-- Where a listing begins: at the empty prefix stands a dictionary at which the linear rows have been tried.
+use Rattle.std.proofs.Common.{◌≡◌, ⊎_elim, inl, ℕ, zero, suc, ◌-◌, ◌<◌, ◌≤◌, true, false, List, [], ◌∷◌, ◌++◌, pos, length, refl, sym, ap, subst, ◌∙◌, arith}
+use Rattle.std.specs.Prelude.{not}
+use Rattle.std.specs.List.{All, Contains, slice_index_or}
+use Rattle.std.proofs.lemmas.Bool.{cases_Bool, cases_lt, cond-true, cond-false, lt-ltb, le-ltb, not-true, not-false, not_from_true, not_from_false, true≢false}
+use Rattle.std.proofs.lemmas.List.{length-map, get_or_default}
+use Rattle.std.proofs.lemmas.List.Elements.{All-append, Contains-append_left, Contains-append_right, Contains-append_cases}
+use Rattle.poly_num.specs.Vectors.{Vector, ◌·◌, IsZero}
 use Rattle.poly_model.specs.declared.overflow.Phase.TheVariants.{Cone}
-use Rattle.poly_model.specs.Systems.{System, Polyhedron, cone_of}
-use Rattle.poly_model.specs.Spaces.{coordinate_label, cone_space}
-use Rattle.linear_laws.proofs.Members.{Contains-nil}
-use Rattle.dictionary_laws.specs.Coordinates.{coordinate_key}
-use Rattle.dictionary_laws.proofs.CoordinateSpaces.{coordinate_keys}
-use Rattle.dictionary_laws.proofs.Filters.{range_has}
-use Rattle.dictionary.specs.New.{IsNew}
-use Rattle.dictionary.specs.Views.{Dictionary, IsDictionaryIn}
-use Rattle.listing_laws.specs.ListedCone.{ListedCone, IsConeOf, cone_over}
-use Rattle.listing_laws.proofs.BaseLemmas.{nothing_is_base}
-use Rattle.plain_enum.specs.Columns.{HasRows}
-use Rattle.plain_enum.specs.Plain.{IsPlain}
+use Rattle.poly_model.specs.Independence.{Vanish}
+use Rattle.poly_model.specs.Systems.{Row, row_of, no_row, System, Polyhedron, cone_of}
+use Rattle.poly_model.specs.Cones.{IsTight}
+use Rattle.poly_model.specs.FreeColumns.{IsFree, IsZeroAtFree, AreFreeColumns, AreLinesOf, AreLines}
+use Rattle.poly_model.specs.Spaces.{IsSpaceOf, coordinate_label, is_row, is_member, cone_space}
+use Rattle.poly_model.specs.Dictionaries.{Table}
+use Rattle.linear_laws.proofs.AllLemmas.{all_from_map, all_to_map}
+use Rattle.linear_laws.proofs.Members.{all_at}
+use Rattle.dictionary_laws.specs.Keys.{AreDistinct}
+use Rattle.dictionary_laws.proofs.Directions.{times_zero, zero_times}
+use Rattle.dictionary_laws.proofs.Duals.{distinct}
+use Rattle.dictionary_laws.proofs.Filters.{filter_only, filter_kept, distinct_filter, member_only, member_has}
+use Rattle.dictionary_laws.proofs.Members.{all_from, contains_or}
+use Rattle.dictionary_laws.proofs.Values.{is_label}
+use Rattle.dictionary.specs.MainPhase.{stays_in}
+use Rattle.dictionary.specs.Views.{Dictionary, IsDictionaryIn, table_of}
+use Rattle.linearity.specs.Columns.{columns_in, coordinate_vectors}
+use Rattle.linearity.proofs.ConeLabels.{HasConeLabels, over_cone_of}
+use Rattle.linearity.proofs.KeyColumns.{column_only}
+use Rattle.linearity.proofs.LeftLines.{elimination_leaves_lines}
+use Rattle.linearity.proofs.RowValues.{row_form, coordinate_value}
+use Rattle.listing_laws.specs.ListedCone.{ListedCone, IsConeOf}
+use Rattle.listing_laws.proofs.BaseLemmas.{shows_is_shown}
+use Rattle.plain_enum.specs.Begin.{IsBegun, fixed_in, begun_cone, is_kept, left_in}
+use Rattle.plain_enum.specs.Columns.{LeavesNoCoordinate}
 use Rattle.plain_enum.specs.Listed.{IsAt, HasShapeOf}
-use Rattle.plain_enum.specs.Standing.{HasRowsOf}
-use Rattle.plain_enum.proofs.FixedLabels.{FixedAre, coordinate_stays}
-use Rattle.plain_enum.proofs.Steps.{begins_at_coordinates}
+use Rattle.plain_enum.specs.Standing.{form_of, AreZeroAt, HasRowsOf, StandsAt}
+use Rattle.plain_enum.proofs.ConeVectors.{DualOver, dual_over, zero_over, zero_by_terms}
+use Rattle.plain_enum.proofs.Counting.{new_forms}
+use Rattle.plain_enum.proofs.FixedLabels.{row_stays, coordinate_stays, FixedAre}
+use Rattle.plain_enum.proofs.Parts.{distinct-append}
+use Rattle.plain_enum.proofs.RowsTaken.{as_many, row_is_label}
 
--- the dictionary of the coordinates has a row for each row of the system
-pub new_rows : (sys : System) (d : Dictionary) → IsNew sys Cone d → HasRows (length sys.rows) d
-new_rows sys d new i a b =
-    subst (λ (ks : List ℕ). Contains ks i) (sym new.labels)
-    (Contains-append_left (range_with_len 1 (length sys.rows)) d.key i (range_has 1 (length sys.rows) i a (omega (arith, b))))
+module _ (p : Polyhedron) (at last : Dictionary) (free : List ℕ) (b : IsBegun p at last free) where
+  abbrev rows : List Row
+  rows = (cone_of p).rows
 
--- where no column is free and no row is linear, the cone over nothing is that of the system
-pub plain_cone : (sys : System) (p : Polyhedron) → sys ≡ cone_of p → IsPlain p → IsConeOf sys (cone_over [] (cone_of p))
-plain_cone sys p file plain =
-    subst (λ s. IsConeOf s (cone_over [] (cone_of p))) (sym file) (nothing_is_base (cone_of p) plain.columns plain.rows)
+  abbrev fixed : List ℕ
+  fixed = fixed_in rows free at.key
 
-module _ (sys : System) (d : Dictionary) (new : IsNew sys Cone d) (p : Polyhedron) (file : sys ≡ cone_of p) where
-  is_dictionary : IsDictionaryIn (cone_space p) d
-  is_dictionary = new.dictionary p file (cone_space p) refl
+  abbrev left : List ℕ
+  left = left_in free at.key
 
-  -- ---- at the empty prefix
-  module _ (plain : IsPlain p) where
-    abbrev cone : ListedCone
-    cone = cone_over [] (cone_of p)
+  is : IsDictionaryIn (cone_space p) at
+  is = subst (λ s. IsDictionaryIn s at) (subst (λ f. IsSpaceOf p f b.at_of.space) b.phase b.at_of.is_space) b.at_of.dictionary
 
-    over : length sys.rows < 8192 → HasRowsOf p cone
-    over few = record {
-      width = refl;
-      rows = refl;
-      few = subst (λ (s : System). length s.rows < 8192) file few;
-    }
+  key_label : (k : ℕ) → Contains at.key k → Contains (cone_space p).labels k
+  key_label = is_label (cone_space p) at.key is.dictionary.cobasis
 
-    same_key : d.key ≡ coordinate_key 0 p.n
-    same_key = new.key ∙ ap (λ (s : System). coordinate_key 0 s.n) file
+  cone_labels : HasConeLabels p (cone_space p).labels
+  cone_labels = (over_cone_of p Cone (cone_space p) b.at_of.few (inl refl) refl).labels
 
-    -- the labels of the key are coordinates, and none of them is free
-    nothing_fixed : FixedAre sys.rows [] d []
-    nothing_fixed k c = (
-      λ f. absurd (Contains-nil k f),
-      λ e.
-          let high = (coordinate_keys 0 p.n).coordinates k (subst (λ (ks : List ℕ). Contains ks k) same_key c) in
-          let both : true ≡ false = sym (coordinate_stays sys.rows [] k high) ∙ e in
-          absurd (cc),
-    )
+  pub free_columns : AreFreeColumns (cone_of p) free
+  free_columns =
+      subst (AreFreeColumns (cone_of p)) (sym b.columns)
+      (elimination_leaves_lines p last b.last_of b.ascending b.all).free
 
-    pub begins_at : (depth : ℕ) → sys.n ≡ suc depth → length sys.rows < 8192 →
-        IsAt sys [] d 1 depth p cone [] (coordinate_key 0 p.n) []
-    begins_at depth e few = record {
-      file = file;
-      is_cone = plain_cone sys p file plain;
-      phase = new.phase_is;
-      stands = begins_at_coordinates p cone d (over few) refl is_dictionary same_key;
-      fixed_are = nothing_fixed;
-      next = refl;
-      count =
-          length-map-range_with_len coordinate_label 0 (p.n - 0)
-          ∙ omega (arith, e, ap (λ (s : System). s.n) file);
-    }
+  -- the vectors of the coordinates that are left once all rows have been tried are the lines
+  pub begun_lines : (sys : System) (lines : List Vector) → sys ≡ cone_of p → lines ≡ coordinate_vectors last sys.n →
+      AreLines (cone_of p) lines
+  begun_lines sys lines file same =
+      let leaves = elimination_leaves_lines p last b.last_of b.ascending b.all in
+      record {
+        columns = columns_in last.key;
+        free = leaves.free;
+        each = subst (AreLinesOf (cone_of p) (columns_in last.key))
+            (sym (same ∙ ap (λ (s : System). coordinate_vectors last s.n) file)) leaves.lines;
+      }
+
+  -- ---- which labels are fixed
+  fixed_only : (k : ℕ) → Contains fixed k → Contains at.key k × (stays_in rows free k ≡ false)
+  fixed_only k c =
+      let h = filter_only (λ j. not (stays_in rows free j)) at.key k c in (h.0, not-true (stays_in rows free k) h.1)
+
+  fixed_has : (k : ℕ) → Contains at.key k → stays_in rows free k ≡ false → Contains fixed k
+  fixed_has k c e = filter_kept (λ j. not (stays_in rows free j)) at.key k c (not_from_false (stays_in rows free k) e)
+
+  pub fixed_are : FixedAre rows free at fixed
+  fixed_are k c = (λ f. (fixed_only k f).1, λ e. fixed_has k c e)
+
+  -- the rows of the key are linear, so they are fixed
+  row_is_linear : (k : ℕ) → Contains at.key k → k < 8192 → (row_of rows k).linear ≡ true
+  row_is_linear k c l = (b.linear.taken k c l).0
+
+  row_is_fixed : (k : ℕ) → Contains at.key k → k < 8192 → Contains fixed k
+  row_is_fixed k c l =
+      fixed_has k c (row_stays rows free k l ∙ not_from_true (row_of rows k).linear (row_is_linear k c l))
+
+  -- a free coordinate is in the key, and fixed
+  free_is_fixed : (j : ℕ) → IsFree (cone_of p) j → Contains fixed (coordinate_label j)
+  free_is_fixed j f =
+      let c = (free_columns.exactly j).0 f in
+      let high : 8192 ≤ coordinate_label j = omega arith in
+      let there : coordinate_label j - 8192 ≡ j = omega arith in
+      fixed_has (coordinate_label j)
+      (b.later (coordinate_label j) (column_only last.key j (subst (λ ks. Contains ks j) b.columns c)) high)
+      (coordinate_stays rows free (coordinate_label j) high
+      ∙ not_from_true (is_member (coordinate_label j - 8192) free)
+      (member_has (coordinate_label j - 8192) free (subst (Contains free) (sym there) c)))
+
+  -- ---- which labels are left
+  left_only : (k : ℕ) → Contains left k → Contains at.key k × (8192 ≤ k) × (is_member (k - 8192) free ≡ false)
+  left_only k c =
+      let h = filter_only (is_kept free) at.key k c in
+      ⊎_elim
+      (λ (l : k < 8192).
+      absurd (true≢false (sym h.1 ∙ cond-true (is_row k) false (not (is_member (k - 8192) free)) (lt-ltb k 8192 l))))
+      (λ (l : 8192 ≤ k). (
+        h.0,
+        l,
+        not-true (is_member (k - 8192) free)
+            (sym (cond-false (is_row k) false (not (is_member (k - 8192) free)) (le-ltb k 8192 l)) ∙ h.1),
+      ))
+      (cases_lt k 8192)
+
+  pub left_has : (k : ℕ) → Contains at.key k → 8192 ≤ k → is_member (k - 8192) free ≡ false → Contains left k
+  left_has k c l e =
+      filter_kept (is_kept free) at.key k c
+      (cond-false (is_row k) false (not (is_member (k - 8192) free)) (le-ltb k 8192 l)
+      ∙ not_from_false (is_member (k - 8192) free) e)
+
+  -- each label of the key is one or the other
+  fixed_or_left : (P : Type 0) (k : ℕ) → Contains at.key k → (Contains fixed k → P) → (Contains left k → P) → P
+  fixed_or_left P k c f g =
+      ⊎_elim
+      (λ (l : k < 8192). f (row_is_fixed k c l))
+      (λ (l : 8192 ≤ k). ⊎_elim
+      (λ (e : is_member (k - 8192) free ≡ true).
+      f (fixed_has k c (coordinate_stays rows free k l ∙ not_from_true (is_member (k - 8192) free) e)))
+      (λ (e : is_member (k - 8192) free ≡ false). g (left_has k c l e))
+      (cases_Bool (is_member (k - 8192) free)))
+      (cases_lt k 8192)
+
+  apart : (k : ℕ) → Contains fixed k → Contains left k → ⊥
+  apart k c d =
+      let h = left_only k d in
+      true≢false (sym (coordinate_stays rows free k h.1 ∙ not_from_false (is_member (k - 8192) free) h.2) ∙ (fixed_only k c).1)
+
+  -- ---- where the fixed labels are 0
+  abbrev cone : ListedCone
+  cone = begun_cone p free at
+
+  over : HasRowsOf p cone
+  over = record { width = refl; rows = refl; few = b.at_of.few }
+
+  row_label : (i : ℕ) → 1 ≤ i → i ≤ length rows → Contains (cone_space p).labels i
+  row_label i some within = row_is_label p cone over i some (omega (arith, as_many p cone over))
+
+  module _ (z : Vector) (width : length z ≡ p.n) where
+    linear_is_zero : AreZeroAt p fixed z → (i : ℕ) → 1 ≤ i → i ≤ length rows → (row_of rows i).linear ≡ true →
+        form_of p i · z ≡ pos 0
+    linear_is_zero zeros i some within linear =
+        let low : i < 8192 = let few = b.at_of.few in omega arith in
+        ⊎_elim
+        (λ (c : Contains at.key i). zeros i (row_is_fixed i c low))
+        (λ (n : Contains at.key i → ⊥).
+        zero_by_terms p at.key is.dictionary.cobasis (table_of at) is.dictionary.writes i (row_label i some within) z width
+        (λ k c. ⊎_elim
+        (λ (l : k < 8192).
+        times_zero (Table.entry (table_of at) i k) (form_of p k · z) (zeros k (row_is_fixed k c l)))
+        (λ (l : 8192 ≤ k).
+        zero_times (Table.entry (table_of at) i k) (form_of p k · z)
+        (b.linear.settled i (subst (λ ks. Contains ks i) (sym is.labels) (row_label i some within)) low
+        (linear, omega arith) n k c (inl l)))
+        (cases_lt k 8192)))
+        (contains_or at.key i)
+
+    linear_rows_are_tight : AreZeroAt p fixed z → All (λ row. row.linear ≡ true → IsTight z row) rows
+    linear_rows_are_tight zeros m none l =
+        subst (λ (row : Row). row.linear ≡ true → IsTight z row) (get_or_default rows m no_row none l)
+        (λ e.
+        let low : suc m < 8192 = let few = b.at_of.few in omega arith in
+        let here : suc m - 1 ≡ m = omega arith in
+        let linear = ap (λ i. (slice_index_or rows i no_row).linear) here ∙ e in
+        subst (λ i. (slice_index_or rows i no_row).entries · z ≡ pos 0) here
+        (sym (ap (λ g. g · z) (row_form p (suc m) low))
+        ∙ linear_is_zero zeros (suc m) (omega arith) (omega arith) linear))
+
+    free_are_zero : AreZeroAt p fixed z → IsZeroAtFree (cone_of p) z
+    free_are_zero zeros j f = sym (coordinate_value p j z) ∙ zeros (coordinate_label j) (free_is_fixed j f)
+
+    fixed_are_zero : IsZeroAtFree (cone_of p) z → All (λ row. row.linear ≡ true → IsTight z row) rows → AreZeroAt p fixed z
+    fixed_are_zero free_zero tight k c =
+        let h = fixed_only k c in
+        ⊎_elim
+        (λ (l : k < 8192).
+        let r = cone_labels.rows_only k (key_label k h.0) l in
+        let some = r.0 in
+        let within = r.1 in
+        ap (λ g. g · z) (row_form p k l)
+        ∙ tight (k - 1) no_row (omega arith) (row_is_linear k h.0 l))
+        (λ (l : 8192 ≤ k).
+        let j : ℕ = k - 8192 in
+        let member = not-false (is_member j free) (sym (coordinate_stays rows free k l) ∙ h.1) in
+        let label : coordinate_label j ≡ k = omega arith in
+        subst (λ i. form_of p i · z ≡ pos 0) label
+        (coordinate_value p j z ∙ free_zero j ((free_columns.exactly j).1 (member_only j free member))))
+        (cases_lt k 8192)
+
+    base_is_zero : Vanish cone.base z → AreZeroAt p fixed z
+    base_is_zero v = all_at (λ k. form_of p k · z ≡ pos 0) fixed (all_from_map (λ g. g · z ≡ pos 0) (form_of p) fixed v)
+
+    base_vanishes : AreZeroAt p fixed z → Vanish cone.base z
+    base_vanishes zeros = all_to_map (λ g. g · z ≡ pos 0) (form_of p) fixed (all_from (λ k. form_of p k · z ≡ pos 0) fixed zeros)
+
+  -- ---- the cone over the fixed labels
+  key_is_distinct : AreDistinct at.key
+  key_is_distinct = distinct (cone_space p) at.key is.dictionary.cobasis
+
+  fixed_distinct : AreDistinct fixed
+  fixed_distinct = distinct_filter (λ j. not (stays_in rows free j)) at.key key_is_distinct
+
+  dual_over_fixed : (k : ℕ) → Contains fixed k → DualOver p fixed k
+  dual_over_fixed k c =
+      let e = dual_over p at.key is.dictionary.cobasis k (fixed_only k c).0 in
+      record {
+        vector = e.vector;
+        width = e.width;
+        here = e.here;
+        elsewhere = λ j i n. e.elsewhere j (fixed_only j i).0 n;
+      }
+
+  pub is_cone : IsConeOf (cone_of p) cone
+  is_cone = record {
+    width = refl;
+    independent = new_forms p fixed fixed_distinct dual_over_fixed;
+    fixed = λ z width. (
+      λ v. let zeros = base_is_zero z width v in (free_are_zero z width zeros, linear_rows_are_tight z width zeros),
+      λ h. base_vanishes z width (fixed_are_zero z width h.0 h.1),
+    );
+    rows = refl;
+    shows = shows_is_shown p.kind (cone_of p);
+  }
+
+  pub is_cone_of : (sys : System) → sys ≡ cone_of p → IsConeOf sys cone
+  is_cone_of sys file = subst (λ s. IsConeOf s cone) (sym file) is_cone
+
+  -- ---- the dictionary stands at the empty prefix
+  pub stands : StandsAt p cone at fixed left []
+  stands = record {
+    over = over;
+    dictionary = is;
+    within = omega arith;
+    key = record {
+      there = λ k c. fixed_or_left (Contains (fixed ++ left) k) k c
+          (Contains-append_left fixed left k) (Contains-append_right fixed left k);
+      back = λ k c. ⊎_elim (λ f. (fixed_only k f).0) (λ l. (left_only k l).0) (Contains-append_cases fixed left k c);
+    };
+    distinct = distinct-append fixed left fixed_distinct (distinct_filter (is_kept free) at.key key_is_distinct) apart;
+    coordinates = λ k c. (left_only k c).1;
+    base = λ z width. (base_is_zero z width, base_vanishes z width);
+    count = length-map fixed (form_of p);
+  }
+
+  pub begins_at : (sys : System) (depth : ℕ) → sys ≡ cone_of p → length left ≡ suc depth →
+      IsAt sys free at 1 depth p cone fixed left []
+  begins_at sys depth file count = record {
+    file = file;
+    is_cone = is_cone_of sys file;
+    phase = b.phase;
+    stands = stands;
+    fixed_are = subst (λ (s : System). FixedAre s.rows free at fixed) (sym file) fixed_are;
+    next = refl;
+    count = count;
+  }
+
+  -- ---- where nothing is left
+  -- only zero is 0 at the base
+  pub zero_where_none : LeavesNoCoordinate at free → (y : Vector) → length y ≡ p.n → Vanish cone.base y → IsZero y
+  zero_where_none none y width v =
+      zero_over p at.key is.dictionary.cobasis y width
+      (λ k c. fixed_or_left (form_of p k · y ≡ pos 0) k c (base_is_zero y width v k)
+      (λ l. let h = left_only k l in absurd (none k h.0 h.1 h.2)))
 
 -- ---- copies have the shape
 one_shape : (d e : Dictionary) → e ≡ d → All (HasShapeOf d) (e ∷ [])

@@ -26,7 +26,7 @@ module _ (p : Polyhedron) where
   forms ks = map (form_of p) ks
 
   -- the forms of labels that have dual vectors are new one over another
-  new_forms : (ks : List ℕ) → AreDistinct ks → ((k : ℕ) → Contains ks k → DualOver p ks k) → AreNew p.n (forms ks)
+  pub new_forms : (ks : List ℕ) → AreDistinct ks → ((k : ℕ) → Contains ks k → DualOver p ks k) → AreNew p.n (forms ks)
   new_forms [] h duals = tt
   new_forms (x ∷ ks) h duals = (
     (d.vector, d.width, vanish, d.here),

@@ -1,23 +1,19 @@
--- What is told at the empty prefix, of the dictionary of the coordinates: whether the file is feasible.
-use Rattle.std.proofs.Common.{◌≡◌, ◌↔◌, Bool, true, false, ℕ, suc, ◌<◌, List, [], length, IsTrue, refl}
-use Rattle.poly_model.specs.declared.kind.Kind.TheVariants.{H}
-use Rattle.poly_model.specs.declared.overflow.Phase.TheVariants.{Cone}
+-- What is told where a search begins: whether some extreme vector has a positive first entry.
+use Rattle.std.proofs.Common.{◌≡◌, ◌↔◌, Bool, true, false, ℕ, ◌-◌, List, [], length, IsTrue, refl, arith}
+use Rattle.poly_num.specs.Vectors.{Vector}
 use Rattle.poly_model.specs.declared.overflow.Overflow.{Overflow}
 use Rattle.poly_model.specs.Systems.{System, Polyhedron, cone_of}
-use Rattle.poly_model.specs.Extreme.{IsFeasible}
 use Rattle.poly_model.specs.Overflows.{Passes}
 use Rattle.cone_laws.specs.FeasibilityLaws.{HasVertex}
-use Rattle.cone_laws.proofs.FeasibleLemmas.{feasible_file_by_vertex}
-use Rattle.dictionary_laws.specs.Coordinates.{coordinate_key}
-use Rattle.dictionary.specs.New.{IsNew}
 use Rattle.dictionary.specs.Views.{Dictionary}
-use Rattle.listing_laws.specs.ListedCone.{ListedCone, IsConeOf, cone_over}
-use Rattle.listing_laws.proofs.BaseLemmas.{nothing_is_base}
+use Rattle.listing_laws.specs.ListedCone.{ListedCone, IsConeOf}
+use Rattle.listing_laws.specs.Prefixes.{IsUnder}
 use Rattle.listing_laws.proofs.ConeLemmas.{extreme_is_shown_corner}
-use Rattle.plain_enum.specs.Plain.{IsPlain}
+use Rattle.plain_enum.specs.Begin.{IsBegun, fixed_in, begun_cone, left_in}
+use Rattle.plain_enum.specs.Columns.{LeavesNoCoordinate, IsLeftCoordinate}
 use Rattle.plain_enum.specs.Feasible.{HasPointUnder, TellsPoint, TellsUnder}
 use Rattle.plain_enum.specs.Listed.{IsAt}
-use Rattle.plain_enum.proofs.BeginAt.{begins_at}
+use Rattle.plain_enum.proofs.BeginAt.{begins_at, is_cone, left_has, zero_where_none}
 
 -- ---- every shown corner is under the empty prefix
 module _ (sys : System) (cone : ListedCone) (is : IsConeOf sys cone) where
@@ -39,22 +35,35 @@ module _ (sys : System) (cone : ListedCone) (is : IsConeOf sys cone) where
   by_vertex true h = (λ t. vertex_of_point h, λ v. refl)
   by_vertex false h = (λ (e : false ≡ true). absurd (cc), λ v. absurd (h (point_of_vertex v)))
 
-module _ (sys : System) (d : Dictionary) (new : IsNew sys Cone d) (depth : ℕ) (width : sys.n ≡ suc depth)
-    (few : length sys.rows < 8192) (p : Polyhedron) (file : sys ≡ cone_of p) (plain : IsPlain p) where
-  abbrev cone : ListedCone
-  cone = cone_over [] (cone_of p)
+module _ (p : Polyhedron) (at last : Dictionary) (free : List ℕ) (b : IsBegun p at last free) where
+  -- ---- where a coordinate is left
+  module _ (sys : System) (file : sys ≡ cone_of p) (depth : ℕ) (count : depth ≡ length (left_in free at.key) - 1) (k : ℕ)
+      (some : IsLeftCoordinate at free k) where
+    pub begins : IsAt sys free at 1 depth p (begun_cone p free at) (fixed_in (cone_of p).rows free at.key) (left_in free at.key) []
+    begins =
+        begins_at p at last free b sys depth file
+        (let c = left_has p at last free b k some.inside some.coordinate some.not_free in
+        let within = c.1 in omega (arith, count))
 
-  begins : IsAt sys [] d 1 depth p cone [] (coordinate_key 0 p.n) []
-  begins = begins_at sys d new p file plain depth width few
+    pub tells_vertex : (found : Bool) → TellsUnder sys free at 1 depth found → IsTrue found ↔ HasVertex (cone_of p)
+    tells_vertex found told =
+        by_vertex (cone_of p) (begun_cone p free at) (is_cone p at last free b) found
+        (told p (begun_cone p free at) (fixed_in (cone_of p).rows free at.key) (left_in free at.key) [] begins)
 
-  pub tells_feasible : (found : Bool) → TellsUnder sys [] d 1 depth found → p.kind ≡ H → IsTrue found ↔ IsFeasible (cone_of p)
-  tells_feasible found told kind =
-      let vertex = by_vertex (cone_of p) cone (nothing_is_base (cone_of p) plain.columns plain.rows) found
-      (told p cone [] (coordinate_key 0 p.n) [] begins) in
-      let feasible = feasible_file_by_vertex p kind in
-      (λ t. feasible.1 (vertex.0 t), λ f. vertex.1 (feasible.0 f))
+    pub passes_there : (o : Overflow) →
+        ((q : Polyhedron) (cone : ListedCone) (fixed left : List ℕ) (marks : List Bool) →
+        IsAt sys free at 1 depth q cone fixed left marks → Passes q o) → Passes p o
+    passes_there o passes =
+        passes p (begun_cone p free at) (fixed_in (cone_of p).rows free at.key) (left_in free at.key) [] begins
 
-  pub passes_there : (o : Overflow) →
-      ((q : Polyhedron) (other : ListedCone) (fixed left : List ℕ) (marks : List Bool) →
-      IsAt sys [] d 1 depth q other fixed left marks → Passes q o) → Passes p o
-  passes_there o passes = passes p cone [] (coordinate_key 0 p.n) [] begins
+  -- ---- where none is left
+  -- no vector is extreme
+  pub nothing_under : LeavesNoCoordinate at free → (y : Vector) → IsUnder (begun_cone p free at) [] y → ⊥
+  nothing_under none y u =
+      u.0.corner.primitive.0
+      (zero_where_none p at last free b none y u.0.corner.in_cone.width u.0.corner.in_cone.vanishing)
+
+  pub no_vertex : LeavesNoCoordinate at free → IsTrue false ↔ HasVertex (cone_of p)
+  no_vertex none =
+      by_vertex (cone_of p) (begun_cone p free at) (is_cone p at last free b) false
+      (λ h. nothing_under none h.vector h.under)

@@ -12,6 +12,7 @@ pub mod ShowUnder
 pub mod NextRow
 pub mod LoopUnder
 pub mod ListingParts
+pub mod Begun
 pub mod BeginAt
 pub mod FeasibleUnder
 pub mod FeasiblePlain

@@ -1,16 +1,14 @@
--- From prefix to prefix: where the listing begins, and the next row taken or not.
-use Rattle.std.proofs.Common.{◌≡◌, ◌≢◌, ⊎_elim, Bool, true, false, ℕ, ◌+◌, ◌<◌, pos, List, [], ◌∷◌, ◌++◌, length, length-append, sym, ap, subst, arith}
+-- From prefix to prefix: the next row taken or not.
+use Rattle.std.proofs.Common.{◌≡◌, ◌≢◌, ⊎_elim, Bool, true, false, ℕ, ◌+◌, ◌<◌, pos, List, [], ◌∷◌, ◌++◌, length, length-append, sym, subst, arith}
 use Rattle.std.specs.List.{Contains}
 use Rattle.std.proofs.lemmas.Bool.{cases_eq}
 use Rattle.std.proofs.lemmas.List.Elements.{Contains-append_left, Contains-append_right, Contains-append_cases}
 use Rattle.poly_num.specs.Vectors.{◌·◌}
 use Rattle.poly_num.proofs.VectorLemmas.{dot-zero}
-use Rattle.poly_model.specs.Independence.{Vanish}
 use Rattle.poly_model.specs.Systems.{Polyhedron}
 use Rattle.poly_model.specs.Spaces.{cone_space}
 use Rattle.linear_laws.proofs.Members.{Contains-nil, Contains-first}
 use Rattle.dictionary_laws.specs.Keys.{AreDistinct, HaveSameLabels, Exchanges}
-use Rattle.dictionary_laws.proofs.CoordinateSpaces.{coordinate_keys}
 use Rattle.dictionary_laws.proofs.Members.{contains_cases, without, without_only, without_kept, distinct_without}
 use Rattle.dictionary_laws.proofs.PhasePoints.{phase_points}
 use Rattle.dictionary.specs.Views.{Dictionary, IsDictionaryIn, IsPivot}
@@ -18,25 +16,10 @@ use Rattle.listing_laws.specs.ListedCone.{ListedCone}
 use Rattle.listing_laws.specs.Prefixes.{labels_of}
 use Rattle.listing_laws.proofs.FirstLists.{labels-with, labels-without, labels_within}
 use Rattle.plain_enum.specs.Standing.{form_of, parted, StandsAt}
-use Rattle.plain_enum.specs.Laws.{BeginsAtCoordinates, DictionaryStays}
+use Rattle.plain_enum.specs.Laws.{DictionaryStays}
 use Rattle.plain_enum.proofs.ConeVectors.{DualOver, dual_over, zero_over}
 use Rattle.plain_enum.proofs.Parts.{AreApart, distinct-append, distinct_left, distinct_right, distinct_apart, in_parts, in_first, in_second, in_third}
 use Rattle.plain_enum.proofs.Standings.{left_is_not_fixed, left_is_not_taken}
-
-pub begins_at_coordinates : BeginsAtCoordinates
-begins_at_coordinates p cone d over nothing is key = record {
-  over = over;
-  dictionary = is;
-  within = omega arith;
-  key = record {
-    there = λ k c. subst (λ (ks : List ℕ). Contains ks k) key c;
-    back = λ k c. subst (λ (ks : List ℕ). Contains ks k) (sym key) c;
-  };
-  distinct = (coordinate_keys 0 p.n).distinct;
-  coordinates = (coordinate_keys 0 p.n).coordinates;
-  base = λ z l. (λ v k c. absurd (Contains-nil k c), λ h. subst (λ gs. Vanish gs z) (sym nothing) tt);
-  count = ap length nothing;
-}
 
 one_more : (marks : List Bool) (m : Bool) → length (marks ++ m ∷ []) ≡ length marks + 1
 one_more marks m = length-append marks (m ∷ [])

@@ -2,17 +2,17 @@
 use Rattle.std.specs.Prelude.{◌≡◌, ◌≢◌, ◌↔◌, ℕ, ◌+◌, ◌<◌, Bool, true, false, pos, List, [], ◌∷◌, ◌++◌, length}
 use Rattle.std.specs.List.{Contains}
 use Rattle.poly_model.specs.Independence.{Follows, IsNew}
-use Rattle.poly_model.specs.Systems.{Polyhedron}
+use Rattle.poly_model.specs.Systems.{Polyhedron, cone_of}
 use Rattle.poly_model.specs.Spaces.{cone_space}
 use Rattle.poly_model.specs.Dictionaries.{Table}
-use Rattle.dictionary_laws.specs.Coordinates.{coordinate_key}
 use Rattle.dictionary_laws.proofs.Members.{without}
 use Rattle.dictionary.specs.Views.{Dictionary, IsDictionaryIn, IsPivot, table_of}
 use Rattle.hull_lift.specs.Facets.{constant_label, column_of}
 use Rattle.listing_laws.specs.ListedCone.{ListedCone}
 use Rattle.listing_laws.specs.Prefixes.{taken_at, next_row, labels_of}
 use Rattle.listing_laws.specs.Directions.{PassesLocalTest}
-use Rattle.plain_enum.specs.Standing.{HasRowsOf, StandsAt, HasColumnValues, LeavesColumn, PassesByEntries}
+use Rattle.plain_enum.specs.Begin.{IsBegun, fixed_in, begun_cone, left_in}
+use Rattle.plain_enum.specs.Standing.{StandsAt, HasColumnValues, LeavesColumn, PassesByEntries}
 
 -- at the column of a label of the key each label has its entry there
 abbrev pub ValuesAtColumns : Type 0
@@ -47,11 +47,10 @@ TestByEntries = (p : Polyhedron) (cone : ListedCone) (d : Dictionary) (marks : L
     PassesLocalTest cone (labels_of marks) s.leaves.duals (column_of d k p.n) ↔ PassesByEntries d marks k
 
 -- ---- from prefix to prefix
--- the dictionary of the coordinates stands at the empty prefix, if nothing is fixed
-abbrev pub BeginsAtCoordinates : Type 0
-BeginsAtCoordinates = (p : Polyhedron) (cone : ListedCone) (d : Dictionary) → HasRowsOf p cone → cone.base ≡ [] →
-    IsDictionaryIn (cone_space p) d → d.key ≡ coordinate_key 0 p.n →
-    StandsAt p cone d [] (coordinate_key 0 p.n) []
+-- where the linear rows have been tried it stands at the empty prefix: equations and free coordinates are fixed
+abbrev pub BeginsAtEmptyPrefix : Type 0
+BeginsAtEmptyPrefix = (p : Polyhedron) (at last : Dictionary) (free : List ℕ) → IsBegun p at last free →
+    StandsAt p (begun_cone p free at) at (fixed_in (cone_of p).rows free at.key) (left_in free at.key) []
 
 -- the next row is taken by a pivot
 abbrev pub PivotTakes : Type 0

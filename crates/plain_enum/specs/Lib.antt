@@ -1,4 +1,5 @@
 pub mod Standing
+pub mod Begin
 pub mod Laws
 pub mod Columns
 pub mod Shown

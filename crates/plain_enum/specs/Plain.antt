@@ -1,18 +1,11 @@
 -- What the listing of a system by subsets of its rows writes.
-use Rattle.std.specs.Prelude.{◌≡◌, true, ℕ, List, [], length, Option, Result, IfOk, OnErr}
-use Rattle.std.specs.List.{All}
+use Rattle.std.specs.Prelude.{◌≡◌, ℕ, List, length, Option, Result, IfOk, OnErr}
 use Rattle.std.specs.Io.KnownBytes.{Appends}
 use Rattle.poly_model.specs.declared.listed.Listed.{Listed}
-use Rattle.poly_model.specs.Systems.{Polyhedron, cone_of}
-use Rattle.poly_model.specs.FreeColumns.{AreFreeColumns}
+use Rattle.poly_model.specs.Systems.{Polyhedron}
 use Rattle.poly_model.specs.Listing.{IsListing}
 use Rattle.poly_io.specs.Written.{AppendsPart}
 use Rattle.plain_enum.specs.Listed.{counted}
-
--- no column of the cone is free, and no row is linear
-pub record IsPlain (p : Polyhedron) : Type 0 where
-  pub columns : AreFreeColumns (cone_of p) []
-  pub rows : All (λ row. row.linear ≡ true → ⊥) (cone_of p).rows
 
 -- the text is a listing with so many rows and lines
 pub record IsCountedListing (p : Polyhedron) (text : List ℕ) (listed : Listed) : Type 0 where

@@ -12,6 +12,14 @@ pub enum PlainStop {
     Memory,
 }
 
+/// Why it was not found out whether a file is feasible: a number of a dictionary would pass 127 bits, or there was no
+/// memory for the dictionaries.
+#[derive(Clone, Copy, PartialEq, Eq, Debug)]
+pub enum FeasibleStop {
+    Overflow(Overflow),
+    Memory,
+}
+
 /// A listing on its way, and how many rows it has; the number stands still at `2^64 - 1`.
 #[derive(Drop)]
 pub struct Shown {

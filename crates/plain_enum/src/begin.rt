@@ -1,14 +1,21 @@
-//! With what a listing begins: dictionaries to write over, one for each further row that a list takes, and room for a
-//! vector.
-ghost use Rattle.std.specs.Prelude.{◌≡◌, ◌-◌, IfOk, length};
+//! With what a listing begins: equations and free columns, dictionaries to write over, one for each further row that a
+//! list takes, and room for a vector.
+ghost use Rattle.std.specs.Prelude.{◌≡◌, ◌-◌, IfOk, IsErrOf, length};
 ghost use Rattle.std.specs.List.{All};
-ghost use Rattle.poly_model.specs.declared.overflow.Phase.TheVariants.{Cone};
-ghost use Rattle.dictionary.specs.New.{IsNew};
+ghost use Rattle.poly_model.specs.declared.overflow.Overflow.{Overflow as Passed};
+ghost use Rattle.poly_model.specs.Overflows.{Passes};
+ghost use Rattle.poly_model.specs.Keys.{IsAscending};
+ghost use Rattle.poly_model.specs.Systems.{Polyhedron, cone_of};
+ghost use Rattle.linearity.specs.Columns.{columns_in};
+ghost use Rattle.plain_enum.specs.Begin.{IsBegun, left_in};
 ghost use Rattle.plain_enum.specs.Columns.{HasRows};
 ghost use Rattle.plain_enum.specs.Listed.{HasShapeOf};
 
+use crate::answers::FeasibleStop;
+use crate::side::is_kept;
 use dictionary::Dict;
-use poly_model::{Phase, System};
+use linearity::{enter_rows, free_columns};
+use poly_model::{Label, Phase, System};
 use poly_num::Num;
 use std::alloc::{AllocError, Global};
 
@@ -33,28 +40,82 @@ pub(crate) fn zero_vector(alloc: Global, n: u32) -> Result<Vec<Num>, AllocError>
     Ok(vector)
 }
 
+/// How many coordinates in the cobasis are not free.
+pub(crate) fn count_left(at: &Dict, free: &[u32]) -> usize
+    ensures { result ≡ length (left_in free.now at.now.key) }
+{
+    let key = at.key();
+    let mut count: usize = 0;
+    'labels: for label in key.labels() {
+        if is_kept(free, Label(*label)) {
+            count += 1;
+        }
+    }
+    count
+}
+
 /// What a listing begins with.
 #[derive(Drop)]
 pub(crate) struct Beginning {
-    /// The dictionary of the coordinates.
+    /// The dictionary of the cone at which the linear rows have been tried.
     pub at: Dict,
-    /// A dictionary of the same shape for each row that a list takes.
+    /// The same once all rows have been tried.
+    pub last: Dict,
+    /// The free columns, ascending.
+    pub free: Vec<u32>,
+    /// A dictionary of the shape of `at` for each row that a list takes.
     pub deeper: Vec<Dict>,
     /// Room for a vector.
     pub vector: Vec<Num>,
 }
 
-/// What the listing of a system begins with. The answer is `Err` only for want of memory.
-pub(crate) fn at_coordinates(alloc: Global, sys: &System) -> Result<Beginning, AllocError>
-    ensures new { IfOk result (λ b. IsNew sys.now Cone b.at) }
+/// What the listing of a system begins with.
+pub(crate) fn begin(alloc: Global, sys: &System) -> Result<Beginning, FeasibleStop>
+    ensures begun { IfOk result (λ b. (p : Polyhedron) → sys.now ≡ cone_of p → IsBegun p b.at b.last b.free.items) }
     ensures rows { IfOk result (λ b. HasRows (length sys.now.rows) b.at) }
     ensures shapes { IfOk result (λ b. All (HasShapeOf b.at) b.deeper.items) }
-    ensures depth { IfOk result (λ b. length b.deeper.items ≡ sys.now.n - 1) }
+    ensures depth { IfOk result (λ b. length b.deeper.items ≡ length (left_in b.free.items b.at.key) - 1) }
+    ensures vector { IfOk result (λ b. length b.vector.items ≡ sys.now.n) }
+    ensures overflow { (o : Passed) → IsErrOf result (FeasibleStop.Overflow o) → (p : Polyhedron) → sys.now ≡ cone_of p → Passes p o }
+{
+    let (_n, _rows) = (sys.n(), sys.rows());
+    let Ok(mut at) = Dict::new(alloc, sys, Phase::Cone) else {
+        return Err(FeasibleStop::Memory);
+    };
+    if let Err(overflow) = enter_rows(&mut at, sys, false) {
+        return Err(FeasibleStop::Overflow(overflow));
+    }
+    let Ok(mut last) = at.copy() else {
+        return Err(FeasibleStop::Memory);
+    };
+    if let Err(overflow) = enter_rows(&mut last, sys, true) {
+        return Err(FeasibleStop::Overflow(overflow));
+    }
+    match with_room(alloc, sys, at, last) {
+        Ok(begun) => Ok(begun),
+        Err(_) => Err(FeasibleStop::Memory),
+    }
+}
+
+// The free columns, and room for a listing from these dictionaries. The answer is `Err` only for want of memory.
+fn with_room(alloc: Global, sys: &System, at: Dict, last: Dict) -> Result<Beginning, AllocError>
+    ensures at { IfOk result (λ b. b.at ≡ at) }
+    ensures last { IfOk result (λ b. b.last ≡ last) }
+    ensures columns { IfOk result (λ b. b.free.items ≡ columns_in last.key) }
+    ensures ascending { IfOk result (λ b. IsAscending last.key) }
+    ensures shapes { IfOk result (λ b. All (HasShapeOf at) b.deeper.items) }
+    ensures depth { IfOk result (λ b. length b.deeper.items ≡ length (left_in b.free.items at.key) - 1) }
     ensures vector { IfOk result (λ b. length b.vector.items ≡ sys.now.n) }
 {
-    let n = sys.n();
-    let at = Dict::new(alloc, sys, Phase::Cone)?;
-    let deeper = copies(alloc, &at, n as usize - 1)?;
-    let vector = zero_vector(alloc, n)?;
-    Ok(Beginning { at, deeper, vector })
+    let free = free_columns(alloc, &last)?;
+    let left = count_left(&at, &free);
+    let deeper = copies(alloc, &at, left.saturating_sub(1))?;
+    let vector = zero_vector(alloc, sys.n())?;
+    Ok(Beginning {
+        at,
+        last,
+        free,
+        deeper,
+        vector,
+    })
 }

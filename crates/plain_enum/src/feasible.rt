@@ -1,55 +1,78 @@
 //! Whether an H file is feasible: whether some vector that a listing shows has a positive first entry.
-ghost use Rattle.std.specs.Prelude.{◌≡◌, ◌≤◌, ◌<◌, ◌↔◌, ◌<ℤ◌, ℕ, Bool, List, pos, length, IfOk, IsErrOf, IsTrue};
+ghost use Rattle.std.specs.Prelude.{◌≡◌, ◌-◌, ◌≤◌, ◌<◌, ◌↔◌, ◌<ℤ◌, ℕ, Bool, List, pos, length, IfOk, IsErrOf, IsTrue};
 ghost use Rattle.std.specs.List.{All};
 ghost use Rattle.poly_model.specs.declared.overflow.Overflow.{Overflow as Passed};
 ghost use Rattle.poly_model.specs.Overflows.{Passes};
 ghost use Rattle.poly_model.specs.Systems.{Polyhedron, cone_of};
-ghost use Rattle.poly_model.specs.declared.kind.Kind.TheVariants.{H};
+ghost use Rattle.cone_laws.specs.FeasibilityLaws.{HasVertex};
+ghost use Rattle.dictionary.specs.Views.{Dictionary};
 ghost use Rattle.poly_model.specs.Extreme.{IsFeasible};
 ghost use Rattle.poly_model.specs.Cones.{at};
 ghost use Rattle.listing_laws.specs.ListedCone.{ListedCone};
+ghost use Rattle.plain_enum.specs.Begin.{IsBegun, left_in};
 ghost use Rattle.plain_enum.specs.Columns.{HasRows};
 ghost use Rattle.plain_enum.specs.Listed.{HasShapeOf, IsAt};
 ghost use Rattle.plain_enum.specs.Feasible.{TellsUnder};
-ghost use Rattle.plain_enum.specs.Plain.{IsPlain};
 
-use crate::begin::{Beginning, at_coordinates};
+use crate::answers::FeasibleStop;
+use crate::begin::{Beginning, begin};
 use crate::list::take_row;
 use crate::shown::{shown_side, write_direction};
 use crate::side::{column_of, left_coordinate};
 use dictionary::Dict;
-use poly_model::{Label, Overflow, System};
+use poly_model::{Kind, Label, Overflow, System};
 use poly_num::Num;
 use std::alloc::Global;
 
-/// Why it was not found out whether a file is feasible: a number of a dictionary would pass 127 bits, or there was no
-/// memory for the dictionaries.
-#[derive(Clone, Copy, PartialEq, Eq, Debug)]
-pub enum FeasibleStop {
-    Overflow(Overflow),
-    Memory,
+/// Whether a file is feasible: a V file always is, an H file where its cone has a vector with a positive first entry.
+/// `sys` is its cone, and is left as it is; the dictionaries are given back before the call returns, whatever it answers.
+pub fn feasible_plain(alloc: Global, sys: &System) -> Result<bool, FeasibleStop>
+    ensures answer { IfOk result (λ found. (p : Polyhedron) → sys.now ≡ cone_of p → IsTrue found ↔ IsFeasible (cone_of p)) }
+    ensures overflow { (o : Passed) → IsErrOf result (FeasibleStop.Overflow o) → (p : Polyhedron) → sys.now ≡ cone_of p → Passes p o }
+{
+    match sys.kind() {
+        Kind::H => has_point(alloc, sys),
+        Kind::V => Ok(true),
+    }
 }
 
-/// Whether an H file without equations, whose cone holds no line, is feasible. `sys` is its cone, and is left as it is;
-/// the dictionaries are given back before the call returns, whatever it answers.
-pub fn feasible_plain(alloc: Global, sys: &System) -> Result<bool, FeasibleStop>
-    ensures answer { IfOk result (λ found. (p : Polyhedron) → sys.now ≡ cone_of p → p.kind ≡ H → IsPlain p →
-        IsTrue found ↔ IsFeasible (cone_of p)) }
-    ensures overflow { (o : Passed) → IsErrOf result (FeasibleStop.Overflow o) → (p : Polyhedron) →
-        sys.now ≡ cone_of p → IsPlain p → Passes p o }
+// Whether an extreme vector has a positive first entry.
+fn has_point(alloc: Global, sys: &System) -> Result<bool, FeasibleStop>
+    ensures answer { IfOk result (λ found. (p : Polyhedron) → sys.now ≡ cone_of p → IsTrue found ↔ HasVertex (cone_of p)) }
+    ensures overflow { (o : Passed) → IsErrOf result (FeasibleStop.Overflow o) → (p : Polyhedron) → sys.now ≡ cone_of p → Passes p o }
 {
-    let (_n, _rows) = (sys.n(), sys.rows());
-    let Ok(begun) = at_coordinates(alloc, sys) else {
-        return Err(FeasibleStop::Memory);
-    };
     let Beginning {
         at,
+        last,
+        free,
         mut deeper,
         mut vector,
-    } = begun;
-    match has_point_under(sys, &[], &at, &mut deeper, 1, &mut vector) {
+    } = begin(alloc, sys)?;
+    match has_point_left(sys, &free, &at, &mut deeper, &mut vector) {
         Ok(found) => Ok(found),
         Err(overflow) => Err(FeasibleStop::Overflow(overflow)),
+    }
+}
+
+// The same from a dictionary at which the linear rows have been tried. Where no coordinate is left there is none.
+fn has_point_left(
+    sys: &System,
+    free: &[u32],
+    at: &Dict,
+    deeper: &mut [Dict],
+    vector: &mut [Num],
+) -> Result<bool, Overflow>
+    requires rows { HasRows (length sys.now.rows) at.now }
+    requires shapes { All (HasShapeOf at.now) deeper.old }
+    requires depth { length deeper.old ≡ length (left_in free.now at.now.key) - 1 }
+    requires vector { length vector.old ≡ sys.now.n }
+    ensures answer { IfOk result (λ found. (p : Polyhedron) (last : Dictionary) → sys.now ≡ cone_of p → IsBegun p at.now last free.now →
+        IsTrue found ↔ HasVertex (cone_of p)) }
+    ensures passes { (o : Passed) → IsErrOf result o → (p : Polyhedron) (last : Dictionary) → sys.now ≡ cone_of p → IsBegun p at.now last free.now → Passes p o }
+{
+    match left_coordinate(at, free) {
+        Some(_) => has_point_under(sys, free, at, deeper, 1, vector),
+        None => Ok(false),
     }
 }
 

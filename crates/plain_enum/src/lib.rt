@@ -14,10 +14,10 @@ mod side;
 #[cfg(test)]
 mod tests;
 
-ghost use Rattle.plain_enum.specs.Laws.{ValuesAtColumns, NewByEntry, FollowsByEntries, OneIsLeft, TestByEntries, BeginsAtCoordinates, PivotTakes, DictionaryStays};
+ghost use Rattle.plain_enum.specs.Laws.{ValuesAtColumns, NewByEntry, FollowsByEntries, OneIsLeft, TestByEntries, BeginsAtEmptyPrefix, PivotTakes, DictionaryStays};
 
-pub use answers::{PlainStop, Shown};
-pub use feasible::{FeasibleStop, feasible_plain};
+pub use answers::{FeasibleStop, PlainStop, Shown};
+pub use feasible::feasible_plain;
 pub use list::{list_under, show};
 pub use plain::list_plain;
 pub use side::{Side, column_of};
@@ -41,10 +41,10 @@ pub fn where_one_is_left()
     ensures tested { TestByEntries }
 {}
 
-/// From prefix to prefix: the dictionary of the coordinates stands at the empty one, a pivot takes the next row, and
-/// where it is not taken the dictionary stays.
+/// From prefix to prefix: where the linear rows have been tried the dictionary stands at the empty one, a pivot takes the
+/// next row, and where it is not taken the dictionary stays.
 pub fn from_prefix_to_prefix()
-    ensures begins { BeginsAtCoordinates }
+    ensures begins { BeginsAtEmptyPrefix }
     ensures takes { PivotTakes }
     ensures stays { DictionaryStays }
 {}

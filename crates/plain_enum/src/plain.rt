@@ -1,78 +1,152 @@
 //! The listing of a system by subsets of its rows: each vector is shown at its lexicographically first independent
 //! list of tight rows.
-ghost use Rattle.std.specs.Prelude.{◌≡◌, ◌≤◌, ℕ, List, [], length, IsErrOf};
-ghost use Rattle.std.specs.List.{All};
-ghost use Rattle.poly_io.specs.Causes.{Rose};
+ghost use Rattle.std.specs.Prelude.{◌≡◌, ◌≤◌, ◌-◌, ◌++◌, ℕ, List, [], length, map, IfOk, IsErrOf};
+ghost use Rattle.std.specs.List.{All, flat_map};
+ghost use Rattle.poly_num.specs.Vectors.{Vector as Entries};
+ghost use Rattle.poly_io.specs.Causes.{HasCause, Rose};
+ghost use Rattle.poly_io.specs.Written.{WritesText};
 ghost use Rattle.poly_model.specs.declared.overflow.Overflow.{Overflow as Passed};
+ghost use Rattle.poly_model.specs.ListingText.{head_text, vector_text};
 ghost use Rattle.poly_model.specs.Overflows.{Passes};
 ghost use Rattle.poly_model.specs.Systems.{Polyhedron, cone_of};
-ghost use Rattle.poly_model.specs.FreeColumns.{AreLines};
-ghost use Rattle.listing_laws.specs.ListedCone.{ListedCone};
+ghost use Rattle.dictionary.specs.Views.{Dictionary};
+ghost use Rattle.linearity.specs.Columns.{coordinate_vectors};
+ghost use Rattle.listing_laws.specs.Prefixes.{IsUnder};
+ghost use Rattle.plain_enum.specs.Begin.{IsBegun, begun_cone, left_in};
 ghost use Rattle.plain_enum.specs.Columns.{HasRows};
-ghost use Rattle.plain_enum.specs.Listed.{HasShapeOf, IsAt};
-ghost use Rattle.plain_enum.specs.Plain.{IsPlain, WritesListing};
+ghost use Rattle.plain_enum.specs.Listed.{HasShapeOf, WritesRows};
+ghost use Rattle.plain_enum.specs.Plain.{WritesListing};
 
-use crate::answers::{PlainStop, Shown};
-use crate::begin::{Beginning, at_coordinates};
+use crate::answers::{FeasibleStop, PlainStop, Shown};
+use crate::begin::{Beginning, begin};
 use crate::list::list_under;
+use crate::side::left_coordinate;
 use dictionary::Dict;
+use linearity::lines_of;
 use poly_io::{Sink, WriteFault};
-use poly_model::{Listed, System};
+use poly_model::{Kind, Listed, System, Vector};
 use poly_num::Num;
 use row_printer::Listing;
 use std::alloc::Global;
 
-/// Writes the listing of a system: its head, the rows of its extreme vectors, its end. The answer says how many rows
-/// and lines it has. Where it stops, what was written is the beginning of a listing; want of memory comes before
-/// anything is written.
+/// Writes the listing of a system: its head, the lines by ascending free column, the rows of its extreme vectors, its end.
+/// The answer says how many rows and lines it has. Where it stops, what was written is the beginning of a listing; want of
+/// memory comes before anything is written.
 pub fn list_plain<S: Sink>(alloc: Global, sys: &System, out: &mut S) -> Result<Listed, PlainStop>
-    ensures written { (p : Polyhedron) → sys.now ≡ cone_of p → IsPlain p → WritesListing p (S.written out.old) (S.written out.new) result }
-    ensures overflow { (o : Passed) → IsErrOf result (PlainStop.Overflow o) → (p : Polyhedron) → sys.now ≡ cone_of p → IsPlain p → Passes p o }
+    ensures written { (p : Polyhedron) → sys.now ≡ cone_of p → WritesListing p (S.written out.old) (S.written out.new) result }
+    ensures overflow { (o : Passed) → IsErrOf result (PlainStop.Overflow o) → (p : Polyhedron) → sys.now ≡ cone_of p → Passes p o }
     ensures memory { IsErrOf result PlainStop.Memory → out.new ≡ out.old }
     ensures later { S.faults out.old ≤ S.faults out.new }
     ensures fault { IsErrOf result PlainStop.WriteFault → Rose (S.faults out.old) (S.faults out.new) }
 {
-    let (_n, _rows) = (sys.n(), sys.rows());
-    let Ok(begin) = at_coordinates(alloc, sys) else {
-        return Err(PlainStop::Memory);
-    };
     let Beginning {
         at,
+        last,
+        free,
         mut deeper,
         mut vector,
-    } = begin;
-    print(sys, &at, &mut deeper, &mut vector, out)
+    } = match begin(alloc, sys) {
+        Ok(begun) => begun,
+        Err(FeasibleStop::Overflow(overflow)) => return Err(PlainStop::Overflow(overflow)),
+        Err(FeasibleStop::Memory) => return Err(PlainStop::Memory),
+    };
+    let Ok(lines) = lines_of(alloc, &last, sys.n()) else {
+        return Err(PlainStop::Memory);
+    };
+    print(
+        sys,
+        &free,
+        lines.as_slice(),
+        &at,
+        &mut deeper,
+        &mut vector,
+        out,
+    )
 }
 
-// Writes the listing, with no lines, from a dictionary that stands at the empty prefix.
+// Writes the listing from a dictionary at which the linear rows have been tried.
 fn print<S: Sink>(
     sys: &System,
+    free: &[u32],
+    lines: &[Vector],
     at: &Dict,
     deeper: &mut [Dict],
     vector: &mut [Num],
     out: &mut S,
 ) -> Result<Listed, PlainStop>
     requires rows { HasRows (length sys.now.rows) at.now }
+    requires lines { length lines.now ≤ 256 }
     requires shapes { All (HasShapeOf at.now) deeper.old }
+    requires depth { length deeper.old ≡ length (left_in free.now at.now.key) - 1 }
     requires vector { length vector.old ≡ sys.now.n }
-    ensures written { (p : Polyhedron) (cone : ListedCone) (left : List ℕ) →
-        IsAt sys.now [] at.now 1 (length deeper.old) p cone [] left [] → AreLines (cone_of p) [] →
-        WritesListing p (S.written out.old) (S.written out.new) result }
-    ensures overflow { (o : Passed) → IsErrOf result (PlainStop.Overflow o) → (p : Polyhedron) (cone : ListedCone) (left : List ℕ) →
-        IsAt sys.now [] at.now 1 (length deeper.old) p cone [] left [] → Passes p o }
+    ensures written { (p : Polyhedron) (last : Dictionary) → sys.now ≡ cone_of p → IsBegun p at.now last free.now →
+        lines.now ≡ coordinate_vectors last sys.now.n → WritesListing p (S.written out.old) (S.written out.new) result }
+    ensures overflow { (o : Passed) → IsErrOf result (PlainStop.Overflow o) → (p : Polyhedron) (last : Dictionary) →
+        sys.now ≡ cone_of p → IsBegun p at.now last free.now → Passes p o }
     ensures memory { IsErrOf result PlainStop.Memory → ⊥ }
     ensures later { S.faults out.old ≤ S.faults out.new }
     ensures fault { IsErrOf result PlainStop.WriteFault → Rose (S.faults out.old) (S.faults out.new) }
 {
-    let (kind, n) = (sys.kind(), sys.n());
-    let listing = match Listing::head(out, kind, n, 0) {
+    let listing = match print_head(sys.kind(), sys.n(), lines, out) {
         Ok(listing) => listing,
         Err(WriteFault) => return Err(PlainStop::WriteFault),
     };
     let begun = Shown { listing, rows: 0 };
-    let Shown { listing, rows } = list_under(sys, &[], at, deeper, 1, vector, begun, out)?;
+    let Shown { listing, rows } = list_left(sys, free, at, deeper, vector, begun, out)?;
     match listing.finish(out) {
-        Ok(()) => Ok(Listed { rows, lines: 0 }),
+        Ok(()) => Ok(Listed {
+            rows,
+            lines: lines.len() as u32,
+        }),
         Err(WriteFault) => Err(PlainStop::WriteFault),
+    }
+}
+
+// Writes what stands before the rows: the head and the lines.
+fn print_head<S: Sink>(
+    kind: Kind,
+    n: u32,
+    lines: &[Vector],
+    out: &mut S,
+) -> Result<Listing, WriteFault>
+    requires { length lines.now ≤ 256 }
+    ensures text { WritesText (S.written out.old) (S.written out.new) result (head_text kind n (length lines.now) ++ flat_map vector_text lines.now) }
+    ensures kind { IfOk result (λ l. l ≡ kind) }
+    ensures cause { HasCause (S.faults out.old) (S.faults out.new) result }
+{
+    let mut listing = Listing::head(out, kind, n, lines.len() as u32)?;
+    'lines: for line in lines {
+        listing = listing.line(out, line.as_slice())?;
+    }
+    Ok(listing)
+}
+
+// Shows the extreme vectors, from a dictionary at which the linear rows have been tried. Where no coordinate is left there
+// is none.
+fn list_left<S: Sink>(
+    sys: &System,
+    free: &[u32],
+    at: &Dict,
+    deeper: &mut [Dict],
+    vector: &mut [Num],
+    shown: Shown,
+    out: &mut S,
+) -> Result<Shown, PlainStop>
+    requires rows { HasRows (length sys.now.rows) at.now }
+    requires shapes { All (HasShapeOf at.now) deeper.old }
+    requires depth { length deeper.old ≡ length (left_in free.now at.now.key) - 1 }
+    requires vector { length vector.old ≡ sys.now.n }
+    requires kind { shown.listing ≡ sys.now.kind }
+    ensures written { (p : Polyhedron) (last : Dictionary) → sys.now ≡ cone_of p → IsBegun p at.now last free.now →
+        WritesRows sys.now.kind shown.rows (S.written out.old) (S.written out.new) result (IsUnder (begun_cone p free.now at.now) []) }
+    ensures overflow { (o : Passed) → IsErrOf result (PlainStop.Overflow o) → (p : Polyhedron) (last : Dictionary) →
+        sys.now ≡ cone_of p → IsBegun p at.now last free.now → Passes p o }
+    ensures memory { IsErrOf result PlainStop.Memory → ⊥ }
+    ensures later { S.faults out.old ≤ S.faults out.new }
+    ensures fault { IsErrOf result PlainStop.WriteFault → Rose (S.faults out.old) (S.faults out.new) }
+{
+    match left_coordinate(at, free) {
+        Some(_) => list_under(sys, free, at, deeper, 1, vector, shown, out),
+        None => Ok(shown),
     }
 }

@@ -5,6 +5,7 @@ ghost use Rattle.poly_model.specs.Dictionaries.{Table};
 ghost use Rattle.poly_model.specs.Spaces.{is_member};
 ghost use Rattle.poly_model.specs.Systems.{row_of};
 ghost use Rattle.dictionary.specs.Views.{table_of, CanPivot};
+ghost use Rattle.plain_enum.specs.Begin.{is_kept};
 ghost use Rattle.plain_enum.specs.Columns.{HasRows, IsOnSide, IsFirst, IsColumnOf, HasNoColumn, IsLeftCoordinate, LeavesNoCoordinate};
 
 use dictionary::Dict;
@@ -160,7 +161,8 @@ pub fn column_of(at: &Dict, free: &[u32], row: Label) -> Option<Label>
 }
 
 // Whether a label is that of a coordinate that is not free.
-fn is_kept(free: &[u32], label: Label) -> bool
+pub(crate) fn is_kept(free: &[u32], label: Label) -> bool
+    ensures value { result ≡ is_kept free.now label.0 }
     ensures coordinate { IsTrue result → 8192 ≤ label.0 }
     ensures kept { IsTrue result → is_member (label.0 - 8192) free.now ≡ false }
     ensures other { IsFalse result → 8192 ≤ label.0 → is_member (label.0 - 8192) free.now ≡ false → ⊥ }

@@ -8,5 +8,5 @@ pub returns : goal.returns
 returns c p file reduced =
     is_prepared p c.args.sys.now c.args.at c.in_ok-dict.dict c.in_ok-lines.lines c.in_ok-free.free.items file
     c.in_ok-free.ensures.ascending reduced c.in_ok-free.ensures.columns
-    (subst (λ n. c.in_ok-lines.lines ≡ coordinate_vectors c.args.at n) c.n-n.ensures.value c.in_ok-lines.ensures)
+    (subst (λ n. c.in_ok-lines.lines ≡ coordinate_vectors c.args.at n) c.n-n.ensures.value c.in_ok-lines.ensures.value)
     (subst (λ free. EntersMainPhase c.args.at c.args.sys.now free c.in_ok-dict.dict) c.deref.ensures.value c.in_ok-dict.ensures)

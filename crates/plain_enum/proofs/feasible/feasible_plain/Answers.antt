@@ -1,18 +1,16 @@
-use Rattle.std.proofs.Common.{◌≡◌, length, Err, ap, arith}
-use Rattle.plain_enum.proofs.FeasiblePlain.{tells_feasible, passes_there}
+use Rattle.std.proofs.Common.{◌≡◌, sym, ap, ◌∙◌}
+use Rattle.std.proofs.lemmas.Result.{IfOk-weaker}
+use Rattle.poly_model.specs.declared.kind.Kind.TheVariants.{H}
+use Rattle.poly_model.specs.Systems.{System}
+use Rattle.cone_laws.proofs.FeasibleLemmas.{feasible_file_by_vertex}
 use Rattle.plain_enum.proofs.feasible.feasible_plain.Goals as goal
 
-pub returns-in-Ok-has_point_under-clause-answer : goal.returns-in-Ok-has_point_under-clause-answer
-returns-in-Ok-has_point_under-clause-answer c p file kind plain =
-    tells_feasible c.args.sys.now c.in-Ok.begun.at c.in-Ok.ensures.new (length c.deref_mut.result.now)
-    (omega (arith, c.n-n.ensures.value, c.n-n.ensures.some, c.in-Ok.ensures.depth, ap length c.deref_mut.ensures.value))
-    (omega (arith, c.rows-rows.ensures.value, c.rows-rows.ensures.few)) p file plain
-    c.in-Ok-has_point_under.found c.in-Ok-has_point_under.ensures.tells kind
-
-pub returns-clause-overflow : goal.returns-clause-overflow
-returns-clause-overflow c o e p file plain =
-    let same : c.in-Err.overflow ≡ o = cc in
-    passes_there c.args.sys.now c.in-Ok.begun.at c.in-Ok.ensures.new (length c.deref_mut.result.now)
-    (omega (arith, c.n-n.ensures.value, c.n-n.ensures.some, c.in-Ok.ensures.depth, ap length c.deref_mut.ensures.value))
-    (omega (arith, c.rows-rows.ensures.value, c.rows-rows.ensures.few)) p file plain o
-    (c.in-Err.ensures.passes o (ap (λ v. Err v) same))
+pub returns-in-H-clause-answer : goal.returns-in-H-clause-answer
+returns-in-H-clause-answer c =
+    IfOk-weaker c.has_point.result _ _
+    (λ found tells p file.
+    let kind : p.kind ≡ H = sym (ap (λ (s : System). s.kind) file) ∙ sym c.kind.ensures ∙ c.in-H.is in
+    let feasible = feasible_file_by_vertex p kind in
+    let vertex = tells p file in
+    (λ t. feasible.1 (vertex.0 t), λ f. vertex.1 (feasible.0 f)))
+    c.has_point.ensures.answer

@@ -1,26 +1,25 @@
-use Rattle.std.proofs.Common.{length, refl, ap, arith, []}
-use Rattle.poly_model.specs.Systems.{cone_of}
-use Rattle.dictionary_laws.specs.Coordinates.{coordinate_key}
-use Rattle.listing_laws.specs.ListedCone.{cone_over}
-use Rattle.plain_enum.proofs.BeginAt.{plain_cone, begins_at}
-use Rattle.plain_enum.proofs.ListingParts.{no_lines, stops_at_once}
+use Rattle.std.proofs.Common.{refl, sym, ap, subst, ◌∙◌}
+use Rattle.linearity.specs.Columns.{coordinate_vectors}
+use Rattle.plain_enum.specs.Begin.{IsBegun}
+use Rattle.plain_enum.proofs.ListingParts.{nothing_written}
 use Rattle.plain_enum.proofs.plain.list_plain.Goals as goal
 
-pub returns-in_default-clause-written : goal.returns-in_default-clause-written
-returns-in_default-clause-written g c p file plain =
-    stops_at_once c.args.sys.now p (cone_over [] (cone_of p)) file (plain_cone c.args.sys.now p file plain) (no_lines p plain)
-    (g.S.Sink.written c.args.out.now) _ refl
+pub returns-in-Err-Overflow-clause-written : goal.returns-in-Err-Overflow-clause-written
+returns-in-Err-Overflow-clause-written g c p file = nothing_written p (g.S.Sink.written c.args.out.now) _ refl
 
-pub returns-clause-written : goal.returns-clause-written
-returns-clause-written g c p file plain =
-    c.print.ensures.written p (cone_over [] (cone_of p)) (coordinate_key 0 p.n)
-    (begins_at c.args.sys.now c.in-Ok.begin.at c.in-Ok.ensures.new p file plain (length c.deref_mut.result.now)
-    (omega (arith, c.n-n.ensures.value, c.n-n.ensures.some, ap length c.deref_mut.ensures.value, c.in-Ok.ensures.depth))
-    (omega (arith, c.rows-rows.ensures.value, c.rows-rows.ensures.few))) (no_lines p plain)
+pub returns-in-Err-Memory-clause-written : goal.returns-in-Err-Memory-clause-written
+returns-in-Err-Memory-clause-written g c p file = nothing_written p (g.S.Sink.written c.args.out.now) _ refl
+
+pub returns-in_default-clause-written : goal.returns-in_default-clause-written
+returns-in_default-clause-written g c p file = nothing_written p (g.S.Sink.written c.args.out.now) _ refl
 
 pub returns-clause-overflow : goal.returns-clause-overflow
-returns-clause-overflow g c o e p file plain =
-    c.print.ensures.overflow o e p (cone_over [] (cone_of p)) (coordinate_key 0 p.n)
-    (begins_at c.args.sys.now c.in-Ok.begin.at c.in-Ok.ensures.new p file plain (length c.deref_mut.result.now)
-    (omega (arith, c.n-n.ensures.value, c.n-n.ensures.some, ap length c.deref_mut.ensures.value, c.in-Ok.ensures.depth))
-    (omega (arith, c.rows-rows.ensures.value, c.rows-rows.ensures.few)))
+returns-clause-overflow g c o e p file =
+    c.print.ensures.overflow o e p c.in-Ok.begun.last file
+    (subst (IsBegun p c.in-Ok.begun.at c.in-Ok.begun.last) (sym c.deref.ensures.value) (c.in-Ok.ensures.begun p file))
+
+pub returns-clause-written : goal.returns-clause-written
+returns-clause-written g c p file =
+    c.print.ensures.written p c.in-Ok.begun.last file
+    (subst (IsBegun p c.in-Ok.begun.at c.in-Ok.begun.last) (sym c.deref.ensures.value) (c.in-Ok.ensures.begun p file))
+    (c.as_slice.ensures ∙ c.in-Ok-lines_of.ensures.value ∙ ap (λ n. coordinate_vectors c.in-Ok.begun.last n) c.n.ensures.value)

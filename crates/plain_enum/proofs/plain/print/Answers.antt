@@ -1,59 +1,82 @@
-use Rattle.std.proofs.Common.{◌≡◌, Err, refl, sym, ap, subst, ◌∙◌, []}
+use Rattle.std.proofs.Common.{◌≡◌, ℕ, List, Err, refl, sym, ap, subst, ◌∙◌, ◌++◌, length}
 use Rattle.std.proofs.lemmas.Result.{err_from_is_err_and}
 use Rattle.std.specs.Io.KnownBytes.{Appends}
+use Rattle.std.specs.List.{flat_map}
+use Rattle.poly_num.specs.Vectors.{Vector}
 use Rattle.poly_io.specs.Written.{AppendsPart}
-use Rattle.poly_model.specs.ListingText.{head_text}
+use Rattle.poly_model.specs.declared.kind.Kind.{Kind}
+use Rattle.poly_model.specs.ListingText.{head_text, vector_text}
+use Rattle.poly_model.specs.Systems.{System}
 use Rattle.plain_enum.specs.declared.answers.PlainStop.TheVariants as PlainStop
+use Rattle.plain_enum.specs.Begin.{begun_cone}
+use Rattle.plain_enum.proofs.BeginAt.{begun_lines, is_cone_of}
 use Rattle.plain_enum.proofs.LoopUnder.{err_of}
 use Rattle.plain_enum.proofs.ListingParts.{stops_in_head, stops_in_rows, stops_in_end, ends_whole}
 use Rattle.plain_enum.proofs.plain.print.Goals as goal
 
+-- what is written before the rows, of the kind and the width that the system tells
+same_head : (sys : System) (lines : List Vector) (kind : Kind) (n : ℕ) → kind ≡ sys.kind → n ≡ sys.n →
+    head_text kind n (length lines) ++ flat_map vector_text lines
+    ≡ head_text sys.kind sys.n (length lines) ++ flat_map vector_text lines
+same_head sys lines kind n e f =
+    ap (λ k. head_text k n (length lines) ++ flat_map vector_text lines) e
+    ∙ ap (λ m. head_text sys.kind m (length lines) ++ flat_map vector_text lines) f
+
 pub returns-in-Err-clause-written : goal.returns-in-Err-clause-written
-returns-in-Err-clause-written g c p cone left at lines =
+returns-in-Err-clause-written g c p last file b same =
     let old = g.S.Sink.written c.args.out.now in
-    let mid = g.S.Sink.written c.head.new.out in
-    let same = ap (λ k. head_text k c.n-n.result 0) c.kind-kind.ensures
-    ∙ ap (λ n. head_text c.args.sys.now.kind n 0) c.n-n.ensures.value in
-    stops_in_head c.args.sys.now p cone at.file at.is_cone lines old mid _ refl
-    (subst (λ t. AppendsPart old mid t) same c.in-Err.ensures.text.part)
+    let mid = g.S.Sink.written c.print_head.new.out in
+    stops_in_head c.args.sys.now p (begun_cone p c.args.free.now c.args.at.now) file
+    (is_cone_of p c.args.at.now last c.args.free.now b c.args.sys.now file) c.args.lines.now
+    (begun_lines p c.args.at.now last c.args.free.now b c.args.sys.now c.args.lines.now file same) old mid _ refl
+    (subst (λ t. AppendsPart old mid t)
+    (same_head c.args.sys.now c.args.lines.now c.kind.result c.n.result c.kind.ensures c.n.ensures.value)
+    c.in-Err.ensures.text.part)
 
 pub returns-in_err-listing-clause-written : goal.returns-in_err-listing-clause-written
-returns-in_err-listing-clause-written g c p cone left at lines =
+returns-in_err-listing-clause-written g c p last file b same =
     let old = g.S.Sink.written c.args.out.now in
-    let mid = g.S.Sink.written c.head.new.out in
-    let same = ap (λ k. head_text k c.n-n.result 0) c.kind-kind.ensures
-    ∙ ap (λ n. head_text c.args.sys.now.kind n 0) c.n-n.ensures.value in
-    stops_in_rows c.args.sys.now p cone at.file at.is_cone lines
-    old mid (g.S.Sink.written c.list_under.new.out) c.from_residual.result c.from_residual.ensures.0
-    (subst (λ t. Appends old mid t) same c.in-Ok.ensures.text.whole)
-    (c.in_err-listing.ensures.written p cone [] left [] at).part
+    let mid = g.S.Sink.written c.print_head.new.out in
+    stops_in_rows c.args.sys.now p (begun_cone p c.args.free.now c.args.at.now) file
+    (is_cone_of p c.args.at.now last c.args.free.now b c.args.sys.now file) c.args.lines.now
+    (begun_lines p c.args.at.now last c.args.free.now b c.args.sys.now c.args.lines.now file same)
+    old mid (g.S.Sink.written c.list_left.new.out) c.from_residual.result c.from_residual.ensures.0
+    (subst (λ t. Appends old mid t)
+    (same_head c.args.sys.now c.args.lines.now c.kind.result c.n.result c.kind.ensures c.n.ensures.value)
+    c.in-Ok.ensures.text.whole)
+    (c.in_err-listing.ensures.written p last file b).part
 
 pub returns-in_err-listing-clause-overflow : goal.returns-in_err-listing-clause-overflow
-returns-in_err-listing-clause-overflow g c o e p cone left at =
+returns-in_err-listing-clause-overflow g c o e p last file b =
     let q = err_from_is_err_and c.from_residual.result c.from_residual.ensures.1 in
-    let far : c.in_err-listing.field-0.0 ≡ PlainStop.Overflow o = sym q.2 ∙ err_of c.from_residual.result (PlainStop.Overflow o) q.0 e q.1 in
-    c.in_err-listing.ensures.passes o (ap (λ v. Err v) far) p cone [] left [] at
+    let far : c.in_err-listing.field-0.0 ≡ PlainStop.Overflow o =
+    sym q.2 ∙ err_of c.from_residual.result (PlainStop.Overflow o) q.0 e q.1 in
+    c.in_err-listing.ensures.overflow o (ap (λ v. Err v) far) p last file b
 
 pub returns-in-Ok-finish-clause-written : goal.returns-in-Ok-finish-clause-written
-returns-in-Ok-finish-clause-written g c p cone left at lines =
+returns-in-Ok-finish-clause-written g c p last file b same =
     let old = g.S.Sink.written c.args.out.now in
-    let mid = g.S.Sink.written c.head.new.out in
-    let same = ap (λ k. head_text k c.n-n.result 0) c.kind-kind.ensures
-    ∙ ap (λ n. head_text c.args.sys.now.kind n 0) c.n-n.ensures.value in
-    ends_whole c.args.sys.now p cone at.file at.is_cone lines
-    old mid (g.S.Sink.written c.list_under.new.out) (g.S.Sink.written c.finish.new.out) _ refl
-    (subst (λ t. Appends old mid t) same c.in-Ok.ensures.text.whole)
-    (c.in_ok-listing.ensures.written p cone [] left [] at).whole
+    let mid = g.S.Sink.written c.print_head.new.out in
+    ends_whole c.args.sys.now p (begun_cone p c.args.free.now c.args.at.now) file
+    (is_cone_of p c.args.at.now last c.args.free.now b c.args.sys.now file) c.args.lines.now
+    (begun_lines p c.args.at.now last c.args.free.now b c.args.sys.now c.args.lines.now file same)
+    old mid (g.S.Sink.written c.list_left.new.out) (g.S.Sink.written c.finish.new.out) _ refl
+    (subst (λ t. Appends old mid t)
+    (same_head c.args.sys.now c.args.lines.now c.kind.result c.n.result c.kind.ensures c.n.ensures.value)
+    c.in-Ok.ensures.text.whole)
+    (c.in_ok-listing.ensures.written p last file b).whole
     c.in-Ok-finish.ensures.text.whole
 
 pub returns-in-Err-finish-clause-written : goal.returns-in-Err-finish-clause-written
-returns-in-Err-finish-clause-written g c p cone left at lines =
+returns-in-Err-finish-clause-written g c p last file b same =
     let old = g.S.Sink.written c.args.out.now in
-    let mid = g.S.Sink.written c.head.new.out in
-    let same = ap (λ k. head_text k c.n-n.result 0) c.kind-kind.ensures
-    ∙ ap (λ n. head_text c.args.sys.now.kind n 0) c.n-n.ensures.value in
-    let rows = (c.in_ok-listing.ensures.written p cone [] left [] at).whole in
-    stops_in_end c.args.sys.now p cone at.file at.is_cone lines
-    old mid (g.S.Sink.written c.list_under.new.out) (g.S.Sink.written c.finish.new.out) _ refl
-    (subst (λ t. Appends old mid t) same c.in-Ok.ensures.text.whole)
+    let mid = g.S.Sink.written c.print_head.new.out in
+    let rows = (c.in_ok-listing.ensures.written p last file b).whole in
+    stops_in_end c.args.sys.now p (begun_cone p c.args.free.now c.args.at.now) file
+    (is_cone_of p c.args.at.now last c.args.free.now b c.args.sys.now file) c.args.lines.now
+    (begun_lines p c.args.at.now last c.args.free.now b c.args.sys.now c.args.lines.now file same)
+    old mid (g.S.Sink.written c.list_left.new.out) (g.S.Sink.written c.finish.new.out) _ refl
+    (subst (λ t. Appends old mid t)
+    (same_head c.args.sys.now c.args.lines.now c.kind.result c.n.result c.kind.ensures c.n.ensures.value)
+    c.in-Ok.ensures.text.whole)
     rows.0 rows.1 rows.2.bytes c.in-Err-finish.ensures.text.part

@@ -1,0 +1,61 @@
+-- How a listing begins: the two passes of elimination, from the dictionary of the coordinates.
+use Rattle.std.proofs.Common.{◌≡◌, inl, ℕ, ◌+◌, ◌<◌, ◌≤◌, Bool, true, false, List, length, refl, sym, ap, subst, ◌∙◌, arith}
+use Rattle.std.specs.List.{Contains, range_with_len}
+use Rattle.std.proofs.lemmas.List.Elements.{Contains-append_left}
+use Rattle.poly_model.specs.declared.overflow.Phase.TheVariants.{Cone}
+use Rattle.poly_model.specs.Keys.{IsAscending}
+use Rattle.poly_model.specs.Systems.{System, Polyhedron, cone_of}
+use Rattle.dictionary_laws.proofs.Filters.{range_has}
+use Rattle.dictionary.specs.New.{IsNew}
+use Rattle.dictionary.specs.Views.{Dictionary}
+use Rattle.linearity.specs.Columns.{columns_in}
+use Rattle.linearity.specs.Elimination.{IsDictionaryOf, IsEliminated}
+use Rattle.linearity.proofs.Beginnings.{begins_new, second_pass}
+use Rattle.plain_enum.specs.Begin.{IsBegun}
+use Rattle.plain_enum.specs.Columns.{HasRows}
+
+-- a pass over all rows
+abbrev pub Passes : System → Polyhedron → (others : Bool) → Dictionary → Dictionary → Type 0
+Passes sys p others old new =
+    IsDictionaryOf p old → IsEliminated sys.rows others 1 old →
+    IsDictionaryOf p new × IsEliminated sys.rows others (length sys.rows + 1) new
+
+-- the dictionary of the coordinates has a row for each row of the system
+pub new_rows : (sys : System) (d : Dictionary) → IsNew sys Cone d → HasRows (length sys.rows) d
+new_rows sys d new i a b =
+    subst (λ (ks : List ℕ). Contains ks i) (sym new.labels)
+    (Contains-append_left (range_with_len 1 (length sys.rows)) d.key i (range_has 1 (length sys.rows) i a (omega (arith, b))))
+
+-- the numbers of rows and of coordinates are those that a system tells
+module _ (sys : System) (new : Dictionary) (is_new : IsNew sys Cone new) {n rows : ℕ} (width : n ≡ sys.n) (some : 0 < n)
+    (narrow : n ≤ 256) (count : rows ≡ length sys.rows) (few : rows ≤ 4097) (p : Polyhedron) (file : sys ≡ cone_of p) where
+  begun : IsDictionaryOf p new × IsEliminated sys.rows false 1 new
+  begun =
+      let same = width ∙ ap (λ (s : System). s.n) file in
+      begins_new sys Cone new p (inl refl) file (omega arith) (omega arith) (omega arith) is_new
+
+  -- the first pass begins at a dictionary of the polyhedron, and so does the second
+  pub first_of : IsDictionaryOf p new
+  first_of = begun.0
+
+  pub second_of : (at : Dictionary) → Passes sys p false new at → IsDictionaryOf p at
+  second_of at first = (first begun.0 begun.1).0
+
+  -- both have passed
+  pub is_begun : (at last : Dictionary) (free : List ℕ) → Passes sys p false new at → Passes sys p true at last →
+      at.phase ≡ new.phase → ((k : ℕ) → Contains last.key k → 8192 ≤ k → Contains at.key k) → IsAscending last.key →
+      free ≡ columns_in last.key → IsBegun p at last free
+  is_begun at last free first second phase later ascending columns =
+      let linear = first begun.0 begun.1 in
+      let there = subst (λ (s : System). IsEliminated s.rows false (length s.rows + 1) at) file linear.1 in
+      let all = second linear.0 (subst (λ (s : System). IsEliminated s.rows true 1 at) (sym file) (second_pass p at linear.0 there)) in
+      record {
+        phase = phase ∙ is_new.phase_is;
+        at_of = linear.0;
+        linear = there;
+        last_of = all.0;
+        all = subst (λ (s : System). IsEliminated s.rows true (length s.rows + 1) last) file all.1;
+        later = later;
+        ascending = ascending;
+        columns = columns;
+      }

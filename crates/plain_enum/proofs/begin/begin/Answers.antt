@@ -1,0 +1,48 @@
+use Rattle.std.proofs.Common.{◌≡◌, Err, true, sym, ap, subst, ◌∙◌}
+use Rattle.std.specs.Result.{IsErrOf}
+use Rattle.std.specs.List.{Contains}
+use Rattle.poly_model.specs.declared.overflow.Overflow.{Overflow as Passed}
+use Rattle.linearity.specs.Elimination.{IsDictionaryOf}
+use Rattle.plain_enum.specs.declared.answers.FeasibleStop.{FeasibleStop}
+use Rattle.plain_enum.specs.declared.answers.FeasibleStop.TheVariants.{Overflow}
+use Rattle.plain_enum.specs.Begin.{IsBegun}
+use Rattle.plain_enum.proofs.Begun.{Passes, new_rows, first_of, second_of, is_begun}
+use Rattle.plain_enum.proofs.begin.begin.Goals as goal
+
+-- the overflow that is handed on
+same_overflow : {T : Type 0} (x o : Passed) → IsErrOf {T = T} {E = FeasibleStop} (Err (Overflow x)) (Overflow o) → x ≡ o
+same_overflow x o h = cc
+
+pub returns-in-Err-clause-overflow : goal.returns-in-Err-clause-overflow
+returns-in-Err-clause-overflow c o h p file =
+    c.in-Err.ensures.passes o (ap (λ x. Err x) (same_overflow c.in-Err.overflow o h)) p file
+    (first_of c.args.sys.now c.in-Ok.at c.in-Ok.ensures c.n-n.ensures.value c.n-n.ensures.some c.n-n.ensures.narrow
+    c.rows-rows.ensures.value c.rows-rows.ensures.few p file)
+
+pub returns-in-Err-enter_rows-clause-overflow : goal.returns-in-Err-enter_rows-clause-overflow
+returns-in-Err-enter_rows-clause-overflow c o h p file =
+    c.in-Err-enter_rows.ensures.passes o (ap (λ x. Err x) (same_overflow c.in-Err-enter_rows.overflow o h)) p file
+    (subst (IsDictionaryOf p) (sym c.in-Ok-copy.ensures)
+    (second_of c.args.sys.now c.in-Ok.at c.in-Ok.ensures c.n-n.ensures.value c.n-n.ensures.some c.n-n.ensures.narrow
+    c.rows-rows.ensures.value c.rows-rows.ensures.few p file c.enter_rows.new.at
+    (c.in_default-enter_rows.ensures.entered p file)))
+
+pub returns-in-Ok-with_room-clause-begun : goal.returns-in-Ok-with_room-clause-begun
+returns-in-Ok-with_room-clause-begun c p file =
+    let at = c.enter_rows.new.at in
+    let last = c.enter_rows-2.new.at in
+    let room = c.in-Ok-with_room.ensures in
+    subst (λ d. IsBegun p d c.in-Ok-with_room.begun.last c.in-Ok-with_room.begun.free.items) (sym room.at)
+    (subst (λ d. IsBegun p at d c.in-Ok-with_room.begun.free.items) (sym room.last)
+    (is_begun c.args.sys.now c.in-Ok.at c.in-Ok.ensures c.n-n.ensures.value c.n-n.ensures.some c.n-n.ensures.narrow
+    c.rows-rows.ensures.value c.rows-rows.ensures.few p file at last c.in-Ok-with_room.begun.free.items
+    (c.in_default-enter_rows.ensures.entered p file)
+    (subst (λ d. Passes c.args.sys.now p true d last) c.in-Ok-copy.ensures (c.in_default-enter_rows-2.ensures.entered p file))
+    c.enter_rows.ensures.phase
+    (λ k m l. subst (λ d. Contains d.key k) c.in-Ok-copy.ensures (c.enter_rows-2.ensures.fewer k m l))
+    room.ascending room.columns))
+
+pub returns-in-Ok-with_room-clause-rows : goal.returns-in-Ok-with_room-clause-rows
+returns-in-Ok-with_room-clause-rows c i a b =
+    subst (λ ks. Contains ks i) (sym c.enter_rows.ensures.labels ∙ sym (ap (λ d. d.labels) c.in-Ok-with_room.ensures.at))
+    (new_rows c.args.sys.now c.in-Ok.at c.in-Ok.ensures i a b)
