@@ -76,7 +76,8 @@ pub(crate) fn begin(alloc: Global, sys: &System) -> Result<Beginning, FeasibleSt
     ensures shapes { IfOk result (λ b. All (HasShapeOf b.at) b.deeper.items) }
     ensures depth { IfOk result (λ b. length b.deeper.items ≡ length (left_in b.free.items b.at.key) - 1) }
     ensures vector { IfOk result (λ b. length b.vector.items ≡ sys.now.n) }
-    ensures overflow { (o : Passed) → IsErrOf result (FeasibleStop.Overflow o) → (p : Polyhedron) → sys.now ≡ cone_of p → Passes p o }
+    ensures overflow { (o : Passed) → IsErrOf result (FeasibleStop.Overflow o) → (p : Polyhedron) →
+        sys.now ≡ cone_of p → Passes p o }
 {
     let (_n, _rows) = (sys.n(), sys.rows());
     let Ok(mut at) = Dict::new(alloc, sys, Phase::Cone) else {

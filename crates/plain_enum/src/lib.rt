@@ -41,8 +41,8 @@ pub fn where_one_is_left()
     ensures tested { TestByEntries }
 {}
 
-/// From prefix to prefix: where the linear rows have been tried the dictionary stands at the empty one, a pivot takes the
-/// next row, and where it is not taken the dictionary stays.
+/// From prefix to prefix: where the linear rows have been tried the dictionary stands at the empty one, a pivot takes
+/// the next row, and where it is not taken the dictionary stays.
 pub fn from_prefix_to_prefix()
     ensures begins { BeginsAtEmptyPrefix }
     ensures takes { PivotTakes }
