@@ -55,7 +55,8 @@ module _ (sys : System) (p : Polyhedron) (cone : ListedCone) (file : sys ≡ con
   -- the text of a listing of these vectors, of any kind and width, and of those of the system
   abbrev text_at : Kind → ℕ → List Vector → List ℕ
   text_at kind n shown =
-      (head_text kind n (length vectors) ++ flat_map vector_text vectors) ++ (flat_map (row_text kind) shown ++ end_text)
+      (head_text kind n (length vectors) ++ flat_map vector_text vectors)
+      ++ (flat_map (row_text kind) shown ++ end_text)
 
   abbrev text_of : List Vector → List ℕ
   text_of shown = text_at sys.kind sys.n shown

@@ -19,41 +19,6 @@ use poly_model::{Label, Phase, System};
 use poly_num::Num;
 use std::alloc::{AllocError, Global};
 
-/// So many copies of a dictionary. The answer is `Err` only for want of memory.
-pub(crate) fn copies(alloc: Global, at: &Dict, count: usize) -> Result<Vec<Dict>, AllocError>
-    ensures count { IfOk result (λ v. length v.items ≡ count) }
-    ensures shapes { IfOk result (λ v. All (HasShapeOf at.now) v.items) }
-{
-    let mut made = Vec::new(alloc);
-    'copies: for _ in 0..count {
-        made.push(at.copy()?)?;
-    }
-    Ok(made)
-}
-
-/// A vector of n zeros. The answer is `Err` only for want of memory.
-pub(crate) fn zero_vector(alloc: Global, n: u32) -> Result<Vec<Num>, AllocError>
-    ensures { IfOk result (λ v. length v.items ≡ n) }
-{
-    let mut vector = Vec::new(alloc);
-    vector.resize(n as usize, Num::ZERO)?;
-    Ok(vector)
-}
-
-/// How many coordinates in the cobasis are not free.
-pub(crate) fn count_left(at: &Dict, free: &[u32]) -> usize
-    ensures { result ≡ length (left_in free.now at.now.key) }
-{
-    let key = at.key();
-    let mut count: usize = 0;
-    'labels: for label in key.labels() {
-        if is_kept(free, Label(*label)) {
-            count += 1;
-        }
-    }
-    count
-}
-
 /// What a listing begins with.
 #[derive(Drop)]
 pub(crate) struct Beginning {
@@ -119,4 +84,39 @@ fn with_room(alloc: Global, sys: &System, at: Dict, last: Dict) -> Result<Beginn
         deeper,
         vector,
     })
+}
+
+// So many copies of a dictionary. The answer is `Err` only for want of memory.
+fn copies(alloc: Global, at: &Dict, count: usize) -> Result<Vec<Dict>, AllocError>
+    ensures count { IfOk result (λ v. length v.items ≡ count) }
+    ensures shapes { IfOk result (λ v. All (HasShapeOf at.now) v.items) }
+{
+    let mut made = Vec::new(alloc);
+    'copies: for _ in 0..count {
+        made.push(at.copy()?)?;
+    }
+    Ok(made)
+}
+
+// A vector of n zeros. The answer is `Err` only for want of memory.
+fn zero_vector(alloc: Global, n: u32) -> Result<Vec<Num>, AllocError>
+    ensures { IfOk result (λ v. length v.items ≡ n) }
+{
+    let mut vector = Vec::new(alloc);
+    vector.resize(n as usize, Num::ZERO)?;
+    Ok(vector)
+}
+
+// How many coordinates in the cobasis are not free.
+fn count_left(at: &Dict, free: &[u32]) -> usize
+    ensures { result ≡ length (left_in free.now at.now.key) }
+{
+    let key = at.key();
+    let mut count: usize = 0;
+    'labels: for label in key.labels() {
+        if is_kept(free, Label(*label)) {
+            count += 1;
+        }
+    }
+    count
 }

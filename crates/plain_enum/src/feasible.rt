@@ -108,11 +108,11 @@ fn starts_positive(vector: &[Num]) -> bool
     vector[0].get() > 0
 }
 
-/// Whether a vector under a prefix of rows has a positive first entry: one whose first list of tight rows has, of the
-/// rows before the label `from`, exactly the ones that `at` has in its cobasis, beside the labels that are fixed there:
-/// linear rows, and coordinates that are free. `free` are the free columns, ascending. `deeper` has a dictionary of the
-/// same shape for each further row that a list takes; what they hold is written over, and so is `vector`.
-pub(crate) fn has_point_under(
+// Whether a vector under a prefix of rows has a positive first entry: one whose first list of tight rows has, of the
+// rows before the label `from`, exactly the ones that `at` has in its cobasis, beside the labels that are fixed there:
+// linear rows, and coordinates that are free. `free` are the free columns, ascending. `deeper` has a dictionary of the
+// same shape for each further row that a list takes; what they hold is written over, and so is `vector`.
+fn has_point_under(
     sys: &System,
     free: &[u32],
     at: &Dict,
