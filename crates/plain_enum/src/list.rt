@@ -1,5 +1,5 @@
-//! What is listed where one direction is left: at a list of rows that leaves just one coordinate in the
-//! cobasis, the column of that coordinate is the direction on which all rows taken are 0.
+//! What is listed under a prefix of rows. Where just one coordinate is left in the cobasis beside those that are free,
+//! its column is the direction on which the linear rows and all rows taken are 0.
 ghost use Rattle.std.specs.Prelude.{◌≡◌, ◌≤◌, ◌<◌, ℕ, Bool, List, length, IfOk, IfErr, IsErrOf};
 ghost use Rattle.std.specs.List.{All};
 ghost use Rattle.poly_io.specs.Causes.{Rose};

@@ -29,12 +29,14 @@ use poly_num::Num;
 use row_printer::Listing;
 use std::alloc::Global;
 
-/// Writes the listing of a system: its head, the lines by ascending free column, the rows of its extreme vectors, its end.
-/// The answer says how many rows and lines it has. Where it stops, what was written is the beginning of a listing; want of
-/// memory comes before anything is written.
+/// Writes the listing of a system: its head, the lines by ascending free column, the rows of its extreme vectors, its
+/// end. The answer says how many rows and lines it has. Where it stops, what was written is the beginning of a listing;
+/// want of memory comes before anything is written.
 pub fn list_plain<S: Sink>(alloc: Global, sys: &System, out: &mut S) -> Result<Listed, PlainStop>
-    ensures written { (p : Polyhedron) → sys.now ≡ cone_of p → WritesListing p (S.written out.old) (S.written out.new) result }
-    ensures overflow { (o : Passed) → IsErrOf result (PlainStop.Overflow o) → (p : Polyhedron) → sys.now ≡ cone_of p → Passes p o }
+    ensures written { (p : Polyhedron) → sys.now ≡ cone_of p →
+        WritesListing p (S.written out.old) (S.written out.new) result }
+    ensures overflow { (o : Passed) → IsErrOf result (PlainStop.Overflow o) → (p : Polyhedron) →
+        sys.now ≡ cone_of p → Passes p o }
     ensures memory { IsErrOf result PlainStop.Memory → out.new ≡ out.old }
     ensures later { S.faults out.old ≤ S.faults out.new }
     ensures fault { IsErrOf result PlainStop.WriteFault → Rose (S.faults out.old) (S.faults out.new) }
@@ -110,7 +112,8 @@ fn print_head<S: Sink>(
     out: &mut S,
 ) -> Result<Listing, WriteFault>
     requires { length lines.now ≤ 256 }
-    ensures text { WritesText (S.written out.old) (S.written out.new) result (head_text kind n (length lines.now) ++ flat_map vector_text lines.now) }
+    ensures text { WritesText (S.written out.old) (S.written out.new) result
+        (head_text kind n (length lines.now) ++ flat_map vector_text lines.now) }
     ensures kind { IfOk result (λ l. l ≡ kind) }
     ensures cause { HasCause (S.faults out.old) (S.faults out.new) result }
 {
@@ -121,8 +124,8 @@ fn print_head<S: Sink>(
     Ok(listing)
 }
 
-// Shows the extreme vectors, from a dictionary at which the linear rows have been tried. Where no coordinate is left there
-// is none.
+// Shows the extreme vectors, from a dictionary at which the linear rows have been tried. Where no coordinate is left
+// there is none.
 fn list_left<S: Sink>(
     sys: &System,
     free: &[u32],
@@ -138,7 +141,8 @@ fn list_left<S: Sink>(
     requires vector { length vector.old ≡ sys.now.n }
     requires kind { shown.listing ≡ sys.now.kind }
     ensures written { (p : Polyhedron) (last : Dictionary) → sys.now ≡ cone_of p → IsBegun p at.now last free.now →
-        WritesRows sys.now.kind shown.rows (S.written out.old) (S.written out.new) result (IsUnder (begun_cone p free.now at.now) []) }
+        WritesRows sys.now.kind shown.rows (S.written out.old) (S.written out.new) result
+        (IsUnder (begun_cone p free.now at.now) []) }
     ensures overflow { (o : Passed) → IsErrOf result (PlainStop.Overflow o) → (p : Polyhedron) (last : Dictionary) →
         sys.now ≡ cone_of p → IsBegun p at.now last free.now → Passes p o }
     ensures memory { IsErrOf result PlainStop.Memory → ⊥ }
