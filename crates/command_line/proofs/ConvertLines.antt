@@ -11,7 +11,9 @@ use Rattle.clap.specs.Walk.{Held, Names, Step, Walk, after_flag, after_step, bun
 use Rattle.clap.specs.Faults.{entered_fault, step_fault, stray_fault, turn_fault, walk_fault, word_fault}
 use Rattle.clap.proofs.WalkLemmas.{walk_stopped}
 use Rattle.clap.proofs.OnLiterals.{clap_on_literals}
-use Rattle.command_line.specs.Lines.{IsAccepted, plain_app}
+use Rattle.command_line.specs.Laws.{IsConvert}
+use Rattle.command_line.specs.Lines.{IsAccepted, IsLine, plain_app}
+use Rattle.command_line.specs.declared.lines.Line.TheVariants.{Convert}
 use Rattle.command_line.proofs.AcceptedLines.{accepted_passes, first_passes, level_passes, next_passes, program, stop_of}
 
 -- ---- a command without words of its own
@@ -105,9 +107,6 @@ words_are_dashes s names word words unmet none =
 abbrev convert : Text
 convert = codes "convert"
 
-abbrev IsConvert : List Text → Type 0
-IsConvert words = (words ≡ convert ∷ []) ⊎ (words ≡ convert ∷ dashes ∷ [])
-
 -- at `convert` the walk stops, and the words behind it are left to the command
 stop_at_convert : (words : List Text) → stop_of (convert ∷ words) ≡ Some (convert, words)
 unfolding walked
@@ -159,3 +158,11 @@ accepted_words [] accepted = absurd (no_command [] (inl refl) accepted)
 accepted_words (word ∷ rest) accepted =
     let is_convert = first_is_convert word rest accepted (bytes_eq convert word) refl in
     subst (λ w. IsAccepted (w ∷ rest) → IsConvert (w ∷ rest)) is_convert (behind_convert rest) accepted
+
+-- and these ask for the line `Convert`
+pub convert_is_line : (words : List Text) → IsConvert words → IsLine words Convert
+unfolding clap_on_literals
+convert_is_line words (inl alone) =
+    subst (λ ws. IsLine ws Convert) (sym alone) (record { accepted = refl; command = refl })
+convert_is_line words (inr marked) =
+    subst (λ ws. IsLine ws Convert) (sym marked) (record { accepted = refl; command = refl })

@@ -1,3 +1,3 @@
 mod KnownLines
-mod AcceptedLines
+pub mod AcceptedLines
 mod ConvertLines

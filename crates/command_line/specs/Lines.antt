@@ -1,6 +1,5 @@
 -- The lines that the program takes, over clap's own definition of what a command takes.
-use Rattle.std.specs.Prelude.{◌≡◌, List, [], codes, true, Option, Some, None, option_map, if◌then◌else◌}
-use Rattle.std.specs.Str.{bytes_eq}
+use Rattle.std.specs.Prelude.{◌≡◌, List, [], codes, true, Some, option_map}
 use Rattle.clap.specs.Words.{App, Text, fault_of, new_app, subcommand_of, with_subcommand}
 use Rattle.command_line.specs.declared.lines.Line.{Line}
 use Rattle.command_line.specs.declared.lines.Line.TheVariants.{Convert}
@@ -36,10 +35,6 @@ IsAccepted words = fault_of lrs_app words ≡ []
 -- the name of the command that a line asks for
 abbrev pub name_of : Line → Text
 name_of Convert = codes "convert"
-
--- the line of the command with this name
-abbrev pub line_named : Text → Option Line
-line_named name = if bytes_eq name (codes "convert") then Some Convert else None
 
 -- the words ask for this line: they are accepted, and the command that they name is its command
 pub record IsLine (words : List Text) (line : Line) : Type 0 where

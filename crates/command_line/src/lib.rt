@@ -4,8 +4,10 @@
 #![tactic(auto)]
 
 mod commands;
+mod laws;
 mod lines;
 #[cfg(test)]
 mod tests;
 
+pub use laws::{accepted_asks_for_a_line, convert_is_exact};
 pub use lines::{Line, LineStop, read_line};

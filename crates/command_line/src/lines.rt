@@ -1,7 +1,7 @@
 //! What the words of a call ask for.
-ghost use Rattle.std.specs.Prelude.{◌≡◌, Some, map, option_map, IfOk, OnOk, IsErrOf};
+ghost use Rattle.std.specs.Prelude.{◌≡◌, ◌↔◌, map, IfOk, OnOk, IsErrOf, IfSome, IsNone};
 ghost use Rattle.clap.specs.Words.{kind_of, subcommand_of, subcommand_rows_of};
-ghost use Rattle.command_line.specs.Lines.{IsAccepted, IsLine, line_named, lrs_app};
+ghost use Rattle.command_line.specs.Lines.{IsAccepted, IsLine, lrs_app, name_of};
 
 use crate::commands::lrs_command;
 use clap::error::ErrorKind;
@@ -58,7 +58,7 @@ fn matches_in<'a>(alloc: Global, words: &'a [&'a str]) -> Result<ArgMatches<'a>,
 
 // Clap's error as this program's answer. Its text is dropped.
 fn stop_of(error: &Error) -> LineStop
-    ensures { result ≡ LineStop.Usage → ¬ (kind_of error.now ≡ ErrorKind.OutOfMemory) }
+    ensures { (result ≡ LineStop.Memory) ↔ (kind_of error.now ≡ ErrorKind.OutOfMemory) }
 {
     match error.kind() {
         ErrorKind::OutOfMemory => LineStop::Memory,
@@ -68,7 +68,8 @@ fn stop_of(error: &Error) -> LineStop
 
 // The line of the command with this name.
 fn line_named(name: &str) -> Option<Line>
-    ensures { result ≡ line_named name.now }
+    ensures some { IfSome result (λ line. name.now ≡ name_of line) }
+    ensures none { IsNone result → (line : Line) → ¬ (name.now ≡ name_of line) }
 {
     if name == "convert" {
         Some(Line::Convert)

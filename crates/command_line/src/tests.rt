@@ -2,9 +2,56 @@
 use crate::{Line, LineStop, read_line};
 use std::test::Fail;
 
+/// Words, and what is to be read of them.
+#[derive(Clone, Copy)]
+struct Row {
+    words: &'static [&'static str],
+    read: Result<Line, LineStop>,
+}
+
+/// Words that are no line.
+const fn refused(words: &'static [&'static str]) -> Row {
+    Row {
+        words,
+        read: Err(LineStop::Usage),
+    }
+}
+
 #[test]
 fn reads_lines(rt: HostRuntime) -> Result<(), Fail> {
-    let alloc = rt.alloc();
-    assert_eq!(rt; read_line(alloc, &["convert"]), Ok(Line::Convert));
+    for row in [
+        Row {
+            words: &["convert"],
+            read: Ok(Line::Convert),
+        },
+        Row {
+            words: &["convert", "--"],
+            read: Ok(Line::Convert),
+        },
+        refused(&[]),
+        refused(&["convert", "convert"]),
+        refused(&["convert", "x"]),
+        refused(&["fly"]),
+        refused(&["run"]),
+        refused(&["conv"]),
+        refused(&["CONVERT"]),
+        refused(&[""]),
+        refused(&["help"]),
+        refused(&["help", "convert"]),
+        refused(&["--help"]),
+        refused(&["-h"]),
+        refused(&["convert", "--help"]),
+        refused(&["convert", "-h"]),
+        refused(&["--version"]),
+        refused(&["-V"]),
+        refused(&["convert", "--version"]),
+        refused(&["-"]),
+        refused(&["--"]),
+        refused(&["--", "convert"]),
+        refused(&["convert", "--", "--"]),
+        refused(&["convert", "--", "x"]),
+    ] {
+        assert_eq!(rt; read_line(rt.alloc(), row.words), row.read);
+    }
     Ok(())
 }
