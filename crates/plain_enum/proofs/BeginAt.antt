@@ -51,13 +51,9 @@ module _ (p : Polyhedron) (at last : Dictionary) (free : List ℕ) (b : IsBegun 
   left = left_in free at.key
 
   is : IsDictionaryIn (cone_space p) at
-<<<<<<< HEAD
-  is = subst (λ s. IsDictionaryIn s at) (subst (λ f. IsSpaceOf p f b.at_of.space) b.phase b.at_of.is_space) b.at_of.dictionary
-=======
   is =
       subst (λ s. IsDictionaryIn s at) (subst (λ f. IsSpaceOf p f b.at_of.space) b.phase b.at_of.is_space)
       b.at_of.dictionary
->>>>>>> daa241a264a40929c6b5d2fbe8584d4e436970ab
 
   key_label : (k : ℕ) → Contains at.key k → Contains (cone_space p).labels k
   key_label = is_label (cone_space p) at.key is.dictionary.cobasis
@@ -65,11 +61,7 @@ module _ (p : Polyhedron) (at last : Dictionary) (free : List ℕ) (b : IsBegun 
   cone_labels : HasConeLabels p (cone_space p).labels
   cone_labels = (over_cone_of p Cone (cone_space p) b.at_of.few (inl refl) refl).labels
 
-<<<<<<< HEAD
-  pub free_columns : AreFreeColumns (cone_of p) free
-=======
   free_columns : AreFreeColumns (cone_of p) free
->>>>>>> daa241a264a40929c6b5d2fbe8584d4e436970ab
   free_columns =
       subst (AreFreeColumns (cone_of p)) (sym b.columns)
       (elimination_leaves_lines p last b.last_of b.ascending b.all).free
@@ -94,11 +86,7 @@ module _ (p : Polyhedron) (at last : Dictionary) (free : List ℕ) (b : IsBegun 
   fixed_has : (k : ℕ) → Contains at.key k → stays_in rows free k ≡ false → Contains fixed k
   fixed_has k c e = filter_kept (λ j. not (stays_in rows free j)) at.key k c (not_from_false (stays_in rows free k) e)
 
-<<<<<<< HEAD
-  pub fixed_are : FixedAre rows free at fixed
-=======
   fixed_are : FixedAre rows free at fixed
->>>>>>> daa241a264a40929c6b5d2fbe8584d4e436970ab
   fixed_are k c = (λ f. (fixed_only k f).1, λ e. fixed_has k c e)
 
   -- the rows of the key are linear, so they are fixed
@@ -157,12 +145,8 @@ module _ (p : Polyhedron) (at last : Dictionary) (free : List ℕ) (b : IsBegun 
   apart : (k : ℕ) → Contains fixed k → Contains left k → ⊥
   apart k c d =
       let h = left_only k d in
-<<<<<<< HEAD
-      true≢false (sym (coordinate_stays rows free k h.1 ∙ not_from_false (is_member (k - 8192) free) h.2) ∙ (fixed_only k c).1)
-=======
       true≢false
       (sym (coordinate_stays rows free k h.1 ∙ not_from_false (is_member (k - 8192) free) h.2) ∙ (fixed_only k c).1)
->>>>>>> daa241a264a40929c6b5d2fbe8584d4e436970ab
 
   -- ---- where the fixed labels are 0
   abbrev cone : ListedCone
@@ -182,12 +166,8 @@ module _ (p : Polyhedron) (at last : Dictionary) (free : List ℕ) (b : IsBegun 
         ⊎_elim
         (λ (c : Contains at.key i). zeros i (row_is_fixed i c low))
         (λ (n : Contains at.key i → ⊥).
-<<<<<<< HEAD
-        zero_by_terms p at.key is.dictionary.cobasis (table_of at) is.dictionary.writes i (row_label i some within) z width
-=======
         zero_by_terms p at.key is.dictionary.cobasis (table_of at) is.dictionary.writes i (row_label i some within)
         z width
->>>>>>> daa241a264a40929c6b5d2fbe8584d4e436970ab
         (λ k c. ⊎_elim
         (λ (l : k < 8192).
         times_zero (Table.entry (table_of at) i k) (form_of p k · z) (zeros k (row_is_fixed k c l)))
@@ -212,12 +192,8 @@ module _ (p : Polyhedron) (at last : Dictionary) (free : List ℕ) (b : IsBegun 
     free_are_zero : AreZeroAt p fixed z → IsZeroAtFree (cone_of p) z
     free_are_zero zeros j f = sym (coordinate_value p j z) ∙ zeros (coordinate_label j) (free_is_fixed j f)
 
-<<<<<<< HEAD
-    fixed_are_zero : IsZeroAtFree (cone_of p) z → All (λ row. row.linear ≡ true → IsTight z row) rows → AreZeroAt p fixed z
-=======
     fixed_are_zero : IsZeroAtFree (cone_of p) z → All (λ row. row.linear ≡ true → IsTight z row) rows →
         AreZeroAt p fixed z
->>>>>>> daa241a264a40929c6b5d2fbe8584d4e436970ab
     fixed_are_zero free_zero tight k c =
         let h = fixed_only k c in
         ⊎_elim
@@ -239,12 +215,8 @@ module _ (p : Polyhedron) (at last : Dictionary) (free : List ℕ) (b : IsBegun 
     base_is_zero v = all_at (λ k. form_of p k · z ≡ pos 0) fixed (all_from_map (λ g. g · z ≡ pos 0) (form_of p) fixed v)
 
     base_vanishes : AreZeroAt p fixed z → Vanish cone.base z
-<<<<<<< HEAD
-    base_vanishes zeros = all_to_map (λ g. g · z ≡ pos 0) (form_of p) fixed (all_from (λ k. form_of p k · z ≡ pos 0) fixed zeros)
-=======
     base_vanishes zeros =
         all_to_map (λ g. g · z ≡ pos 0) (form_of p) fixed (all_from (λ k. form_of p k · z ≡ pos 0) fixed zeros)
->>>>>>> daa241a264a40929c6b5d2fbe8584d4e436970ab
 
   -- ---- the cone over the fixed labels
   key_is_distinct : AreDistinct at.key

@@ -1,15 +1,9 @@
 -- How a listing begins: the two passes of elimination, from the dictionary of the coordinates.
-<<<<<<< HEAD
-use Rattle.std.proofs.Common.{◌≡◌, inl, ℕ, ◌+◌, ◌<◌, ◌≤◌, Bool, true, false, List, length, refl, sym, ap, subst, ◌∙◌, arith}
-use Rattle.std.specs.List.{Contains, range_with_len}
-use Rattle.std.proofs.lemmas.List.Elements.{Contains-append_left}
-=======
 use Rattle.std.proofs.Common.{◌≡◌, Err, inl, ℕ, ◌+◌, ◌<◌, ◌≤◌, Bool, true, false, List, length, refl, sym, ap, subst, ◌∙◌, arith}
 use Rattle.std.specs.List.{Contains, range_with_len}
 use Rattle.std.specs.Result.{IsErrOf}
 use Rattle.std.proofs.lemmas.List.Elements.{Contains-append_left}
 use Rattle.poly_model.specs.declared.overflow.Overflow.{Overflow as Passed}
->>>>>>> daa241a264a40929c6b5d2fbe8584d4e436970ab
 use Rattle.poly_model.specs.declared.overflow.Phase.TheVariants.{Cone}
 use Rattle.poly_model.specs.Keys.{IsAscending}
 use Rattle.poly_model.specs.Systems.{System, Polyhedron, cone_of}
@@ -19,11 +13,6 @@ use Rattle.dictionary.specs.Views.{Dictionary}
 use Rattle.linearity.specs.Columns.{columns_in}
 use Rattle.linearity.specs.Elimination.{IsDictionaryOf, IsEliminated}
 use Rattle.linearity.proofs.Beginnings.{begins_new, second_pass}
-<<<<<<< HEAD
-use Rattle.plain_enum.specs.Begin.{IsBegun}
-use Rattle.plain_enum.specs.Columns.{HasRows}
-
-=======
 use Rattle.plain_enum.specs.declared.answers.FeasibleStop.{FeasibleStop}
 use Rattle.plain_enum.specs.declared.answers.FeasibleStop.TheVariants.{Overflow}
 use Rattle.plain_enum.specs.Begin.{IsBegun}
@@ -34,7 +23,6 @@ pub same_overflow : {T : Type 0} (x o : Passed) → IsErrOf {T = T} {E = Feasibl
     x ≡ o
 same_overflow x o h = cc
 
->>>>>>> daa241a264a40929c6b5d2fbe8584d4e436970ab
 -- a pass over all rows
 abbrev pub Passes : System → Polyhedron → (others : Bool) → Dictionary → Dictionary → Type 0
 Passes sys p others old new =
@@ -45,13 +33,6 @@ Passes sys p others old new =
 pub new_rows : (sys : System) (d : Dictionary) → IsNew sys Cone d → HasRows (length sys.rows) d
 new_rows sys d new i a b =
     subst (λ (ks : List ℕ). Contains ks i) (sym new.labels)
-<<<<<<< HEAD
-    (Contains-append_left (range_with_len 1 (length sys.rows)) d.key i (range_has 1 (length sys.rows) i a (omega (arith, b))))
-
--- the numbers of rows and of coordinates are those that a system tells
-module _ (sys : System) (new : Dictionary) (is_new : IsNew sys Cone new) {n rows : ℕ} (width : n ≡ sys.n) (some : 0 < n)
-    (narrow : n ≤ 256) (count : rows ≡ length sys.rows) (few : rows ≤ 4097) (p : Polyhedron) (file : sys ≡ cone_of p) where
-=======
     (Contains-append_left (range_with_len 1 (length sys.rows)) d.key i
     (range_has 1 (length sys.rows) i a (omega (arith, b))))
 
@@ -59,7 +40,6 @@ module _ (sys : System) (new : Dictionary) (is_new : IsNew sys Cone new) {n rows
 module _ (sys : System) (new : Dictionary) (is_new : IsNew sys Cone new) {n rows : ℕ} (width : n ≡ sys.n) (some : 0 < n)
     (narrow : n ≤ 256) (count : rows ≡ length sys.rows) (few : rows ≤ 4097) (p : Polyhedron)
     (file : sys ≡ cone_of p) where
->>>>>>> daa241a264a40929c6b5d2fbe8584d4e436970ab
   begun : IsDictionaryOf p new × IsEliminated sys.rows false 1 new
   begun =
       let same = width ∙ ap (λ (s : System). s.n) file in
@@ -79,12 +59,8 @@ module _ (sys : System) (new : Dictionary) (is_new : IsNew sys Cone new) {n rows
   is_begun at last free first second phase later ascending columns =
       let linear = first begun.0 begun.1 in
       let there = subst (λ (s : System). IsEliminated s.rows false (length s.rows + 1) at) file linear.1 in
-<<<<<<< HEAD
-      let all = second linear.0 (subst (λ (s : System). IsEliminated s.rows true 1 at) (sym file) (second_pass p at linear.0 there)) in
-=======
       let next = subst (λ (s : System). IsEliminated s.rows true 1 at) (sym file) (second_pass p at linear.0 there) in
       let all = second linear.0 next in
->>>>>>> daa241a264a40929c6b5d2fbe8584d4e436970ab
       record {
         phase = phase ∙ is_new.phase_is;
         at_of = linear.0;

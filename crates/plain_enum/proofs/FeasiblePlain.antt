@@ -37,16 +37,10 @@ module _ (sys : System) (cone : ListedCone) (is : IsConeOf sys cone) where
 
 module _ (p : Polyhedron) (at last : Dictionary) (free : List ℕ) (b : IsBegun p at last free) where
   -- ---- where a coordinate is left
-<<<<<<< HEAD
-  module _ (sys : System) (file : sys ≡ cone_of p) (depth : ℕ) (count : depth ≡ length (left_in free at.key) - 1) (k : ℕ)
-      (some : IsLeftCoordinate at free k) where
-    pub begins : IsAt sys free at 1 depth p (begun_cone p free at) (fixed_in (cone_of p).rows free at.key) (left_in free at.key) []
-=======
   module _ (sys : System) (file : sys ≡ cone_of p) (depth : ℕ) (count : depth ≡ length (left_in free at.key) - 1)
       (k : ℕ) (some : IsLeftCoordinate at free k) where
     pub begins : IsAt sys free at 1 depth p (begun_cone p free at) (fixed_in (cone_of p).rows free at.key)
         (left_in free at.key) []
->>>>>>> daa241a264a40929c6b5d2fbe8584d4e436970ab
     begins =
         begins_at p at last free b sys depth file
         (let c = left_has p at last free b k some.inside some.coordinate some.not_free in

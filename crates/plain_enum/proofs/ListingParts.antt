@@ -49,14 +49,6 @@ module _ (sys : System) (p : Polyhedron) (cone : ListedCone) (file : sys ≡ con
   same_kind = ap (λ (s : System). s.kind) file
 
   -- what stands before the rows
-<<<<<<< HEAD
-  abbrev pub text_before : List ℕ
-  text_before = head_text sys.kind sys.n (length vectors) ++ flat_map vector_text vectors
-
-  -- the text of a listing of these vectors
-  abbrev text_of : List Vector → List ℕ
-  text_of shown = text_before ++ (flat_map (row_text sys.kind) shown ++ end_text)
-=======
   abbrev text_before : List ℕ
   text_before = head_text sys.kind sys.n (length vectors) ++ flat_map vector_text vectors
 
@@ -68,7 +60,6 @@ module _ (sys : System) (p : Polyhedron) (cone : ListedCone) (file : sys ≡ con
 
   abbrev text_of : List Vector → List ℕ
   text_of shown = text_at sys.kind sys.n shown
->>>>>>> daa241a264a40929c6b5d2fbe8584d4e436970ab
 
   is_listing : (shown : List Vector) → Lists (IsUnder cone []) shown → IsListing p (text_of shown)
   is_listing shown l = record {
@@ -76,16 +67,10 @@ module _ (sys : System) (p : Polyhedron) (cone : ListedCone) (file : sys ≡ con
     shown = shown;
     are_lines = lines;
     are_extreme = whole_listing (cone_of p) cone (subst (λ s. IsConeOf s cone) file is_cone) shown l;
-<<<<<<< HEAD
-    is_text = ap (λ k. (head_text k sys.n (length vectors) ++ flat_map vector_text vectors) ++ (flat_map (row_text k) shown ++ end_text)) same_kind
-        ∙ ap (λ n. (head_text p.kind n (length vectors) ++ flat_map vector_text vectors) ++ (flat_map (row_text p.kind) shown ++ end_text)) same_width
-        ∙ append_assoc (head_text p.kind p.n (length vectors)) (flat_map vector_text vectors) (flat_map (row_text p.kind) shown ++ end_text);
-=======
     is_text = ap (λ k. text_at k sys.n shown) same_kind
         ∙ ap (λ n. text_at p.kind n shown) same_width
         ∙ append_assoc (head_text p.kind p.n (length vectors)) (flat_map vector_text vectors)
         (flat_map (row_text p.kind) shown ++ end_text);
->>>>>>> daa241a264a40929c6b5d2fbe8584d4e436970ab
   }
 
   part_of : {E : Type 0} (old new : Option (List ℕ)) (result : Result Listed E) → IsErr result → (shown : List Vector) →
@@ -102,38 +87,19 @@ module _ (sys : System) (p : Polyhedron) (cone : ListedCone) (file : sys ≡ con
       (record { sent = []; unsent = text_of all.0; split = refl; bytes = Appends-nil old })
 
   pub stops_in_head : {E : Type 0} (old new : Option (List ℕ)) (result : Result Listed E) → IsErr result →
-<<<<<<< HEAD
-      AppendsPart old new (text_before) → WritesListing p old new result
-=======
       AppendsPart old new text_before → WritesListing p old new result
->>>>>>> daa241a264a40929c6b5d2fbe8584d4e436970ab
   stops_in_head old new result r a =
       let all = prefix_has_list cone (is_listable sys cone is_cone) [] (omega arith) in
       part_of old new result r all.0 all.1 (part_before (flat_map (row_text sys.kind) all.0 ++ end_text) a)
 
   pub stops_in_rows : {E : Type 0} (old mid new : Option (List ℕ)) (result : Result Listed E) → IsErr result →
-<<<<<<< HEAD
-      Appends old mid (text_before) →
-=======
       Appends old mid text_before →
->>>>>>> daa241a264a40929c6b5d2fbe8584d4e436970ab
       (shown : List Vector) × Begins (IsUnder cone []) shown × AppendsPart mid new (flat_map (row_text sys.kind) shown) →
       WritesListing p old new result
   stops_in_rows old mid new result r head (shown, (rest, l), a) =
       let rows = flat_map (row_text sys.kind) in
       let split = flat_map-append (row_text sys.kind) shown rest in
       part_of old new result r (shown ++ rest) l
-<<<<<<< HEAD
-      (part_after old mid new (text_before) (rows (shown ++ rest) ++ end_text) head
-      (part_before end_text (subst (λ t. AppendsPart mid new t) (sym split) (part_before (rows rest) a))))
-
-  pub stops_in_end : {E : Type 0} (old mid then new : Option (List ℕ)) (result : Result Listed E) → IsErr result →
-      Appends old mid (text_before) → (shown : List Vector) → Lists (IsUnder cone []) shown →
-      Appends mid then (flat_map (row_text sys.kind) shown) → AppendsPart then new end_text → WritesListing p old new result
-  stops_in_end old mid then new result r head shown l rows a =
-      part_of old new result r shown l
-      (part_after old mid new (text_before) (flat_map (row_text sys.kind) shown ++ end_text) head
-=======
       (part_after old mid new text_before (rows (shown ++ rest) ++ end_text) head
       (part_before end_text (subst (λ t. AppendsPart mid new t) (sym split) (part_before (rows rest) a))))
 
@@ -143,16 +109,11 @@ module _ (sys : System) (p : Polyhedron) (cone : ListedCone) (file : sys ≡ con
   stops_in_end old mid then new result r head shown l rows a =
       part_of old new result r shown l
       (part_after old mid new text_before (flat_map (row_text sys.kind) shown ++ end_text) head
->>>>>>> daa241a264a40929c6b5d2fbe8584d4e436970ab
       (part_after mid then new (flat_map (row_text sys.kind) shown) end_text rows a))
 
   -- ---- where it ends
   pub ends_whole : {E : Type 0} (old mid then new : Option (List ℕ)) (listed : Listed) → listed.lines ≡ length vectors →
-<<<<<<< HEAD
-      Appends old mid (text_before) →
-=======
       Appends old mid text_before →
->>>>>>> daa241a264a40929c6b5d2fbe8584d4e436970ab
       (shown : List Vector) × Lists (IsUnder cone []) shown × HasWritten sys.kind mid then 0 listed.rows shown →
       Appends then new end_text → WritesListing {E = E} p old new (Ok listed)
   unfolding is_listing
@@ -160,11 +121,7 @@ module _ (sys : System) (p : Polyhedron) (cone : ListedCone) (file : sys ≡ con
     whole = (
       text_of shown,
       record { listing = is_listing shown l; rows = h.count; lines = count },
-<<<<<<< HEAD
-      Appends-trans old mid new (text_before) (flat_map (row_text sys.kind) shown ++ end_text) head
-=======
       Appends-trans old mid new text_before (flat_map (row_text sys.kind) shown ++ end_text) head
->>>>>>> daa241a264a40929c6b5d2fbe8584d4e436970ab
           (Appends-trans mid then new (flat_map (row_text sys.kind) shown) end_text h.bytes a),
     );
     part = tt;

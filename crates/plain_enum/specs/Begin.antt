@@ -12,13 +12,8 @@ use Rattle.linearity.specs.Elimination.{IsDictionaryOf, IsEliminated}
 use Rattle.listing_laws.specs.ListedCone.{ListedCone, cone_over}
 use Rattle.plain_enum.specs.Standing.{form_of}
 
-<<<<<<< HEAD
--- the linear rows have been tried at `at`, and all rows at `last`, which comes after it: so its coordinates are the free
--- columns
-=======
 -- the linear rows have been tried at `at`, and all rows at `last`, which comes after it: so its coordinates are the
 -- free columns
->>>>>>> daa241a264a40929c6b5d2fbe8584d4e436970ab
 pub record IsBegun (p : Polyhedron) (at last : Dictionary) (free : List ℕ) : Type 0 where
   pub phase : at.phase ≡ Cone
   pub at_of : IsDictionaryOf p at

@@ -14,11 +14,7 @@ ghost use Rattle.plain_enum.specs.Listed.{HasShapeOf};
 use crate::answers::FeasibleStop;
 use crate::side::is_kept;
 use dictionary::Dict;
-<<<<<<< HEAD
 use linearity::{Pass, enter_rows, free_columns};
-=======
-use linearity::{enter_rows, free_columns};
->>>>>>> daa241a264a40929c6b5d2fbe8584d4e436970ab
 use poly_model::{Label, Phase, System};
 use poly_num::Num;
 use std::alloc::{AllocError, Global};
@@ -52,13 +48,13 @@ pub(crate) fn begin(alloc: Global, sys: &System) -> Result<Beginning, FeasibleSt
     let Ok(mut at) = Dict::new(alloc, sys, Phase::Cone) else {
         return Err(FeasibleStop::Memory);
     };
-    if let Err(overflow) = enter_rows(&mut at, sys, false) {
+    if let Err(overflow) = enter_rows(&mut at, sys, Pass::Linear) {
         return Err(FeasibleStop::Overflow(overflow));
     }
     let Ok(mut last) = at.copy() else {
         return Err(FeasibleStop::Memory);
     };
-    if let Err(overflow) = enter_rows(&mut last, sys, true) {
+    if let Err(overflow) = enter_rows(&mut last, sys, Pass::Others) {
         return Err(FeasibleStop::Overflow(overflow));
     }
     match with_room(alloc, sys, at, last) {
@@ -111,86 +107,6 @@ fn zero_vector(alloc: Global, n: u32) -> Result<Vec<Num>, AllocError>
     Ok(vector)
 }
 
-<<<<<<< HEAD
-/// How many coordinates in the cobasis are not free.
-pub(crate) fn count_left(at: &Dict, free: &[u32]) -> usize
-    ensures { result ≡ length (left_in free.now at.now.key) }
-{
-    let key = at.key();
-    let mut count: usize = 0;
-    'labels: for label in key.labels() {
-        if is_kept(free, Label(*label)) {
-            count += 1;
-        }
-    }
-    count
-}
-
-/// What a listing begins with.
-#[derive(Drop)]
-pub(crate) struct Beginning {
-    /// The dictionary of the cone at which the linear rows have been tried.
-    pub at: Dict,
-    /// The same once all rows have been tried.
-    pub last: Dict,
-    /// The free columns, ascending.
-    pub free: Vec<u32>,
-    /// A dictionary of the shape of `at` for each row that a list takes.
-    pub deeper: Vec<Dict>,
-    /// Room for a vector.
-    pub vector: Vec<Num>,
-}
-
-/// What the listing of a system begins with.
-pub(crate) fn begin(alloc: Global, sys: &System) -> Result<Beginning, FeasibleStop>
-    ensures begun { IfOk result (λ b. (p : Polyhedron) → sys.now ≡ cone_of p → IsBegun p b.at b.last b.free.items) }
-    ensures rows { IfOk result (λ b. HasRows (length sys.now.rows) b.at) }
-    ensures shapes { IfOk result (λ b. All (HasShapeOf b.at) b.deeper.items) }
-    ensures depth { IfOk result (λ b. length b.deeper.items ≡ length (left_in b.free.items b.at.key) - 1) }
-    ensures vector { IfOk result (λ b. length b.vector.items ≡ sys.now.n) }
-    ensures overflow { (o : Passed) → IsErrOf result (FeasibleStop.Overflow o) → (p : Polyhedron) → sys.now ≡ cone_of p → Passes p o }
-{
-    let (_n, _rows) = (sys.n(), sys.rows());
-    let Ok(mut at) = Dict::new(alloc, sys, Phase::Cone) else {
-        return Err(FeasibleStop::Memory);
-    };
-    if let Err(overflow) = enter_rows(&mut at, sys, Pass::Linear) {
-        return Err(FeasibleStop::Overflow(overflow));
-    }
-    let Ok(mut last) = at.copy() else {
-        return Err(FeasibleStop::Memory);
-    };
-    if let Err(overflow) = enter_rows(&mut last, sys, Pass::Others) {
-        return Err(FeasibleStop::Overflow(overflow));
-    }
-    match with_room(alloc, sys, at, last) {
-        Ok(begun) => Ok(begun),
-        Err(_) => Err(FeasibleStop::Memory),
-    }
-}
-
-// The free columns, and room for a listing from these dictionaries. The answer is `Err` only for want of memory.
-fn with_room(alloc: Global, sys: &System, at: Dict, last: Dict) -> Result<Beginning, AllocError>
-    ensures at { IfOk result (λ b. b.at ≡ at) }
-    ensures last { IfOk result (λ b. b.last ≡ last) }
-    ensures columns { IfOk result (λ b. b.free.items ≡ columns_in last.key) }
-    ensures ascending { IfOk result (λ b. IsAscending last.key) }
-    ensures shapes { IfOk result (λ b. All (HasShapeOf at) b.deeper.items) }
-    ensures depth { IfOk result (λ b. length b.deeper.items ≡ length (left_in b.free.items at.key) - 1) }
-    ensures vector { IfOk result (λ b. length b.vector.items ≡ sys.now.n) }
-{
-    let free = free_columns(alloc, &last)?;
-    let left = count_left(&at, &free);
-    let deeper = copies(alloc, &at, left.saturating_sub(1))?;
-    let vector = zero_vector(alloc, sys.n())?;
-    Ok(Beginning {
-        at,
-        last,
-        free,
-        deeper,
-        vector,
-    })
-=======
 // How many coordinates in the cobasis are not free.
 fn count_left(at: &Dict, free: &[u32]) -> usize
     ensures { result ≡ length (left_in free.now at.now.key) }
@@ -203,5 +119,4 @@ fn count_left(at: &Dict, free: &[u32]) -> usize
         }
     }
     count
->>>>>>> daa241a264a40929c6b5d2fbe8584d4e436970ab
 }

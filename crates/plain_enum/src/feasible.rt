@@ -25,12 +25,6 @@ use poly_num::Num;
 use std::alloc::Global;
 
 /// Whether a file is feasible: a V file always is, an H file where its cone has a vector with a positive first entry.
-<<<<<<< HEAD
-/// `sys` is its cone, and is left as it is; the dictionaries are given back before the call returns, whatever it answers.
-pub fn feasible_plain(alloc: Global, sys: &System) -> Result<bool, FeasibleStop>
-    ensures answer { IfOk result (λ found. (p : Polyhedron) → sys.now ≡ cone_of p → IsTrue found ↔ IsFeasible (cone_of p)) }
-    ensures overflow { (o : Passed) → IsErrOf result (FeasibleStop.Overflow o) → (p : Polyhedron) → sys.now ≡ cone_of p → Passes p o }
-=======
 /// `sys` is its cone, and is left as it is; the dictionaries are given back before the call returns, whatever it
 /// answers.
 pub fn feasible_plain(alloc: Global, sys: &System) -> Result<bool, FeasibleStop>
@@ -38,7 +32,6 @@ pub fn feasible_plain(alloc: Global, sys: &System) -> Result<bool, FeasibleStop>
         IsTrue found ↔ IsFeasible (cone_of p)) }
     ensures overflow { (o : Passed) → IsErrOf result (FeasibleStop.Overflow o) → (p : Polyhedron) →
         sys.now ≡ cone_of p → Passes p o }
->>>>>>> daa241a264a40929c6b5d2fbe8584d4e436970ab
 {
     match sys.kind() {
         Kind::H => has_point(alloc, sys),
@@ -48,15 +41,10 @@ pub fn feasible_plain(alloc: Global, sys: &System) -> Result<bool, FeasibleStop>
 
 // Whether an extreme vector has a positive first entry.
 fn has_point(alloc: Global, sys: &System) -> Result<bool, FeasibleStop>
-<<<<<<< HEAD
-    ensures answer { IfOk result (λ found. (p : Polyhedron) → sys.now ≡ cone_of p → IsTrue found ↔ HasVertex (cone_of p)) }
-    ensures overflow { (o : Passed) → IsErrOf result (FeasibleStop.Overflow o) → (p : Polyhedron) → sys.now ≡ cone_of p → Passes p o }
-=======
     ensures answer { IfOk result (λ found. (p : Polyhedron) → sys.now ≡ cone_of p →
         IsTrue found ↔ HasVertex (cone_of p)) }
     ensures overflow { (o : Passed) → IsErrOf result (FeasibleStop.Overflow o) → (p : Polyhedron) →
         sys.now ≡ cone_of p → Passes p o }
->>>>>>> daa241a264a40929c6b5d2fbe8584d4e436970ab
 {
     let Beginning {
         at,
@@ -83,16 +71,10 @@ fn has_point_left(
     requires shapes { All (HasShapeOf at.now) deeper.old }
     requires depth { length deeper.old ≡ length (left_in free.now at.now.key) - 1 }
     requires vector { length vector.old ≡ sys.now.n }
-<<<<<<< HEAD
-    ensures answer { IfOk result (λ found. (p : Polyhedron) (last : Dictionary) → sys.now ≡ cone_of p → IsBegun p at.now last free.now →
-        IsTrue found ↔ HasVertex (cone_of p)) }
-    ensures passes { (o : Passed) → IsErrOf result o → (p : Polyhedron) (last : Dictionary) → sys.now ≡ cone_of p → IsBegun p at.now last free.now → Passes p o }
-=======
     ensures answer { IfOk result (λ found. (p : Polyhedron) (last : Dictionary) → sys.now ≡ cone_of p →
         IsBegun p at.now last free.now → IsTrue found ↔ HasVertex (cone_of p)) }
     ensures passes { (o : Passed) → IsErrOf result o → (p : Polyhedron) (last : Dictionary) → sys.now ≡ cone_of p →
         IsBegun p at.now last free.now → Passes p o }
->>>>>>> daa241a264a40929c6b5d2fbe8584d4e436970ab
 {
     match left_coordinate(at, free) {
         Some(_) => has_point_under(sys, free, at, deeper, 1, vector),

@@ -41,13 +41,8 @@ pub fn where_one_is_left()
     ensures tested { TestByEntries }
 {}
 
-<<<<<<< HEAD
-/// From prefix to prefix: where the linear rows have been tried the dictionary stands at the empty one, a pivot takes the
-/// next row, and where it is not taken the dictionary stays.
-=======
 /// From prefix to prefix: where the linear rows have been tried the dictionary stands at the empty one, a pivot takes
 /// the next row, and where it is not taken the dictionary stays.
->>>>>>> daa241a264a40929c6b5d2fbe8584d4e436970ab
 pub fn from_prefix_to_prefix()
     ensures begins { BeginsAtEmptyPrefix }
     ensures takes { PivotTakes }

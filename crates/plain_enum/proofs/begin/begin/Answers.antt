@@ -1,20 +1,3 @@
-<<<<<<< HEAD
-use Rattle.std.proofs.Common.{◌≡◌, Err, true, sym, ap, subst, ◌∙◌}
-use Rattle.std.specs.Result.{IsErrOf}
-use Rattle.std.specs.List.{Contains}
-use Rattle.poly_model.specs.declared.overflow.Overflow.{Overflow as Passed}
-use Rattle.linearity.specs.Elimination.{IsDictionaryOf}
-use Rattle.plain_enum.specs.declared.answers.FeasibleStop.{FeasibleStop}
-use Rattle.plain_enum.specs.declared.answers.FeasibleStop.TheVariants.{Overflow}
-use Rattle.plain_enum.specs.Begin.{IsBegun}
-use Rattle.plain_enum.proofs.Begun.{Passes, new_rows, first_of, second_of, is_begun}
-use Rattle.plain_enum.proofs.begin.begin.Goals as goal
-
--- the overflow that is handed on
-same_overflow : {T : Type 0} (x o : Passed) → IsErrOf {T = T} {E = FeasibleStop} (Err (Overflow x)) (Overflow o) → x ≡ o
-same_overflow x o h = cc
-
-=======
 use Rattle.std.proofs.Common.{Err, true, sym, ap, subst, ◌∙◌}
 use Rattle.std.specs.List.{Contains}
 use Rattle.linearity.specs.Elimination.{IsDictionaryOf}
@@ -22,7 +5,6 @@ use Rattle.plain_enum.specs.Begin.{IsBegun}
 use Rattle.plain_enum.proofs.Begun.{same_overflow, Passes, new_rows, first_of, second_of, is_begun}
 use Rattle.plain_enum.proofs.begin.begin.Goals as goal
 
->>>>>>> daa241a264a40929c6b5d2fbe8584d4e436970ab
 pub returns-in-Err-clause-overflow : goal.returns-in-Err-clause-overflow
 returns-in-Err-clause-overflow c o h p file =
     c.in-Err.ensures.passes o (ap (λ x. Err x) (same_overflow c.in-Err.overflow o h)) p file
@@ -47,22 +29,14 @@ returns-in-Ok-with_room-clause-begun c p file =
     (is_begun c.args.sys.now c.in-Ok.at c.in-Ok.ensures c.n-n.ensures.value c.n-n.ensures.some c.n-n.ensures.narrow
     c.rows-rows.ensures.value c.rows-rows.ensures.few p file at last c.in-Ok-with_room.begun.free.items
     (c.in_default-enter_rows.ensures.entered p file)
-<<<<<<< HEAD
-    (subst (λ d. Passes c.args.sys.now p true d last) c.in-Ok-copy.ensures (c.in_default-enter_rows-2.ensures.entered p file))
-=======
     (subst (λ d. Passes c.args.sys.now p true d last) c.in-Ok-copy.ensures
     (c.in_default-enter_rows-2.ensures.entered p file))
->>>>>>> daa241a264a40929c6b5d2fbe8584d4e436970ab
     c.enter_rows.ensures.phase
     (λ k m l. subst (λ d. Contains d.key k) c.in-Ok-copy.ensures (c.enter_rows-2.ensures.fewer k m l))
     room.ascending room.columns))
 
 pub returns-in-Ok-with_room-clause-rows : goal.returns-in-Ok-with_room-clause-rows
 returns-in-Ok-with_room-clause-rows c i a b =
-<<<<<<< HEAD
-    subst (λ ks. Contains ks i) (sym c.enter_rows.ensures.labels ∙ sym (ap (λ d. d.labels) c.in-Ok-with_room.ensures.at))
-=======
     subst (λ ks. Contains ks i)
     (sym c.enter_rows.ensures.labels ∙ sym (ap (λ d. d.labels) c.in-Ok-with_room.ensures.at))
->>>>>>> daa241a264a40929c6b5d2fbe8584d4e436970ab
     (new_rows c.args.sys.now c.in-Ok.at c.in-Ok.ensures i a b)

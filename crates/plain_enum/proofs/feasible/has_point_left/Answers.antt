@@ -17,9 +17,5 @@ returns-in-Some-clause-passes c o h p last file b =
     c.in-Some.ensures.some o (c.has_point_under.ensures.passes o h)
 
 pub returns-in-None-clause-answer : goal.returns-in-None-clause-answer
-<<<<<<< HEAD
-returns-in-None-clause-answer c p last file b = no_vertex p c.args.at.now last c.args.free.now b (c.in-None.ensures.none refl)
-=======
 returns-in-None-clause-answer c p last file b =
     no_vertex p c.args.at.now last c.args.free.now b (c.in-None.ensures.none refl)
->>>>>>> daa241a264a40929c6b5d2fbe8584d4e436970ab

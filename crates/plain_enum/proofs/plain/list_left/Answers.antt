@@ -19,10 +19,6 @@ returns-in-Some-clause-overflow g c o h p last file b =
 
 pub returns-in-None-clause-written : goal.returns-in-None-clause-written
 returns-in-None-clause-written g c p last file b =
-<<<<<<< HEAD
-    writes_nothing (IsUnder (begun_cone p c.args.free.now c.args.at.now) []) c.args.sys.now.kind (g.S.Sink.written c.args.out.now) c.args.shown
-=======
     writes_nothing (IsUnder (begun_cone p c.args.free.now c.args.at.now) []) c.args.sys.now.kind
     (g.S.Sink.written c.args.out.now) c.args.shown
->>>>>>> daa241a264a40929c6b5d2fbe8584d4e436970ab
     (nothing_under p c.args.at.now last c.args.free.now b (c.in-None.ensures.none refl))

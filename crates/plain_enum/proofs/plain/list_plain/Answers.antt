@@ -22,9 +22,5 @@ pub returns-clause-written : goal.returns-clause-written
 returns-clause-written g c p file =
     c.print.ensures.written p c.in-Ok.begun.last file
     (subst (IsBegun p c.in-Ok.begun.at c.in-Ok.begun.last) (sym c.deref.ensures.value) (c.in-Ok.ensures.begun p file))
-<<<<<<< HEAD
-    (c.as_slice.ensures ∙ c.in-Ok-lines_of.ensures.value ∙ ap (λ n. coordinate_vectors c.in-Ok.begun.last n) c.n.ensures.value)
-=======
     (c.as_slice.ensures ∙ c.in-Ok-lines_of.ensures.value
     ∙ ap (λ n. coordinate_vectors c.in-Ok.begun.last n) c.n.ensures.value)
->>>>>>> daa241a264a40929c6b5d2fbe8584d4e436970ab

@@ -19,24 +19,16 @@ returns-in_err-listing-clause-text g c =
 pub returns-in_err-listing-2-clause-text : goal.returns-in_err-listing-2-clause-text
 returns-in_err-listing-2-clause-text g c =
     owes_cut _ _ _ _ _ _ _ c.lines.invariant.owes
-<<<<<<< HEAD
-    (next_line c.args.lines.now c.lines.line-index _ _ (let t = c.lines-test.true in omega arith) c.line-item.is c.as_slice.ensures)
-=======
     (next_line c.args.lines.now c.lines.line-index _ _ (let t = c.lines-test.true in omega arith) c.line-item.is
     c.as_slice.ensures)
->>>>>>> daa241a264a40929c6b5d2fbe8584d4e436970ab
     c.in_err-listing-2.ensures.text.part c.from_residual-in_err-listing-2.ensures.0
 
 pub lines-preserved : goal.lines-preserved
 lines-preserved g c =
     record {
       owes = owes_less _ _ _ _ _ _ _ c.lines.invariant.owes
-<<<<<<< HEAD
-          (next_line c.args.lines.now c.lines.line-index _ _ (let t = c.lines-test.true in omega arith) c.line-item.is c.as_slice.ensures)
-=======
           (next_line c.args.lines.now c.lines.line-index _ _ (let t = c.lines-test.true in omega arith) c.line-item.is
           c.as_slice.ensures)
->>>>>>> daa241a264a40929c6b5d2fbe8584d4e436970ab
           c.in_ok-listing-2.ensures.text.whole;
       kind = c.in_ok-listing-2.ensures.kind ∙ c.lines.invariant.kind;
       later = omega (arith, c.lines.invariant.later, c.in_ok-listing-2.ensures.cause.later);
