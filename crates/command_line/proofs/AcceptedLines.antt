@@ -19,7 +19,8 @@ next_passes [] b none = none
 next_passes (k ∷ a) b none = absurd (cons≢nil none)
 
 -- no step of a level fails: the walk over its words, what is below it, its checks at the end
-pub record Passes (s : Shape) (names : Names) (h : Held) (words : List Text) (is_met : Bool) (below : Kinds) : Type 0 where
+pub record Passes (s : Shape) (names : Names) (h : Held) (words : List Text) (is_met : Bool) (below : Kinds)
+    : Type 0 where
   pub walked : walk_fault s names (walk_from h) words ≡ []
   pub entered : below ≡ []
   pub checked : check_fault s (finished s.rules (walk s.rules names h words).held) is_met ≡ []

@@ -1,3 +1,4 @@
-mod KnownLines
-pub mod AcceptedLines
+mod AcceptedLines
+mod WordlessCommands
 mod ConvertLines
+mod KnownLines

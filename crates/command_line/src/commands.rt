@@ -7,10 +7,9 @@ ghost use Rattle.command_line.specs.Lines.{base_app, lrs_app, plain_app};
 use clap::Command;
 use std::alloc::{AllocError, Global};
 
-/// The program with each of its commands. One more command is one more line here, and one in `lrs_app`.
+/// The program with each of its commands. One more command is one more call here, and one in `lrs_app`.
 pub(crate) fn lrs_command<'a>(alloc: Global) -> Result<Command<'a>, AllocError>
-    ensures app { IfOk result (λ c. app_of c ≡ lrs_app) }
-    ensures local { IfOk result (λ c. (out-Command c).has_globals ≡ false) }
+    ensures { IfOk result (λ c. app_of c ≡ lrs_app) }
 {
     with_command(base_command(alloc), plain_command(alloc, "convert"))
 }

@@ -10,5 +10,5 @@ returns-clause-usage c usage accepted =
     let words = map (λ (w : Bor (List ℕ)). w.now) c.args.words.now in
     let command = (accepted_is_convert words accepted).command in
     let named : c.in-Some.name.now ≡ name_of Convert =
-        grind (arith, command, c.in_ok-matches.ensures.rows, c.in-Some.ensures.name) in
+    grind (arith, command, c.in_ok-matches.ensures.rows, c.in-Some.ensures.name) in
     c.in-None.ensures.none refl Convert named
