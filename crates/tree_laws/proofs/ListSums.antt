@@ -16,21 +16,6 @@ sum-sub [] f g = refl
 sum-sub (k ∷ ks) f g = let h = sum-sub ks f g in omega (arith, lin)
 
 -- ---- signs
-pub nonnegative_of_positive : (xs : List ℤ) → IsPositive xs → IsNonnegative xs
-nonnegative_of_positive [] h = tt
-nonnegative_of_positive (x ∷ xs) (inl h) = inl h
-nonnegative_of_positive (x ∷ xs) (inr h) = inr (h.0, nonnegative_of_positive xs h.1)
-
-pub positive_where_nonzero : (xs : List ℤ) → IsNonnegative xs → (IsZero xs → ⊥) → IsPositive xs
-positive_where_nonzero [] h n = n tt
-positive_where_nonzero (x ∷ xs) (inl h) n = inl h
-positive_where_nonzero (x ∷ xs) (inr h) n = inr (h.0, positive_where_nonzero xs h.1 (λ z. n (h.0, z)))
-
-pub positive_is_nonzero : (xs : List ℤ) → IsPositive xs → IsZero xs → ⊥
-positive_is_nonzero [] h z = h
-positive_is_nonzero (x ∷ xs) (inl h) z = positive_nonzero x h z.0
-positive_is_nonzero (x ∷ xs) (inr h) z = positive_is_nonzero xs h.1 z.1
-
 -- a value and a positive multiple of another that are equal
 same_zero : (p q x y : ℤ) → pos 0 <ℤ q → p *ℤ x ≡ q *ℤ y → x ≡ pos 0 → y ≡ pos 0
 same_zero p q x y h e z = zero_factor q y (sym e ∙ times_zero p x z) (positive_nonzero q h)
@@ -105,22 +90,3 @@ module _ {X : Type 0} where
     nonnegative_sum (x ∷ xs) (inr l) (inl m) = inl (last_positive p q (f x) (g x) k l.0 m)
     nonnegative_sum (x ∷ xs) (inr l) (inr m) =
         inr (sum_of_zeros p q (f x) (g x) l.0 m.0, nonnegative_sum xs l.1 m.1)
-
--- two lists of which neither comes after the other do not differ
-pub zero_both_ways : (p q : ℤ) (xs ys : List ℤ) → IsNonnegative (gaps p xs q ys) → IsNonnegative (gaps q ys p xs) →
-    IsZero (gaps p xs q ys)
-zero_both_ways p q [] ys h k = tt
-zero_both_ways p q (x ∷ xs) [] h k = tt
-zero_both_ways p q (x ∷ xs) (y ∷ ys) (inl h) (inl k) = absurd (not_both (p *ℤ x) (q *ℤ y) h k)
-  where
-    not_both : (a b : ℤ) → pos 0 <ℤ (a -ℤ b) → pos 0 <ℤ (b -ℤ a) → ⊥
-    not_both a b h k = omega (arith, lin)
-zero_both_ways p q (x ∷ xs) (y ∷ ys) (inl h) (inr k) = absurd (not_zero (p *ℤ x) (q *ℤ y) h k.0)
-  where
-    not_zero : (a b : ℤ) → pos 0 <ℤ (a -ℤ b) → b -ℤ a ≡ pos 0 → ⊥
-    not_zero a b h k = omega (arith, lin)
-zero_both_ways p q (x ∷ xs) (y ∷ ys) (inr h) (inl k) = absurd (not_zero (p *ℤ x) (q *ℤ y) h.0 k)
-  where
-    not_zero : (a b : ℤ) → a -ℤ b ≡ pos 0 → pos 0 <ℤ (b -ℤ a) → ⊥
-    not_zero a b h k = omega (arith, lin)
-zero_both_ways p q (x ∷ xs) (y ∷ ys) (inr h) (inr k) = (h.0, zero_both_ways p q xs ys h.1 k.1)

@@ -15,7 +15,9 @@ use Rattle.dictionary_laws.specs.Numbers.{IsOwnRow}
 use Rattle.dictionary_laws.proofs.Members.{contains_or}
 use Rattle.dictionary_laws.proofs.Directions.{zero_times}
 use Rattle.dictionary_laws.proofs.Values.{own_row}
-use Rattle.tree_laws.proofs.ListSums.{map_same, nonnegative_of_positive, positive_where_nonzero, nonnegative_along, nonnegative_zero, nonnegative_sum, zero_both_ways}
+use Rattle.tree_laws.proofs.ListSums.{map_same, nonnegative_along, nonnegative_zero, nonnegative_sum}
+use Rattle.tree_laws.proofs.LexLemmas.{by_sign, positive_is_nonnegative, positive_unless_zero}
+use Rattle.tree_laws.proofs.GapLemmas.{gaps_antisymmetric}
 use Rattle.tree_laws.proofs.Levels.{level, places, level_list, list_is_levels, own_level}
 use Rattle.tree_laws.proofs.NotZero.{list_is_nonzero}
 use Rattle.tree_laws.proofs.Ties.{no_ties}
@@ -24,10 +26,6 @@ use Rattle.tree_laws.proofs.Exchange.{gap, ratio_gaps_are, exchanged_dictionary,
 
 pub minus_positive : (x : ℤ) → x <ℤ pos 0 → pos 0 <ℤ neg_ℤ x
 minus_positive x h = omega (arith, lin)
-
--- the sign of an entry
-by_sign : (P : Type 0) (x : ℤ) → (x <ℤ pos 0 → P) → (x ≡ pos 0 → P) → (pos 0 <ℤ x → P) → P
-by_sign P x f g h = by_lt_z x (pos 0) f (λ k. by_lt_z (pos 0) x h (λ l. g (omega (arith, lin))))
 
 -- ---- the lists of all rows
 module _ (space : Space) (root key : List ℕ) (t : Table) (f : IsLexFeasible space root key t) where
@@ -38,7 +36,7 @@ module _ (space : Space) (root key : List ℕ) (t : Table) (f : IsLexFeasible sp
       nonnegative_zero (level key t i) (own_level space key t f.dictionary i c) (places space root))
       (λ (n : Contains key i → ⊥).
       subst IsNonnegative (list_is_levels space root key t i n)
-      (nonnegative_of_positive (list_of space root key t i) (f.lists i (record { row = l; outside = n }))))
+      (positive_is_nonnegative (list_of space root key t i) (f.lists i (record { row = l; outside = n }))))
       (contains_or key i)
 
 -- in a column, a row of the key is not negative
@@ -66,7 +64,7 @@ module _ (space : Space) (root key new : List ℕ) (t u : Table) (f : IsLexFeasi
     (l : Leaves space root key t s r) where
   gaps_nonnegative : (i : ℕ) → Contains (rows_in space) i → IsNonnegative (map (gap key t s r i) (places space root))
   gaps_nonnegative i row =
-      by_sign (IsNonnegative (map (gap key t s r i) (places space root))) (t.entry i s) less none more
+      by_sign (IsNonnegative (map (gap key t s r i) (places space root))) (t.entry i s) more none less
     where
       less : t.entry i s <ℤ pos 0 → IsNonnegative (map (gap key t s r i) (places space root))
       less h =
@@ -110,7 +108,7 @@ module _ (space : Space) (root key new : List ℕ) (t u : Table) (f : IsLexFeasi
   new_feasible : (home : Table) → IsRowDictionary space root home → IsLexFeasible space root new u
   new_feasible home h = record {
     dictionary = e;
-    lists = λ i o. positive_where_nonzero (list_of space root new u i)
+    lists = λ i o. positive_unless_zero (list_of space root new u i)
         (subst IsNonnegative (sym (list_is_levels space root new u i o.outside)) (new_nonnegative i o.row))
         (list_is_nonzero space root new home u h e i o);
   }
@@ -145,7 +143,7 @@ module _ (space : Space) (root key : List ℕ) (t : Table) where
       (λ (e : r ≡ q). e)
       (λ (n : r ≡ q → ⊥). absurd (less_zero (t.entry r s) l.negative (
       no_ties space root key home t h d q r m.row l.row (λ e. n (sym e)) (neg_ℤ (t.entry r s)) (neg_ℤ (t.entry q s))
-      (zero_both_ways (neg_ℤ (t.entry r s)) (neg_ℤ (t.entry q s)) (list_of space root key t q)
+      (gaps_antisymmetric (neg_ℤ (t.entry r s)) (list_of space root key t q) (neg_ℤ (t.entry q s))
       (list_of space root key t r) (l.least q m.row m.negative) (m.least r l.row l.negative))).0))
       (cases_eq r q)
     where
