@@ -19,3 +19,8 @@ pub mod Exchange
 pub mod Neighbours
 pub mod Back
 pub mod AnyTable
+pub mod MainLabels
+pub mod ExtremesOfInequalities
+pub mod ExtremesOfPoints
+pub mod AscendingRows
+pub mod MainExtremes

@@ -13,6 +13,7 @@ ghost use Rattle.tree_laws.specs.Laws.{
   NeighboursAreMutual,
   ChildIsNeighbour,
 };
+ghost use Rattle.tree_laws.specs.Extremes.{ExtremesOfMain, RowsAscend};
 
 /// No list of a row outside the key is zero.
 pub fn lists_are_not_zero()
@@ -49,4 +50,14 @@ pub fn neighbours_are_mutual()
 /// A child is the neighbour of its parent: who tries each column of a cobasis finds all its children.
 pub fn child_is_neighbour()
     ensures { ChildIsNeighbour }
+{}
+
+/// The extreme vectors of a polyhedron's cone are those of its main space that are shown.
+pub fn extremes_of_main()
+    ensures { ExtremesOfMain }
+{}
+
+/// The rows of the spaces of the phases `main` and `first` stand in ascending order, each once.
+pub fn rows_ascend()
+    ensures { RowsAscend }
 {}

@@ -1,0 +1,35 @@
+-- The extreme vectors of a polyhedron's cone are those of its main space, whose rows ascend.
+use Rattle.std.specs.Prelude.{◌↔◌, ℕ, ◌<◌, pos, List, ◌∷◌, length}
+use Rattle.poly_num.specs.Vectors.{Vector}
+use Rattle.poly_model.specs.declared.kind.Kind.{Kind}
+use Rattle.poly_model.specs.declared.kind.Kind.TheVariants.{H, V}
+use Rattle.poly_model.specs.Keys.{IsAscending}
+use Rattle.poly_model.specs.Systems.{Polyhedron, cone_of}
+use Rattle.poly_model.specs.FreeColumns.{AreFreeColumns}
+use Rattle.poly_model.specs.Extreme.{IsShown, IsExtreme}
+use Rattle.poly_model.specs.Spaces.{Space, main_space, lifted}
+use Rattle.poly_model.specs.LexOrder.{rows_in}
+use Rattle.poly_model.specs.Tree.{IsExtremeIn}
+use Rattle.dictionary_laws.specs.Keys.{AreDistinct}
+
+-- a vector of the cone in the main space: of V an entry for constants stands in front, and is 0
+abbrev pub in_main : Kind → Vector → Vector
+in_main H y = y
+in_main V y = pos 0 ∷ y
+
+-- a vector of the cone is extreme exactly where it is extreme in the main space, and shown. No label of a row may be that
+-- of a coordinate
+abbrev pub ExtremesOfMain : Type 0
+ExtremesOfMain =
+    (p : Polyhedron) (free : List ℕ) → AreFreeColumns (cone_of p) free → length (cone_of p).rows < 8192 → (y : Vector) →
+    IsExtreme (cone_of p) y ↔ (IsExtremeIn (main_space p free) (in_main p.kind y) × IsShown p.kind (cone_of p) y)
+
+-- the rows stand in ascending order, each once
+pub record HasAscendingRows (space : Space) : Type 0 where
+  pub ascending : IsAscending (rows_in space)
+  pub distinct : AreDistinct (rows_in space)
+
+abbrev pub RowsAscend : Type 0
+RowsAscend =
+    (p : Polyhedron) (free start : List ℕ) → length (cone_of p).rows < 8192 →
+    HasAscendingRows (main_space p free) × HasAscendingRows (lifted (main_space p free) start)
