@@ -41,7 +41,7 @@ all_with P r (x ∷ ks) p h = by (all_with P r ks p h.1) (nat_lt r x) (r == x)
     by rest false true = h
     by rest false false = (h.0, rest)
 
-ascending_with : (r : ℕ) (ks : List ℕ) → IsAscending ks → IsAscending (with_label r ks)
+pub ascending_with : (r : ℕ) (ks : List ℕ) → IsAscending ks → IsAscending (with_label r ks)
 ascending_with r [] h = (tt, tt)
 ascending_with r (x ∷ ks) h = by (nat_lt r x) refl (r == x) refl (ascending_with r ks h.1)
   where

@@ -24,3 +24,13 @@ pub mod ExtremesOfInequalities
 pub mod ExtremesOfPoints
 pub mod AscendingRows
 pub mod MainExtremes
+pub mod Roots
+pub mod Parents
+pub mod Falls
+pub mod Chains
+pub mod PointTest
+pub mod PointValues
+pub mod PointVectors
+pub mod OnePoint
+pub mod SettledRows
+pub mod SomePoint

@@ -40,7 +40,7 @@ module _ (space : Space) (root key : List ℕ) (t : Table) (f : IsLexFeasible sp
       (contains_or key i)
 
 -- in a column, a row of the key is not negative
-key_entry : (space : Space) (key : List ℕ) (t : Table) → IsRowDictionary space key t → (i s : ℕ) → Contains key i →
+pub key_entry : (space : Space) (key : List ℕ) (t : Table) → IsRowDictionary space key t → (i s : ℕ) → Contains key i →
     Contains key s → t.entry i s <ℤ pos 0 → ⊥
 key_entry space key t d i s c m l =
     ⊎_elim

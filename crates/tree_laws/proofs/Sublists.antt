@@ -1,10 +1,13 @@
 -- The parts of an ascending list: each ascending list of some of its members is one.
-use Rattle.std.proofs.Common.{◌≡◌, ⊎_elim, ℕ, ◌<◌, List, [], ◌∷◌, ◌++◌, map, sym, subst, arith}
+use Rattle.std.proofs.Common.{◌≡◌, ◌⊎◌, inl, inr, ⊎_elim, ℕ, ◌<◌, Bool, true, false, cond, List, [], ◌∷◌, ◌++◌, map, refl, sym, subst, ◌∙◌, arith}
+use Rattle.std.specs.Prelude.{◌==◌, nat_lt}
 use Rattle.std.specs.List.{Contains}
+use Rattle.std.proofs.lemmas.Bool.{eqb-true}
 use Rattle.std.proofs.lemmas.List.Elements.{Contains-append_left, Contains-append_right}
-use Rattle.poly_model.specs.Keys.{IsAscending}
+use Rattle.poly_model.specs.Keys.{IsAscending, with_label}
 use Rattle.linear_laws.proofs.Members.{Contains-nil, Contains-first, Contains-later, Contains-cons_cases, all_at}
 use Rattle.dictionary_laws.proofs.Members.{contains_cases, contains_other}
+use Rattle.tree_laws.proofs.ExchangedKeys.{ascending_with}
 
 abbrev pub sublists : List ℕ → List (List ℕ)
 sublists [] = [] ∷ []
@@ -44,3 +47,52 @@ contains_part (x ∷ xs) (k ∷ ks) a b h =
     ⊎_elim (λ (g : j ≡ k). omega arith) (λ (i : Contains ks j). let m = above k ks b j i in omega arith)
     (contains_cases k ks j d)))))
     (contains_cases x xs k (h k (Contains-first k ks)))
+
+-- ---- the members of any list, ascending
+abbrev pub ordered : List ℕ → List ℕ
+ordered [] = []
+ordered (x ∷ xs) = with_label x (ordered xs)
+
+ordered_ascending : (xs : List ℕ) → IsAscending (ordered xs)
+ordered_ascending [] = tt
+ordered_ascending (x ∷ xs) = ascending_with x (ordered xs) (ordered_ascending xs)
+
+with_has : (label : ℕ) (ks : List ℕ) (k : ℕ) → (k ≡ label) ⊎ Contains ks k → Contains (with_label label ks) k
+with_has label [] k h =
+    ⊎_elim (λ (e : k ≡ label). subst (λ y. Contains (label ∷ []) y) (sym e) (Contains-first label []))
+    (λ (c : Contains [] k). absurd (Contains-nil k c)) h
+with_has label (x ∷ ks) k h = by (nat_lt label x) (label == x) refl (with_has label ks k)
+  where
+    by : (l e : Bool) → (label == x) ≡ e → ((k ≡ label) ⊎ Contains ks k → Contains (with_label label ks) k) →
+        Contains (cond l (label ∷ x ∷ ks) (cond e (x ∷ ks) (x ∷ with_label label ks))) k
+    by true e f rest =
+        ⊎_elim
+        (λ (g : k ≡ label). subst (λ y. Contains (label ∷ x ∷ ks) y) (sym g) (Contains-first label (x ∷ ks)))
+        (λ (c : Contains (x ∷ ks) k). Contains-later k label (x ∷ ks) c) h
+    by false true f rest =
+        ⊎_elim
+        (λ (g : k ≡ label). subst (λ y. Contains (x ∷ ks) y) (sym (g ∙ eqb-true label x f)) (Contains-first x ks))
+        (λ (c : Contains (x ∷ ks) k). c) h
+    by false false f rest =
+        ⊎_elim
+        (λ (g : k ≡ label). Contains-later k x (with_label label ks) (rest (inl g)))
+        (λ (c : Contains (x ∷ ks) k). ⊎_elim
+        (λ (g : k ≡ x). subst (λ y. Contains (x ∷ with_label label ks) y) (sym g)
+        (Contains-first x (with_label label ks)))
+        (λ (d : Contains ks k). Contains-later k x (with_label label ks) (rest (inr d)))
+        (contains_cases x ks k c)) h
+
+ordered_has : (xs : List ℕ) (k : ℕ) → Contains xs k → Contains (ordered xs) k
+ordered_has [] k c = c
+ordered_has (x ∷ xs) k c =
+    with_has x (ordered xs) k
+    (⊎_elim (λ (e : k ≡ x). inl e) (λ (d : Contains xs k). inr (ordered_has xs k d)) (contains_cases x xs k c))
+
+-- all ascending lists of members
+abbrev pub ascending_parts : List ℕ → List (List ℕ)
+ascending_parts xs = sublists (ordered xs)
+
+pub contains_ascending : (xs ks : List ℕ) → IsAscending ks → ((k : ℕ) → Contains ks k → Contains xs k) →
+    Contains (ascending_parts xs) ks
+contains_ascending xs ks a h =
+    contains_part (ordered xs) ks (ordered_ascending xs) a (λ k c. ordered_has xs k (h k c))

@@ -1,2 +1,4 @@
 pub mod Laws
 pub mod Extremes
+pub mod Parents
+pub mod ShownPoints

@@ -1,7 +1,8 @@
-//! Laws of the tree of cobases: the lists of a cobasis, the ratio test and the neighbours that it finds.
+//! Laws of the tree of cobases: the lists of a cobasis, the ratio test and the neighbours that it finds, parents and
+//! the way to the root, the points that are shown.
 //!
 //! Each function is a law: its contract is the statement, which stands in `specs/`. It holds in every space, and of
-//! every root that has a dictionary there.
+//! every root that has a dictionary there; where parents end, of every feasible root.
 #![tactic(auto)]
 
 ghost use Rattle.tree_laws.specs.Laws.{
@@ -12,6 +13,21 @@ ghost use Rattle.tree_laws.specs.Laws.{
   OneNeighbour,
   NeighboursAreMutual,
   ChildIsNeighbour,
+};
+ghost use Rattle.tree_laws.specs.Parents.{
+  RootIsFeasible,
+  OnlyRootHasNoParent,
+  OneParent,
+  ParentIsBelow,
+  UnderTheRoot,
+  OneDepth,
+};
+ghost use Rattle.tree_laws.specs.ShownPoints.{
+  ConstantsAreNotNegative,
+  ShownPointIsFeasible,
+  CobasisHasOnePoint,
+  ShownPointIsExtreme,
+  ExtremePointIsShownOnce,
 };
 ghost use Rattle.tree_laws.specs.Extremes.{ExtremesOfMain, RowsAscend};
 
@@ -50,6 +66,62 @@ pub fn neighbours_are_mutual()
 /// A child is the neighbour of its parent: who tries each column of a cobasis finds all its children.
 pub fn child_is_neighbour()
     ensures { ChildIsNeighbour }
+{}
+
+/// A feasible root is lexicographically feasible.
+pub fn root_is_lexicographically_feasible()
+    ensures { RootIsFeasible }
+{}
+
+/// Each lexicographically feasible cobasis but the root has a parent, and the root has none.
+pub fn only_root_has_no_parent()
+    ensures { OnlyRootHasNoParent }
+{}
+
+/// A cobasis has one parent at most, in a space where each row stands once.
+pub fn one_parent()
+    ensures { OneParent }
+{}
+
+/// A parent is below its child: the lists of the rows of the root, over the denominator, fall.
+pub fn parent_is_below()
+    ensures { ParentIsBelow }
+{}
+
+/// Parents lead from each lexicographically feasible cobasis to the root.
+pub fn under_the_root()
+    ensures { UnderTheRoot }
+{}
+
+/// They lead there by one number of steps, in a space where each row stands once.
+pub fn one_depth()
+    ensures { OneDepth }
+{}
+
+/// At a lexicographically feasible cobasis no constant of a row is negative.
+pub fn constants_are_not_negative()
+    ensures { ConstantsAreNotNegative }
+{}
+
+/// Where no constant is negative and the point test holds, the cobasis is lexicographically feasible.
+pub fn shown_point_is_feasible()
+    ensures { ShownPointIsFeasible }
+{}
+
+/// The labels of a cobasis are 0 at one point, which is written by one primitive vector.
+pub fn cobasis_has_one_point()
+    ensures { CobasisHasOnePoint }
+{}
+
+/// The point of a cobasis at which no constant is negative is an extreme vector of the space: no other point is shown.
+pub fn shown_point_is_extreme()
+    ensures { ShownPointIsExtreme }
+{}
+
+/// Each extreme vector that is positive at infinity is shown as the point of exactly one cobasis, which is
+/// lexicographically feasible.
+pub fn extreme_point_is_shown_once()
+    ensures { ExtremePointIsShownOnce }
 {}
 
 /// The extreme vectors of a polyhedron's cone are those of its main space that are shown.
