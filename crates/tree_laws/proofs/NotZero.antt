@@ -1,31 +1,22 @@
 -- The list of a row outside the key is not 0.
-use Rattle.std.proofs.Common.{◌≡◌, ℕ, Bool, true, false, not, List, ℤ, pos, ◌*ℤ◌, neg_ℤ, refl, sym, ap, subst, ◌∙◌, ⊎_elim, arith}
+use Rattle.std.proofs.Common.{◌≡◌, ℕ, List, ℤ, pos, ◌*ℤ◌, neg_ℤ, sym, ap, subst, ◌∙◌, ⊎_elim, arith}
 use Rattle.std.specs.Prelude.{Option, Some}
 use Rattle.std.specs.List.{Contains}
 use Rattle.poly_num.specs.Vectors.{IsZero}
 use Rattle.poly_num.proofs.Ring.{lin}
 use Rattle.poly_num.proofs.Order.{mul_nonzero, positive_nonzero}
-use Rattle.poly_model.specs.Spaces.{Space, is_member}
+use Rattle.poly_model.specs.Spaces.{Space}
 use Rattle.poly_model.specs.Dictionaries.{Table, sum_over}
-use Rattle.poly_model.specs.LexOrder.{rows_in, outside, list_of}
+use Rattle.poly_model.specs.LexOrder.{list_of}
 use Rattle.poly_model.specs.Tree.{IsRowDictionary, IsRowOutside}
 use Rattle.dictionary_laws.specs.Numbers.{IsOwnRow}
 use Rattle.dictionary_laws.proofs.Members.{contains_or, sum_zero}
 use Rattle.dictionary_laws.proofs.Directions.{times_zero, zero_times}
-use Rattle.dictionary_laws.proofs.Filters.{filter_kept, member_only}
 use Rattle.dictionary_laws.proofs.Values.{own_row}
 use Rattle.tree_laws.proofs.ListSums.{zero_at}
+use Rattle.tree_laws.proofs.OrderLemmas.{outside_has}
 use Rattle.tree_laws.proofs.Numbers.{row_is_label, key_row, composed_entry}
 use Rattle.tree_laws.proofs.Levels.{level, places, row_place, list_is_levels, level_itself, level_inside}
-
-pub outside_has : (space : Space) (root : List ℕ) (k : ℕ) → Contains (rows_in space) k → (Contains root k → ⊥) →
-    Contains (outside space root) k
-outside_has space root k c n =
-    filter_kept (λ j. not (is_member j root)) (rows_in space) k c (by (is_member k root) refl)
-  where
-    by : (b : Bool) → is_member k root ≡ b → not b ≡ true
-    by true e = absurd (n (member_only k root e))
-    by false e = refl
 
 minus_zero : (x : ℤ) → neg_ℤ x ≡ pos 0 → x ≡ pos 0
 minus_zero x e = omega (arith, lin)

@@ -16,7 +16,8 @@ use Rattle.dictionary_laws.proofs.Values.{own_row}
 use Rattle.tree_laws.proofs.ListSums.{gaps_of_maps, zero_at}
 use Rattle.tree_laws.proofs.Numbers.{row_is_label, composed_entry}
 use Rattle.tree_laws.proofs.Levels.{level, places, row_place, level_list, list_is_levels, level_itself, level_inside, level_elsewhere}
-use Rattle.tree_laws.proofs.NotZero.{outside_has, root_sum, home_itself, key_place}
+use Rattle.tree_laws.proofs.OrderLemmas.{outside_has}
+use Rattle.tree_laws.proofs.NotZero.{root_sum, home_itself, key_place}
 
 minus_both : (a b x y : ℤ) → a *ℤ neg_ℤ x +ℤ b *ℤ neg_ℤ y ≡ pos 0 → a *ℤ x +ℤ b *ℤ y ≡ pos 0
 minus_both a b x y e = let f = simp expand at e in omega (arith, lin)
