@@ -19,11 +19,6 @@ pub mod Exchange
 pub mod Neighbours
 pub mod Back
 pub mod AnyTable
-pub mod MainLabels
-pub mod ExtremesOfInequalities
-pub mod ExtremesOfPoints
-pub mod AscendingRows
-pub mod MainExtremes
 pub mod Roots
 pub mod Parents
 pub mod Falls
@@ -34,3 +29,15 @@ pub mod PointVectors
 pub mod OnePoint
 pub mod SettledRows
 pub mod SomePoint
+pub mod RayValues
+pub mod RayVectors
+pub mod ZeroRows
+pub mod SharedRows
+pub mod OneRay
+pub mod AlongRows
+pub mod SomeRay
+pub mod MainLabels
+pub mod ExtremesOfInequalities
+pub mod ExtremesOfPoints
+pub mod MainExtremes
+pub mod AscendingRows

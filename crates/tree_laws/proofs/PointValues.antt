@@ -19,10 +19,10 @@ use Rattle.dictionary_laws.proofs.Values.{terms, level_value}
 use Rattle.tree_laws.proofs.Numbers.{row_is_label, key_row}
 
 -- u x + (-x) u
-meets : (u x s : ℤ) → s ≡ u *ℤ x +ℤ neg_ℤ x *ℤ u → s ≡ pos 0
+pub meets : (u x s : ℤ) → s ≡ u *ℤ x +ℤ neg_ℤ x *ℤ u → s ≡ pos 0
 meets u x s h = h ∙ cancels u x
 
-apart : (a b x y : ℤ) → a *ℤ x +ℤ neg_ℤ b *ℤ y ≡ pos 0 → a *ℤ x ≡ b *ℤ y
+pub apart : (a b x y : ℤ) → a *ℤ x +ℤ neg_ℤ b *ℤ y ≡ pos 0 → a *ℤ x ≡ b *ℤ y
 apart a b x y h = let f = simp expand at h in omega (arith, lin)
 
 only_level : (v b s : ℤ) → v ≡ b +ℤ s → s ≡ pos 0 → v ≡ b

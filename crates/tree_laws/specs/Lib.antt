@@ -1,4 +1,5 @@
 pub mod Laws
-pub mod Extremes
 pub mod Parents
 pub mod ShownPoints
+pub mod ShownRays
+pub mod Extremes

@@ -1,5 +1,5 @@
 //! Laws of the tree of cobases: the lists of a cobasis, the ratio test and the neighbours that it finds, parents and
-//! the way to the root, the points that are shown.
+//! the way to the root, the points and rays that are shown.
 //!
 //! Each function is a law: its contract is the statement, which stands in `specs/`. It holds in every space, and of
 //! every root that has a dictionary there; where parents end, of every feasible root.
@@ -28,6 +28,13 @@ ghost use Rattle.tree_laws.specs.ShownPoints.{
   CobasisHasOnePoint,
   ShownPointIsExtreme,
   ExtremePointIsShownOnce,
+};
+ghost use Rattle.tree_laws.specs.ShownRays.{
+  ShownRayIsExtreme,
+  CobasisHasOneRay,
+  ShownRayIsOne,
+  DescendsAlongRows,
+  ExtremeRayIsShownOnce,
 };
 ghost use Rattle.tree_laws.specs.Extremes.{ExtremesOfMain, RowsAscend};
 
@@ -122,6 +129,33 @@ pub fn shown_point_is_extreme()
 /// lexicographically feasible.
 pub fn extreme_point_is_shown_once()
     ensures { ExtremePointIsShownOnce }
+{}
+
+/// What the ray test shows is an extreme vector of the space: no other ray is shown.
+pub fn shown_ray_is_extreme()
+    ensures { ShownRayIsExtreme }
+{}
+
+/// Along each column of a cobasis there is one ray, which is written by one primitive vector.
+pub fn cobasis_has_one_ray()
+    ensures { CobasisHasOneRay }
+{}
+
+/// A ray is shown along one column of one lexicographically feasible cobasis at most.
+pub fn shown_ray_is_one()
+    ensures { ShownRayIsOne }
+{}
+
+/// For any rows there is a lexicographically feasible cobasis in no column of which the first of them that is not 0
+/// there is negative: the descent in the lists of these rows ends at one.
+pub fn descends_along_rows()
+    ensures { DescendsAlongRows }
+{}
+
+/// Each extreme vector that is 0 at infinity is shown along exactly one column of exactly one lexicographically
+/// feasible cobasis.
+pub fn extreme_ray_is_shown_once()
+    ensures { ExtremeRayIsShownOnce }
 {}
 
 /// The extreme vectors of a polyhedron's cone are those of its main space that are shown.
