@@ -36,6 +36,7 @@ pub mod SharedRows
 pub mod OneRay
 pub mod AlongRows
 pub mod SomeRay
+pub mod ShownOnce
 pub mod MainLabels
 pub mod ExtremesOfInequalities
 pub mod ExtremesOfPoints

@@ -2,4 +2,5 @@ pub mod Laws
 pub mod Parents
 pub mod ShownPoints
 pub mod ShownRays
+pub mod Shown
 pub mod Extremes

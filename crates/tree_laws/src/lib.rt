@@ -36,6 +36,7 @@ ghost use Rattle.tree_laws.specs.ShownRays.{
   DescendsAlongRows,
   ExtremeRayIsShownOnce,
 };
+ghost use Rattle.tree_laws.specs.Shown.{EachIsShownOnce, OnlyExtremeIsShown};
 ghost use Rattle.tree_laws.specs.Extremes.{ExtremesOfMain, RowsAscend};
 
 /// No list of a row outside the key is zero.
@@ -156,6 +157,17 @@ pub fn descends_along_rows()
 /// feasible cobasis.
 pub fn extreme_ray_is_shown_once()
     ensures { ExtremeRayIsShownOnce }
+{}
+
+/// Each extreme vector of the space is shown at exactly one lexicographically feasible cobasis, as its point or along
+/// exactly one of its columns.
+pub fn each_is_shown_once()
+    ensures { EachIsShownOnce }
+{}
+
+/// Nothing else is shown.
+pub fn only_extreme_is_shown()
+    ensures { OnlyExtremeIsShown }
 {}
 
 /// The extreme vectors of a polyhedron's cone are those of its main space that are shown.
