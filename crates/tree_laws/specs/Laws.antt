@@ -1,5 +1,5 @@
 -- What holds of the tree of cobases under every feasible root.
-use Rattle.std.specs.Prelude.{◌≡◌, ◌≢◌, ℕ, ℤ, pos, neg_ℤ, ◌*ℤ◌, List}
+use Rattle.std.specs.Prelude.{◌≡◌, ◌≢◌, ℕ, ℤ, pos, neg_ℤ, ◌*ℤ◌, ◌<ℤ◌, List}
 use Rattle.std.specs.List.{Contains}
 use Rattle.poly_num.specs.Vectors.{scale, IsZero}
 use Rattle.poly_model.specs.Spaces.{Space}
@@ -39,6 +39,12 @@ abbrev pub ExchangedLists : Type 0
 ExchangedLists =
     (space : Space) (key : List ℕ) (t : Table) → IsRowDictionary space key t → (s r : ℕ) → Contains key s →
     IsRowOutside space key r → t.entry r s ≢ pos 0 → IsExchange space key t s r
+
+-- where a row outside the key is negative in the column of s, there is a neighbour
+abbrev pub SomeNeighbour : Type 0
+SomeNeighbour =
+    (space : Space) (root key : List ℕ) (t : Table) (s i : ℕ) → Contains key s → IsRowOutside space key i →
+    t.entry i s <ℤ pos 0 → (new : List ℕ) × IsNeighbour space root key t s new
 
 -- a neighbour of a lexicographically feasible cobasis has a dictionary, and is feasible
 pub record IsFeasibleNeighbour (space : Space) (root new : List ℕ) : Type 0 where

@@ -3,4 +3,5 @@ pub mod Parents
 pub mod ShownPoints
 pub mod ShownRays
 pub mod Shown
+pub mod ReverseSearch
 pub mod Extremes

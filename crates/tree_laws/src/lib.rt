@@ -1,14 +1,15 @@
-//! Laws of the tree of cobases: the lists of a cobasis, the ratio test and the neighbours that it finds, parents and
-//! the way to the root, the points and rays that are shown.
+//! Laws of the tree of cobases: reverse search is complete, and shows nothing twice.
 //!
 //! Each function is a law: its contract is the statement, which stands in `specs/`. It holds in every space, and of
 //! every root that has a dictionary there; where parents end, of every feasible root.
 #![tactic(auto)]
 
+ghost use Rattle.tree_laws.specs.ReverseSearch.{ReverseSearch};
 ghost use Rattle.tree_laws.specs.Laws.{
   ListsAreNotZero,
   NoTies,
   ExchangedLists,
+  SomeNeighbour,
   NeighboursAreFeasible,
   OneNeighbour,
   NeighboursAreMutual,
@@ -39,6 +40,13 @@ ghost use Rattle.tree_laws.specs.ShownRays.{
 ghost use Rattle.tree_laws.specs.Shown.{EachIsShownOnce, OnlyExtremeIsShown};
 ghost use Rattle.tree_laws.specs.Extremes.{ExtremesOfMain, RowsAscend};
 
+/// The lexicographically feasible cobases are a tree under each feasible root, each extreme vector of the space is shown
+/// at exactly one of them, and nothing else is: reverse search is complete, and shows nothing twice (Avis and Fukuda,
+/// "A pivoting algorithm for convex hulls and vertex enumeration of arrangements and polyhedra", 1992).
+pub fn reverse_search()
+    ensures { ReverseSearch }
+{}
+
 /// No list of a row outside the key is zero.
 pub fn lists_are_not_zero()
     ensures { ListsAreNotZero }
@@ -54,6 +62,11 @@ pub fn no_ties()
 /// multiples where that entry is negative, the gaps of the ratio test.
 pub fn exchanged_lists()
     ensures { ExchangedLists }
+{}
+
+/// Where some row outside the key is negative in a column, there is a neighbour.
+pub fn some_neighbour()
+    ensures { SomeNeighbour }
 {}
 
 /// A neighbour of a lexicographically feasible cobasis has a dictionary, and is lexicographically feasible.
