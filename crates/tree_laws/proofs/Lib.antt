@@ -42,3 +42,16 @@ pub mod ExtremesOfInequalities
 pub mod ExtremesOfPoints
 pub mod MainExtremes
 pub mod AscendingRows
+pub mod KnownTables
+pub mod KnownTests
+pub mod KnownSquare
+pub mod KnownSquareTree
+pub mod KnownPyramid
+pub mod KnownPyramidTree
+pub mod KnownQuadrant
+pub mod KnownTriangle
+pub mod KnownTurnedTriangle
+pub mod KnownHalfStrip
+pub mod KnownLists
+pub mod KnownSquareShown
+pub mod KnownHalfLine
