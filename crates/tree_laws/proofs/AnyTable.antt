@@ -24,10 +24,10 @@ map_backwards f g (k ∷ ks) h =
 
 module _ (space : Space) (root key : List ℕ) (t u : Table) (d : IsRowDictionary space key t)
     (e : IsRowDictionary space key u) where
-  agree : Agree space key t u
+  pub agree : Agree space key t u
   agree = one_dictionary space key key t u (record { there = λ k c. c; back = λ k c. c }) d.dictionary e.dictionary
 
-  same_entry : (i s : ℕ) → Contains (rows_in space) i → Contains key s → t.entry i s ≡ u.entry i s
+  pub same_entry : (i s : ℕ) → Contains (rows_in space) i → Contains key s → t.entry i s ≡ u.entry i s
   same_entry i s l c = Agree.entries agree i s (row_is_label space i l) c
 
   pub same_list : (i : ℕ) → Contains (rows_in space) i → list_of space root key t i ≡ list_of space root key u i

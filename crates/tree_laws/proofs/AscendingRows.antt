@@ -46,7 +46,7 @@ ascending_labels m j n few =
     (all_from (λ k. k < 8192) (range_with_len 1 m) (λ k c. let h = (range_only 1 m k c).1 in omega arith))
     (all_from (λ k. 8192 ≤ k) (coordinate_key j n) (coordinate_keys j n).coordinates)
 
-positive_labels : (m j n k : ℕ) → Contains (labels_of m j n) k → 0 < k
+pub positive_labels : (m j n k : ℕ) → Contains (labels_of m j n) k → 0 < k
 positive_labels m j n k c =
     all_at (λ i. 0 < i) (labels_of m j n)
     (all_both (λ i. 0 < i) (range_with_len 1 m) (coordinate_key j n)

@@ -53,7 +53,7 @@ module _ (space : Space) (root : List ℕ) (home : Table) (h : IsRowDictionary s
       (w.0, neighbour_feasible space root key t p.s parent home w.0 h f p.neighbour w.1)
 
   -- ---- chains to the root have one length, by whichever tables their steps are
-  other_table : (key : List ℕ) (t u : Table) → IsRowDictionary space key t → IsDictionary space key u →
+  pub other_table : (key : List ℕ) (t u : Table) → IsRowDictionary space key t → IsDictionary space key u →
       IsRowDictionary space key u
   other_table key t u d e = record { points = d.points; ascending = d.ascending; rows = d.rows; dictionary = e }
 

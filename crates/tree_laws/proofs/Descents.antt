@@ -53,7 +53,20 @@ module _ (S K : Type 0) (key : S → K) (Before : S → S → Type 0)
       (λ f b. let c = transitive f w.0 d b w.1 in t.others (key f) (below f c) (apart f d c))))
       (step d)
 
+  -- what holds of a state where it holds of all states below it, holds of all
+  by_all_below_in : (P : S → Type 0) → ((d : S) → ((e : S) → Before e d → P e) → P d) → (n : ℕ) (ks : List K) →
+      length ks < n → (d : S) → Contains ks (key d) → ((e : S) → Before e d → Contains ks (key e)) → P d
+  by_all_below_in P step zero ks l d here below = absurd (omega arith)
+  by_all_below_in P step (suc n) ks l d here below =
+      let t = take_out ks (key d) here in
+      step d (λ e b. by_all_below_in P step n t.rest (omega (arith, t.shorter)) e
+      (t.others (key e) (below e b) (apart e d b))
+      (λ f c. let g = transitive f e d c b in t.others (key f) (below f g) (apart f d g)))
+
   module _ (ks : List K) (all : (d : S) → Contains ks (key d)) where
+    pub by_all_below : (P : S → Type 0) → ((d : S) → ((e : S) → Before e d → P e) → P d) → (d : S) → P d
+    by_all_below P step d = by_all_below_in P step (suc (length ks)) ks (omega arith) d (all d) (λ e b. all e)
+
     pub by_descent : (P : S → Type 0) → ((d : S) → P d ⊎ ((e : S) × Before e d × (P e → P d))) → (d : S) → P d
     by_descent P step d =
         by_descent_in P step (suc (length ks)) ks (omega arith) d (all d) (λ e b. all e)

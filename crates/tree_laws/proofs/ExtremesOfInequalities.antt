@@ -82,28 +82,30 @@ module _ (p : Polyhedron) (kind : p.kind ≡ H) (free : List ℕ) (f : AreFreeCo
   by_fixed z v = subst (λ gs. Vanish gs z) (sym (same_fixed p free)) v
 
   -- ---- from the space to the cone
+  linear_at : (z : Vector) → IsInside space z → (m : ℕ) → m < length rows →
+      (get_or rows m no_row).linear ≡ true → IsTight z (get_or rows m no_row)
+  linear_at z i = of_file (λ row. row.linear ≡ true → IsTight z row) (linear_from_fixed free sys z (by_fixed z i.fixed))
+
+  -- a vector of the space at which no row and nothing at infinity is negative is one of the cone
+  pub meets_all : (y : Vector) → IsInside space y → pos 0 ≤ℤ (space.infinity · y) →
+      ((i : ℕ) → Contains (rows_in space) i → pos 0 ≤ℤ (space.form i · y)) → All (Meets y) sys.rows
+  meets_all y i finite met =
+      all_rows (Meets y)
+      (λ m l. ⊎_elim
+      (λ (t : (get_or rows m no_row).linear ≡ true).
+      meets_linear y (get_or rows m no_row) t (linear_at y i m l t))
+      (λ (n : (get_or rows m no_row).linear ≡ false).
+      meets_other y (get_or rows m no_row) n
+      (rows_from_forms rows sys.rows (same_in_cone p) few 1 p.n (λ g. pos 0 ≤ℤ (g · y)) met m l n))
+      (cases_Bool (get_or rows m no_row).linear))
+      (subst (λ (x : ℤ). pos 0 ≤ℤ x) (sym (infinity_reads y)) finite)
+
   module _ (y : Vector) (e : IsExtremeIn space y) where
-    linear_at : (z : Vector) → IsInside space z → (m : ℕ) → m < length rows →
-        (get_or rows m no_row).linear ≡ true → IsTight z (get_or rows m no_row)
-    linear_at z i = of_file (λ row. row.linear ≡ true → IsTight z row) (linear_from_fixed free sys z (by_fixed z i.fixed))
-
-    meets_all : All (Meets y) sys.rows
-    meets_all =
-        all_rows (Meets y)
-        (λ m l. ⊎_elim
-        (λ (t : (get_or rows m no_row).linear ≡ true).
-        meets_linear y (get_or rows m no_row) t (linear_at y e.inside m l t))
-        (λ (n : (get_or rows m no_row).linear ≡ false).
-        meets_other y (get_or rows m no_row) n
-        (rows_from_forms rows sys.rows (same_in_cone p) few 1 p.n (λ g. pos 0 ≤ℤ (g · y)) e.rows m l n))
-        (cases_Bool (get_or rows m no_row).linear))
-        (subst (λ (x : ℤ). pos 0 ≤ℤ x) (sym (infinity_reads y)) e.finite)
-
     pub extreme_of_space : IsExtreme sys y
     extreme_of_space = record {
       primitive = e.primitive;
       free = λ j q. zero_at_fixed free sys y (by_fixed y e.inside.fixed) j ((f.exactly j).0 q);
-      in_cone = record { width = e.inside.width; meets = meets_all };
+      in_cone = record { width = e.inside.width; meets = meets_all y e.inside e.finite e.rows };
       alone = λ z h. e.alone z
           (record { width = h.width; fixed = is_fixed z (λ j c. h.free j ((f.exactly j).1 c)) h.linear })
           (same_values (λ a b. a ≡ pos 0 → b ≡ pos 0) y z (of_infinity (λ row. IsTight y row → IsTight z row) h.tight))
