@@ -107,7 +107,8 @@ module _ (space : Space) (start : List ℕ) (none : HasNoRowZero space) where
   -- ---- from the start
   module _ (t : Table) (d : IsRowDictionary space start t) where
     from_worst : (r : ℕ) → IsWorst space start t r → HasRoot space ⊎ (MeetsRows space → ⊥)
-    from_worst r w = by (root_of (lifted space start) (exchanged_key (0 ∷ start) 0 r) (first_root space start t none d r w))
+    from_worst r w =
+        by (root_of (lifted space start) (exchanged_key (0 ∷ start) 0 r) (first_root space start t none d r w))
       where
         by : HasRoot (lifted space start) → HasRoot space ⊎ (MeetsRows space → ⊥)
         by (root, home, f) =
@@ -149,7 +150,8 @@ module _ (space : Space) (start : List ℕ) (none : HasNoRowZero space) where
               least = λ i o. l i (subst (λ xs. Contains xs i) e (row_outside space start i o));
             }))
             (λ more. inl (already (λ i o.
-            over (t.constant r) (t.constant i) more (l i (subst (λ xs. Contains xs i) e (row_outside space start i o))))))
+            over (t.constant r) (t.constant i) more
+            (l i (subst (λ xs. Contains xs i) e (row_outside space start i o))))))
 
     decides : HasRoot space ⊎ (MeetsRows space → ⊥)
     decides = from_rows (outside space start) refl

@@ -4,6 +4,7 @@ use Rattle.std.specs.Prelude.{◌<ℤ◌, ◌≤ℤ◌}
 use Rattle.std.proofs.lemmas.Int.{ints}
 use Rattle.std.proofs.lemmas.List.{length-append}
 use Rattle.poly_num.specs.Vectors.{Vector, ◌·◌}
+use Rattle.poly_num.proofs.Ring.{mul_one}
 use Rattle.poly_num.proofs.VectorLemmas.{dot-zero}
 use Rattle.poly_model.specs.declared.kind.Kind.{Kind}
 use Rattle.poly_model.specs.declared.kind.Kind.TheVariants.{H, V}
@@ -87,7 +88,7 @@ vanish_at_one (g ∷ gs) n = (skip (pos 1) (g · zeros n) (dot-zero g (zeros n) 
 no_constant : (d v c l : ℤ) → v ≡ pos 0 → l ≡ pos 1 → d *ℤ v ≡ c *ℤ l → pos 0 ≤ℤ c
 no_constant d v c l e f h =
     let a = times_zero d v e in
-    let b = ap (λ (x : ℤ). c *ℤ x) f ∙ Rattle.poly_num.proofs.Ring.mul_one c in
+    let b = ap (λ (x : ℤ). c *ℤ x) f ∙ mul_one c in
     omega (arith, ints)
 
 roots_in : (kind : Kind) (p : Polyhedron) (free key : List ℕ) (t : Table) → kind ≡ V →

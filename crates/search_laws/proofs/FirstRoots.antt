@@ -3,7 +3,7 @@ use Rattle.std.proofs.Common.{◌≡◌, ◌≢◌, ⊎_elim, ℕ, cond, List, [
 use Rattle.std.specs.Prelude.{◌<ℤ◌, ◌≤ℤ◌}
 use Rattle.std.specs.List.{Contains}
 use Rattle.poly_num.specs.Vectors.{Vector, ◌·◌}
-use Rattle.poly_num.proofs.Ring.{expand, lin}
+use Rattle.poly_num.proofs.Ring.{expand, lin, mul_zero, zero_mul, mul_one}
 use Rattle.poly_num.proofs.Order.{positive_nonzero}
 use Rattle.poly_model.specs.Spaces.{Space, lift_of, lifted}
 use Rattle.poly_model.specs.Dictionaries.{Table}
@@ -17,10 +17,10 @@ use Rattle.search_laws.specs.PhaseOne.{HasNoRowZero, with_t, IsWorst, GivesRoot}
 use Rattle.tree_laws.proofs.OrderLemmas.{row_only}
 use Rattle.tree_laws.proofs.ExchangedKeys.{exchanges}
 use Rattle.tree_laws.proofs.Exchange.{exchanged_dictionary}
-use Rattle.tree_laws.proofs.PointValues.{row_at_point}
+use Rattle.tree_laws.proofs.PointValues.{IsKeyPoint, row_at_point}
 use Rattle.search_laws.proofs.LiftedForms.{first, not_zero, inside_rest, same_infinity, value_of_t, value_inside, value_outside, lift_outside}
 use Rattle.search_laws.proofs.StartWithT.{not_t, start_not_t, dictionary_with_t}
-use Rattle.search_laws.proofs.KeyPoints.{IsKeyPoint, key_point, root_from_point}
+use Rattle.search_laws.proofs.KeyPoints.{key_point, root_from_point}
 
 -- d v = c l for row r and for another; x is the value of t, and r is 0
 no_less : (d l x v c w b : ℤ) → pos 0 <ℤ d → pos 0 <ℤ l → x +ℤ v ≡ pos 0 → d *ℤ v ≡ c *ℤ l → d *ℤ w ≡ b *ℤ l →
@@ -42,7 +42,7 @@ no_less d l x v c w b p q z e f g =
 t_above : (d l x v c : ℤ) → pos 0 <ℤ d → pos 0 <ℤ l → x +ℤ v ≡ pos 0 → d *ℤ v ≡ c *ℤ l → c <ℤ pos 0 → pos 0 ≤ℤ x
 t_above d l x v c p q z e g =
     subst (λ (n : ℤ). pos 0 ≤ℤ n) (same x)
-    (no_less d l x v c (pos 0) (pos 0) p q z e (Rattle.poly_num.proofs.Ring.mul_zero d ∙ sym (Rattle.poly_num.proofs.Ring.zero_mul l)) (weak c g))
+    (no_less d l x v c (pos 0) (pos 0) p q z e (mul_zero d ∙ sym (zero_mul l)) (weak c g))
   where
     same : (x : ℤ) → x +ℤ pos 0 ≡ x
     same x = omega (arith, lin)
@@ -74,10 +74,11 @@ module _ (space : Space) (start : List ℕ) (t : Table) (none : HasNoRowZero spa
   t_goes e =
       positive_nonzero t.denominator d.dictionary.writes.positive
       (one t.denominator (lift_of start r) (lift_outside space start r (row_only space r w.row.row).1 w.row.outside)
-      (sym (ap (λ b. cond b t.denominator (t.denominator *ℤ lift_of start r)) (not_zero r (row_not_t r w.row.row))) ∙ e))
+      (sym (ap (λ b. cond b t.denominator (t.denominator *ℤ lift_of start r)) (not_zero r (row_not_t r w.row.row)))
+      ∙ e))
     where
       one : (d l : ℤ) → l ≡ pos 1 → d *ℤ l ≡ pos 0 → d ≡ pos 0
-      one d l e f = sym (Rattle.poly_num.proofs.Ring.mul_one d) ∙ ap (λ (x : ℤ). d *ℤ x) (sym e) ∙ f
+      one d l e f = sym (mul_one d) ∙ ap (λ (x : ℤ). d *ℤ x) (sym e) ∙ f
 
   module _ (x : ℤ) (z : Vector) (at : IsKeyPoint (first space start) new (x ∷ z)) where
     level : pos 0 <ℤ (space.infinity · z)
@@ -103,7 +104,8 @@ module _ (space : Space) (start : List ℕ) (t : Table) (none : HasNoRowZero spa
         (λ (c : Contains start i). at_least ((first space start).form i · (x ∷ z))
         (value_inside space start i (row_not_t i l) c x z ∙ start_zero i c))
         (λ (o : Contains start i → ⊥).
-        subst (λ (n : ℤ). pos 0 ≤ℤ n) (sym (value_outside space start i (row_not_t i l) (row_only space i l).1 o x z))
+        subst (λ (n : ℤ). pos 0 ≤ℤ n)
+        (sym (value_outside space start i (row_not_t i l) (row_only space i l).1 o x z))
         (no_less t.denominator (space.infinity · z) x (space.form r · z) (t.constant r) (space.form i · z)
         (t.constant i) d.dictionary.writes.positive level r_zero (constant_is r w.row.row) (constant_is i l)
         (w.least i (record { row = l; outside = o }))))
@@ -124,8 +126,8 @@ module _ (space : Space) (start : List ℕ) (t : Table) (none : HasNoRowZero spa
 
   pub first_root : GivesRoot (lifted space start) new
   first_root = record {
-    some = exchanged_dictionary (first space start) (0 ∷ start) (with_t start t) (dictionary_with_t space start none t d) 0 r
-        (Contains-first 0 start) comes_in t_goes;
+    some = exchanged_dictionary (first space start) (0 ∷ start) (with_t start t)
+        (dictionary_with_t space start none t d) 0 r (Contains-first 0 start) comes_in t_goes;
     feasible = λ u e. by u e (key_point (first space start) new u e);
   }
     where

@@ -9,7 +9,7 @@ use Rattle.poly_num.proofs.VectorLemmas.{dot-zero}
 use Rattle.poly_model.specs.Independence.{Vanish}
 use Rattle.poly_model.specs.Spaces.{Space, IsInside, IsDirection, in_front, is_row, is_member, lift_of, lifted}
 use Rattle.linear_laws.proofs.Entries.{zeros, length-zeros, IsZero-zeros}
-use Rattle.dictionary_laws.proofs.Directions.{vanish_zero}
+use Rattle.dictionary_laws.proofs.Directions.{times_zero, vanish_zero}
 use Rattle.dictionary_laws.proofs.Filters.{member_has, member_only}
 
 -- ---- one entry more in front
@@ -30,13 +30,12 @@ vanish_rest : (gs : List Vector) (x : ℤ) (z : Vector) → Vanish (map in_front
 vanish_rest [] x z h = tt
 vanish_rest (g ∷ gs) x z h = (sym (skip x (g · z)) ∙ h.0, vanish_rest gs x z h.1)
 
--- a row of any number but 0, and a label that is none
-other_number : (k : ℕ) (t : Bool) → (k == 0) ≡ t → k ≢ 0 → t ≡ false
-other_number k true e n = absurd (n (eqb-true k 0 e))
-other_number k false e n = refl
-
 pub not_zero : (k : ℕ) → k ≢ 0 → (k == 0) ≡ false
-not_zero k n = other_number k (k == 0) refl n
+not_zero k n = by (k == 0) refl
+  where
+    by : (b : Bool) → (k == 0) ≡ b → b ≡ false
+    by true e = absurd (n (eqb-true k 0 e))
+    by false e = refl
 
 module _ (space : Space) (start : List ℕ) where
   abbrev pub first : Space
@@ -46,7 +45,8 @@ module _ (space : Space) (start : List ℕ) where
   inside_front x z h = record { width = ap suc h.width; fixed = vanish_front space.fixed x z h.fixed }
 
   pub inside_rest : (x : ℤ) (z : Vector) → IsInside first (x ∷ z) → IsInside space z
-  inside_rest x z h = record { width = let w = h.width in omega (arith, w); fixed = vanish_rest space.fixed x z h.fixed }
+  inside_rest x z h =
+      record { width = let w = h.width in omega (arith, w); fixed = vanish_rest space.fixed x z h.fixed }
 
   -- the value at infinity is that of the rest
   pub same_infinity : (x : ℤ) (z : Vector) → first.infinity · (x ∷ z) ≡ space.infinity · z
@@ -97,7 +97,7 @@ module _ (space : Space) (start : List ℕ) where
   value_without k n x z e = value_of k n x z ∙ gone (lift_of start k) x (space.form k · z) e
     where
       gone : (c x v : ℤ) → x ≡ pos 0 → c *ℤ x +ℤ v ≡ v
-      gone c x v e = let f = Rattle.dictionary_laws.proofs.Directions.times_zero c x e in omega (arith, ints)
+      gone c x v e = let f = times_zero c x e in omega (arith, ints)
 
   lift_is : (k : ℕ) (row inside : Bool) → is_row k ≡ row → is_member k start ≡ inside →
       lift_of start k ≡ cond row (cond inside (pos 0) (pos 1)) (pos 0)

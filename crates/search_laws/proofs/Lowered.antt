@@ -1,6 +1,6 @@
 -- A row that is negative in some column is lowered by the neighbour there; there is one step at most.
 use Rattle.std.proofs.Common.{◌≡◌, ◌⊎◌, inl, inr, ⊎_elim, ℕ, List, [], ◌∷◌, ◌++◌, ℤ, pos, refl, sym, ap, subst, ◌∙◌, arith}
-use Rattle.std.specs.Prelude.{◌<ℤ◌, ◌≤ℤ◌}
+use Rattle.std.specs.Prelude.{None, ◌<ℤ◌, ◌≤ℤ◌}
 use Rattle.std.specs.List.{Contains}
 use Rattle.std.proofs.lemmas.Int.{by_lt_z}
 use Rattle.std.proofs.lemmas.List.Elements.{All-contains}
@@ -13,7 +13,7 @@ use Rattle.linear_laws.proofs.Members.{Contains-nil}
 use Rattle.dictionary_laws.specs.Keys.{AreDistinct}
 use Rattle.dictionary_laws.proofs.Members.{contains_or, contains_cases}
 use Rattle.search_laws.specs.Lowering.{LowersRow, IsStep, IsLowest}
-use Rattle.tree_laws.proofs.Levels.{level_list, list_is_levels}
+use Rattle.tree_laws.proofs.Levels.{level_list, own_level, list_is_levels}
 use Rattle.tree_laws.proofs.FirstMembers.{IsFirst, first_with}
 use Rattle.tree_laws.proofs.OrderLemmas.{order_has, not_earlier_and_later}
 use Rattle.tree_laws.proofs.Least.{some_leaves}
@@ -35,6 +35,14 @@ only_row space q l j c =
     (λ (e : j ≡ q). subst (Contains (rows_in space)) (sym e) l)
     (λ (d : Contains [] j). absurd (Contains-nil j d))
     (contains_cases q [] j c)
+
+-- a row of the key is negative in no column
+pub lowest_in_key : (space : Space) (key : List ℕ) (t : Table) → IsRowDictionary space key t → (q : ℕ) →
+    Contains key q → IsLowest key t q × (t.constant q ≡ pos 0)
+lowest_in_key space key t d q m = (
+  λ s c. by_lt_z (t.entry q s) (pos 0) (λ up. absurd (key_entry space key t d q s m c up)) (λ down. down),
+  own_level space key t d q m None,
+)
 
 module _ (space : Space) (root key : List ℕ) (t : Table) (d : IsRowDictionary space key t) (q : ℕ)
     (l : Contains (rows_in space) q) where

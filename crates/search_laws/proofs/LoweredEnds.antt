@@ -8,7 +8,7 @@ use Rattle.poly_model.specs.Tree.{IsRowDictionary, IsLexFeasible}
 use Rattle.dictionary_laws.specs.Keys.{AreDistinct}
 use Rattle.search_laws.specs.Lowering.{IsStep, IsLowest, IsDescent, HasEnd}
 use Rattle.tree_laws.proofs.Neighbours.{neighbour_dictionary, neighbour_feasible}
-use Rattle.tree_laws.proofs.Chains.{State, by_falls}
+use Rattle.tree_laws.proofs.Chains.{State, by_falls, other_table}
 use Rattle.search_laws.proofs.Lowered.{only_row, row_falls, some_step, lowest_too, step_too, no_step, one_step}
 
 module _ (space : Space) (root : List ℕ) (home : Table) (h : IsRowDictionary space root home) (q : ℕ)
@@ -50,21 +50,18 @@ module _ (space : Space) (root : List ℕ) (home : Table) (h : IsRowDictionary s
 
   -- ---- it is one
   module _ (distinct : AreDistinct (rows_in space)) where
-    other_table : (key : List ℕ) (t u : Table) → IsRowDictionary space key t → IsDictionary space key u →
-        IsRowDictionary space key u
-    other_table key t u d e = record { points = d.points; ascending = d.ascending; rows = d.rows; dictionary = e }
-
     -- no step leads on from where the row is lowest
     ends : (key end : List ℕ) (t u : Table) → IsLexFeasible space root key t → IsDictionary space end u →
         IsLowest end u q → key ≡ end → (v : Table) → IsDictionary space key v → (new : List ℕ) →
         IsStep space root q key v new → ⊥
     ends key end t u f e low same v g new x =
         no_step space root key v d q l
-        (lowest_too space root key u (other_table key t u f.dictionary (subst (λ k. IsDictionary space k u) (sym same) e))
+        (lowest_too space root key u
+        (other_table space root home h key t u f.dictionary (subst (λ k. IsDictionary space k u) (sym same) e))
         q l v d (subst (λ k. IsLowest k u q) (sym same) low)) new x
       where
         d : IsRowDictionary space key v
-        d = other_table key t v f.dictionary g
+        d = other_table space root home h key t v f.dictionary g
 
     pub one_end : (m n : ℕ) (key end other : List ℕ) (t u v : Table) → IsLexFeasible space root key t →
         IsDictionary space end u → IsLowest end u q → IsDescent space root q m key end →
@@ -76,8 +73,8 @@ module _ (space : Space) (root : List ℕ) (home : Table) (h : IsRowDictionary s
     one_end (suc m) zero key end other t u v f e low x g deep y =
         absurd (ends key other t v f g deep y x.0 x.1 x.2 x.3)
     one_end (suc m) (suc n) key end other t u v f e low x g deep y =
-        let d = other_table key t x.0 f.dictionary x.1 in
-        let b = other_table key t y.0 f.dictionary y.1 in
+        let d = other_table space root home h key t x.0 f.dictionary x.1 in
+        let b = other_table space root home h key t y.0 f.dictionary y.1 in
         let there = step_too space root key x.0 d q l t f.dictionary x.2 x.3 in
         let back = step_too space root key y.0 b q l t f.dictionary y.2 y.3 in
         let same = one_step space root key t f.dictionary q l home h distinct x.2 y.2 there back in

@@ -1,5 +1,5 @@
--- The end of phase one where t is not in the key: its constant is positive, and no vector meets all rows; or it is 0, and
--- t can come in.
+-- The end of phase one where t is not in the key: its constant is positive, and no vector meets all rows; or it is 0,
+-- and t can come in.
 use Rattle.std.proofs.Common.{◌≡◌, ◌≢◌, inl, inr, ⊎_elim, ℕ, List, [], ◌∷◌, ℤ, pos, ◌+ℤ◌, ◌*ℤ◌, refl, sym, ap, subst, ◌∙◌, arith}
 use Rattle.std.specs.Prelude.{◌<ℤ◌, ◌≤ℤ◌}
 use Rattle.std.specs.List.{Contains}
@@ -27,11 +27,11 @@ use Rattle.tree_laws.proofs.Numbers.{row_is_label, key_row}
 use Rattle.tree_laws.proofs.OrderLemmas.{row_only}
 use Rattle.tree_laws.proofs.ExchangedKeys.{exchanges}
 use Rattle.tree_laws.proofs.Exchange.{exchanged_dictionary}
-use Rattle.tree_laws.proofs.PointValues.{row_at_direction}
+use Rattle.tree_laws.proofs.PointValues.{IsKeyPoint, row_at_direction, nonnegative_value}
 use Rattle.tree_laws.proofs.SettledRows.{zero_or}
 use Rattle.search_laws.proofs.LiftedForms.{first, along_t, along_t_direction, t_is_not_zero, inside_front, same_infinity, value_of_t, value_without}
 use Rattle.search_laws.proofs.StartWithT.{not_t}
-use Rattle.search_laws.proofs.KeyPoints.{IsKeyPoint, key_point, nonnegative_value, root_from_point}
+use Rattle.search_laws.proofs.KeyPoints.{key_point, root_from_point}
 
 -- ---- sums that are not negative
 nonnegative_both : (a b : ℤ) → pos 0 ≤ℤ a → pos 0 ≤ℤ b → pos 0 ≤ℤ (a *ℤ b)

@@ -11,7 +11,7 @@ use Rattle.poly_model.specs.Spaces.{Space, IsInside, IsDirection, HasPoints, lif
 use Rattle.poly_model.specs.Dictionaries.{AreIndependent, IsCobasis, Table, Writes, sum_over}
 use Rattle.poly_model.specs.LexOrder.{rows_in}
 use Rattle.poly_model.specs.Tree.{IsRowDictionary}
-use Rattle.linear_laws.proofs.Members.{Contains-first, Contains-later}
+use Rattle.linear_laws.proofs.Members.{all_at, Contains-first, Contains-later}
 use Rattle.dictionary_laws.proofs.Members.{all_from, contains_cases, sum_same, sum_zero}
 use Rattle.dictionary_laws.proofs.Directions.{times_zero, zero_times}
 use Rattle.dictionary_laws.proofs.Values.{terms}
@@ -85,7 +85,7 @@ module _ (space : Space) (start : List ℕ) (none : HasNoRowZero space) where
       d.dictionary.cobasis.enough z (direction_rest space start x z direction)
           (all_from (λ k. space.form k · z ≡ pos 0) start
           (λ k c. sym (value_inside space start k (start_not_t k c) c x z)
-          ∙ Rattle.linear_laws.proofs.Members.all_at (λ k. (first space start).form k · (x ∷ z) ≡ pos 0) start h.1 k c)),
+          ∙ all_at (λ k. (first space start).form k · (x ∷ z) ≡ pos 0) start h.1 k c)),
     )
 
     cobasis_with_t : IsCobasis (first space start) (0 ∷ start)
@@ -106,7 +106,10 @@ module _ (space : Space) (start : List ℕ) (none : HasNoRowZero space) where
     -- its numbers
     split : (d v c l lift x s w : ℤ) → w ≡ lift *ℤ x +ℤ v → d *ℤ v ≡ c *ℤ l +ℤ s →
         d *ℤ w ≡ c *ℤ l +ℤ ((d *ℤ lift) *ℤ x +ℤ s)
-    split d v c l lift x s w e h = let f = ap (λ (z : ℤ). d *ℤ z) e in let g = simp expand at f in simp expand (omega (arith, lin))
+    split d v c l lift x s w e h =
+        let f = ap (λ (z : ℤ). d *ℤ z) e in
+        let g = simp expand at f in
+        simp expand (omega (arith, lin))
 
     join : (c e l k a b s r : ℤ) → c ≡ e → l ≡ k → a ≡ b → s ≡ r → c *ℤ l +ℤ (a +ℤ s) ≡ e *ℤ k +ℤ (b +ℤ r)
     join c e l k a b s r f g h i = cc

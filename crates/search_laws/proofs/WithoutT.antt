@@ -20,7 +20,8 @@ use Rattle.tree_laws.proofs.Numbers.{key_row}
 use Rattle.tree_laws.proofs.OrderLemmas.{row_only}
 use Rattle.search_laws.proofs.LiftedForms.{first, inside_front, inside_rest, same_infinity, direction_front, direction_rest, value_of_t, value_without}
 use Rattle.search_laws.proofs.StartWithT.{not_t, writes_without}
-use Rattle.search_laws.proofs.KeyPoints.{IsKeyPoint, key_point, nonnegative_value, root_from_point}
+use Rattle.tree_laws.proofs.PointValues.{IsKeyPoint, nonnegative_value}
+use Rattle.search_laws.proofs.KeyPoints.{key_point, root_from_point}
 
 -- an ascending key with the label 0 has it in front
 zero_in_front : (key : List ℕ) → IsAscending key → Contains key 0 → (rest : List ℕ) × (key ≡ 0 ∷ rest)

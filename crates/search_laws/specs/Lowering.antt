@@ -36,6 +36,18 @@ pub record IsStep (space : Space) (root : List ℕ) (q : ℕ) (key : List ℕ) (
 abbrev pub IsLowest : List ℕ → Table → ℕ → Type 0
 IsLowest key t q = (s : ℕ) → Contains key s → pos 0 ≤ℤ t.entry q s
 
+-- so it is where q is in the key, with the constant 0
+abbrev pub RowInKeyIsLowest : Type 0
+RowInKeyIsLowest =
+    (space : Space) (key : List ℕ) (t : Table) → IsRowDictionary space key t → (q : ℕ) → Contains key q →
+    IsLowest key t q × (t.constant q ≡ pos 0)
+
+-- elsewhere a step leads on
+abbrev pub StepOrLowest : Type 0
+StepOrLowest =
+    (space : Space) (root key : List ℕ) (t : Table) → IsRowDictionary space key t → (q : ℕ) →
+    Contains (rows_in space) q → IsLowest key t q ⊎ ((new : List ℕ) × IsStep space root q key t new)
+
 -- so many steps lead from a key to another
 abbrev pub IsDescent : Space → List ℕ → ℕ → ℕ → List ℕ → List ℕ → Type 0
 IsDescent space root q zero key end = key ≡ end

@@ -4,7 +4,7 @@
 //! Each function is a law: its contract is the statement, which stands in `specs/`.
 #![tactic(auto)]
 
-ghost use Rattle.search_laws.specs.Lowering.{NeighboursLowerRow, StepsEnd, OneEnd};
+ghost use Rattle.search_laws.specs.Lowering.{NeighboursLowerRow, RowInKeyIsLowest, StepOrLowest, StepsEnd, OneEnd};
 ghost use Rattle.search_laws.specs.PhaseOne.{StartWithT, FirstRoot};
 ghost use Rattle.search_laws.specs.PhaseEnds.{
   NoneMeetsRows,
@@ -37,7 +37,17 @@ pub fn neighbours_lower_row()
     ensures { NeighboursLowerRow }
 {}
 
-/// Taking such neighbours ends, at a feasible cobasis where the row is negative in no column.
+/// A row of the key is negative in no column.
+pub fn row_in_key_is_lowest()
+    ensures { RowInKeyIsLowest }
+{}
+
+/// Where a row is negative in some column, a step takes the neighbour in the least such column.
+pub fn step_or_lowest()
+    ensures { StepOrLowest }
+{}
+
+/// Such steps end, at a feasible cobasis where the row is negative in no column.
 pub fn steps_end()
     ensures { StepsEnd }
 {}

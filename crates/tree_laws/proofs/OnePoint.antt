@@ -14,7 +14,7 @@ use Rattle.dictionary_laws.proofs.Duals.{Dual, dual_of}
 use Rattle.tree_laws.proofs.ListOrder.{before_across}
 use Rattle.tree_laws.proofs.Numbers.{key_row}
 use Rattle.tree_laws.proofs.OrderLemmas.{order_has}
-use Rattle.tree_laws.proofs.PointValues.{row_at_direction, zero_constant}
+use Rattle.tree_laws.proofs.PointValues.{row_at_direction, is_key_point, zero_constant}
 
 module _ (space : Space) (root : List ℕ) (y : Vector) where
   -- a row of the key is one of the other key, if those after it that are in the other are in the key
@@ -43,7 +43,7 @@ module _ (space : Space) (root : List ℕ) (y : Vector) where
                     (u.entry x k ≡ pos 0) ⊎ (space.form k · z.vector ≡ pos 0)
                 place k m (inl q) =
                     inl (shown x (record { row = row; outside = n })
-                    (zero_constant space other u e y there x row (at.nothing x c)) k m
+                    (zero_constant space other u e y (is_key_point space other y there) x row (at.nothing x c)) k m
                     (subst (λ (l : List ℕ). Precedes l k x) (sym is)
                     (before_across pre (x ∷ xs) k x q (Contains-first x xs))))
                 place k m (inr q) = behind k m (contains_cases x xs k q)

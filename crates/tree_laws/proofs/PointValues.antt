@@ -28,6 +28,15 @@ apart a b x y h = let f = simp expand at h in omega (arith, lin)
 only_level : (v b s : ℤ) → v ≡ b +ℤ s → s ≡ pos 0 → v ≡ b
 only_level v b s h z = omega (arith, lin)
 
+-- a vector that is positive at infinity, where the labels of the key are 0
+pub record IsKeyPoint (space : Space) (key : List ℕ) (y : Vector) : Type 0 where
+  pub inside : IsInside space y
+  pub finite : pos 0 <ℤ (space.infinity · y)
+  pub nothing : (k : ℕ) → Contains key k → space.form k · y ≡ pos 0
+
+pub is_key_point : (space : Space) (key : List ℕ) (y : Vector) → IsAtPoint space key y → IsKeyPoint space key y
+is_key_point space key y at = record { inside = at.inside; finite = at.finite; nothing = at.nothing }
+
 module _ (space : Space) (key : List ℕ) (t : Table) (d : IsRowDictionary space key t) where
   -- a row is 0 at a direction where each of its terms is
   pub row_at_direction : (i : ℕ) → Contains (rows_in space) i → (z : Vector) → IsDirection space z →
@@ -54,7 +63,7 @@ module _ (space : Space) (key : List ℕ) (t : Table) (d : IsRowDictionary space
       (d.dictionary.writes.values i (row_is_label space i l) y inside)
       (sum_zero key (terms space t i y) (λ c m. times_zero (t.entry i c) (space.form c · y) (h c m)))
 
-  module _ (y : Vector) (at : IsAtPoint space key y) where
+  module _ (y : Vector) (at : IsKeyPoint space key y) where
     pub zero_constant : (i : ℕ) → Contains (rows_in space) i → space.form i · y ≡ pos 0 → t.constant i ≡ pos 0
     zero_constant i l e =
         zero_factor (space.infinity · y) (t.constant i)
@@ -116,12 +125,12 @@ point_is_extreme space key t y f at = record {
   primitive = at.primitive;
   inside = at.inside;
   finite = at_least (space.infinity · y) at.finite;
-  rows = λ i l. nonnegative_value space key t f.dictionary y at i l (f.constants i l);
+  rows = λ i l. nonnegative_value space key t f.dictionary y (is_key_point space key y at) i l (f.constants i l);
   alone = λ z inside _ h. (
     space.infinity · y,
     space.infinity · z,
     positive_nonzero (space.infinity · y) at.finite,
-    along_point space key t f.dictionary y at z inside
+    along_point space key t f.dictionary y (is_key_point space key y at) z inside
         (λ c m. h c (key_row space key t f.dictionary c m) (at.nothing c m)),
   );
 }

@@ -12,7 +12,7 @@ use Rattle.poly_model.specs.Tree.{IsRowDictionary, IsAtPoint}
 use Rattle.linear_laws.proofs.Proportions.{vanish_from_multiple, same_width, values_from_multiples}
 use Rattle.linear_laws.proofs.PrimitiveAlong.{PrimitiveOf, primitive_of, primitive_same}
 use Rattle.dictionary_laws.proofs.Origins.{Origin, some_origin}
-use Rattle.tree_laws.proofs.PointValues.{along_point}
+use Rattle.tree_laws.proofs.PointValues.{is_key_point, along_point}
 
 module _ (space : Space) (key : List ℕ) (t : Table) (d : IsRowDictionary space key t) where
   -- some point
@@ -61,4 +61,4 @@ module _ (space : Space) (key : List ℕ) (t : Table) (d : IsRowDictionary space
   pub same_point : (y z : Vector) → IsAtPoint space key y → IsAtPoint space key z → z ≡ y
   same_point y z at there =
       primitive_same (space.infinity · y) (space.infinity · z) z y there.primitive at.primitive at.finite there.finite
-      (along_point space key t d y at z there.inside there.nothing)
+      (along_point space key t d y (is_key_point space key y at) z there.inside there.nothing)

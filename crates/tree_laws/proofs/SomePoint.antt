@@ -19,7 +19,7 @@ use Rattle.dictionary_laws.proofs.Duals.{Dual, dual_of}
 use Rattle.dictionary_laws.proofs.Values.{value_at}
 use Rattle.tree_laws.proofs.Numbers.{row_is_label}
 use Rattle.tree_laws.proofs.OrderLemmas.{order_has, order_only, order_distinct}
-use Rattle.tree_laws.proofs.PointValues.{zero_value, nonnegative_constant}
+use Rattle.tree_laws.proofs.PointValues.{is_key_point, zero_value, nonnegative_constant}
 use Rattle.tree_laws.proofs.SettledRows.{zero_or, IsTight, FollowsIn, Settled, Settles, settle}
 
 module _ (space : Space) (y : Vector) (key : List ℕ) (t : Table) (d : IsRowDictionary space key t) where
@@ -104,13 +104,14 @@ module _ (space : Space) (y : Vector) (key : List ℕ) (t : Table) (d : IsRowDic
     pub feasible : IsFeasibleRoot space key t
     feasible = record {
       dictionary = d;
-      constants = λ i l. nonnegative_constant space key t d y at_point i l (extreme.rows i l);
+      constants = λ i l.
+          nonnegative_constant space key t d y (is_key_point space key y at_point) i l (extreme.rows i l);
     }
 
     pub shows_point : AreDistinct (rows_in space) → ShowsPoint space root key t
     shows_point u i o z k m p =
         zero_before (order space root) (order_distinct space root u) s k m i p o
-        (zero_value space key t d y at_point i o.row z)
+        (zero_value space key t d y (is_key_point space key y at_point) i o.row z)
 
 -- a key at which y is shown
 pub record HasPointKey (space : Space) (root : List ℕ) (y : Vector) : Type 0 where
