@@ -24,7 +24,8 @@ same_where_zero : (f g v w : ℕ → ℤ) (qs : List ℕ) → ((q : ℕ) → Con
     ((q : ℕ) → Contains qs q → v q ≡ w q) → where_zero f v qs ≡ where_zero g w qs
 same_where_zero f g v w [] h k = refl
 same_where_zero f g v w (q ∷ qs) h k =
-    let rest = same_where_zero f g v w qs (λ p c. h p (Contains-later p q qs c)) (λ p c. k p (Contains-later p q qs c)) in
+    let rest = same_where_zero f g v w qs (λ p c. h p (Contains-later p q qs c))
+    (λ p c. k p (Contains-later p q qs c)) in
     first (int_eq (v q) (pos 0)) (h q (Contains-first q qs)) rest
     ∙ ap (λ (z : ℤ). map g (cond (int_eq z (pos 0)) (q ∷ filter (λ q. int_eq (w q) (pos 0)) qs)
     (filter (λ q. int_eq (w q) (pos 0)) qs))) (k q (Contains-first q qs))

@@ -1,4 +1,4 @@
--- Chains of parents from lexicographically feasible cobases: joined, their last step, and that they do not part or turn.
+-- Chains of parents from lexicographically feasible cobases: joined, their last step; they do not part, nor turn back.
 use Rattle.std.proofs.Common.{◌≡◌, ◌⊎◌, inl, inr, ◌+◌, ℕ, zero, suc, List, refl, sym, subst, arith}
 use Rattle.poly_model.specs.Spaces.{Space}
 use Rattle.poly_model.specs.Dictionaries.{Table, IsDictionary}

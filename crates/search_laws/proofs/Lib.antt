@@ -12,6 +12,7 @@ pub mod Depths
 pub mod OnceLists
 pub mod Children
 pub mod ShareParts
+pub mod Gathered
 pub mod Weights
 pub mod Splits
 pub mod Visits

@@ -1,5 +1,5 @@
--- Each vector of a share once: two shares meet only where one key is under the other, and what a run has shown is not in
--- the shares that wait. Stands on what is known of rays, that a vector is shown along columns of one cobasis at most.
+-- Each vector of a share once: two shares meet only where one key is under the other, and what a run has shown is not
+-- in the shares that wait. It is a hypothesis here that a vector is shown along columns of one cobasis at most.
 use Rattle.std.proofs.Common.{◌≡◌, ◌⊎◌, ⊎_elim, ℕ, List, ◌∷◌, ◌++◌, ℤ, pos, sym, subst, arith}
 use Rattle.std.specs.Prelude.{◌<ℤ◌, None, Some}
 use Rattle.std.specs.List.{Contains}

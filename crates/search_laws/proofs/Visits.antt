@@ -14,7 +14,8 @@ use Rattle.search_laws.specs.Weights.{IsWeight, IsTotal, IsUnderSome, IsApart}
 use Rattle.search_laws.specs.Splits.{IsSplit, IsShownBySome, InSomeShare, AreSplit}
 use Rattle.search_laws.proofs.OnceLists.{at_first_or_later, at_either, once-append}
 use Rattle.search_laws.proofs.ShareParts.{under_twice, child_under, under_itself, is_tree}
-use Rattle.search_laws.proofs.Weights.{Gathers, gather, under_some_first, under_some_later, under_some_cases, children_apart, key_or_under_some, not_itself_under, weight_of_children, one_total, some_total_of}
+use Rattle.search_laws.proofs.Gathered.{Gathers, gather, under_some_first, under_some_later, under_some_cases, children_apart}
+use Rattle.search_laws.proofs.Weights.{key_or_under_some, not_itself_under, weight_of_children, one_total, some_total_of}
 use Rattle.search_laws.proofs.Splits.{to_front, apart-append, under_some_join, under_some_part, total-parts}
 
 module _ (space : Space) (root : List ℕ) where
@@ -44,7 +45,8 @@ module _ (space : Space) (root : List ℕ) where
   }
 
   -- ---- the share
-  module _ (key : List ℕ) (visited waiting : List (List ℕ)) (s : IsSplit space root key visited waiting) (y : Vector) where
+  module _ (key : List ℕ) (visited waiting : List (List ℕ)) (s : IsSplit space root key visited waiting)
+      (y : Vector) where
     share_there : InShare space root key y → IsShownBySome space root visited y ⊎ InSomeShare space root waiting y
     share_there (one, u, b) =
         ⊎_elim

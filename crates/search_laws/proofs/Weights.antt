@@ -1,47 +1,26 @@
 -- The weight of a lexicographically feasible cobasis: one more than the total of its children; it has one, by induction
 -- over the cobases under it.
-use Rattle.std.proofs.Common.{◌≡◌, ◌≢◌, ◌⊎◌, inl, inr, ⊎_elim, ◌+◌, ℕ, zero, suc, List, [], ◌∷◌, ◌++◌, length, length-append, refl, sym, ap, subst, ◌∙◌, arith}
+use Rattle.std.proofs.Common.{◌≡◌, ◌≢◌, ◌⊎◌, inl, inr, ⊎_elim, ◌+◌, ℕ, suc, List, [], ◌∷◌, length, refl, sym, ap, subst, ◌∙◌, arith}
 use Rattle.std.specs.List.{Contains}
-use Rattle.std.proofs.lemmas.List.Elements.{Contains-append_left, Contains-append_right, Contains-append_cases}
 use Rattle.poly_model.specs.Spaces.{Space}
 use Rattle.poly_model.specs.Dictionaries.{Table}
 use Rattle.poly_model.specs.LexOrder.{rows_in}
 use Rattle.poly_model.specs.Tree.{IsFeasibleRoot, IsAbove, IsUnder}
-use Rattle.linear_laws.proofs.Members.{Contains-nil, Contains-first, Contains-later, Contains-cons_cases}
+use Rattle.linear_laws.proofs.Members.{Contains-first, Contains-later}
 use Rattle.dictionary_laws.specs.Keys.{AreDistinct}
-use Rattle.search_laws.specs.Shares.{StandOnce, ListsAll, IsFeasibleKey, IsChild, IsFeasibleUnder, IsTree}
-use Rattle.search_laws.specs.Weights.{IsWeight, IsTotal, IsUnderSome, IsApart, AreApart, HasWeight}
+use Rattle.search_laws.specs.Shares.{ListsAll, IsFeasibleKey, IsChild, IsFeasibleUnder}
+use Rattle.search_laws.specs.Weights.{IsWeight, IsTotal, IsUnderSome, HasWeight}
 use Rattle.tree_laws.proofs.Numbers.{key_row}
 use Rattle.tree_laws.proofs.Sublists.{ascending_parts, contains_ascending}
 use Rattle.tree_laws.proofs.Descents.{by_all_below}
 use Rattle.tree_laws.proofs.Chains.{State, under_the_root}
-use Rattle.search_laws.proofs.Depths.{above_twice, child_above, one_length, no_cycle}
-use Rattle.search_laws.proofs.OnceLists.{at_first_or_later, once-append, one_count}
+use Rattle.search_laws.proofs.Depths.{above_twice, child_above, no_cycle, not_under_child}
+use Rattle.search_laws.proofs.OnceLists.{at_first_or_later, one_count}
 use Rattle.search_laws.proofs.Children.{children}
-use Rattle.search_laws.proofs.ShareParts.{under_twice, child_under, under_itself, own_or_under_child, is_tree}
+use Rattle.search_laws.proofs.ShareParts.{under_twice, child_under, under_itself, own_or_under_child}
+use Rattle.search_laws.proofs.Gathered.{Gathers, gather, children_apart}
 
 module _ (space : Space) (root : List ℕ) where
-  pub under_some_first : (key : List ℕ) (keys : List (List ℕ)) (one : List ℕ) → IsFeasibleUnder space root key one →
-      IsUnderSome space root (key ∷ keys) one
-  under_some_first key keys one u =
-      record { feasible = u.0; key = key; member = Contains-first key keys; under = u.1 }
-
-  pub under_some_later : (key : List ℕ) (keys : List (List ℕ)) (one : List ℕ) → IsUnderSome space root keys one →
-      IsUnderSome space root (key ∷ keys) one
-  under_some_later key keys one u =
-      record { feasible = u.feasible; key = u.key; member = Contains-later u.key key keys u.member; under = u.under }
-
-  pub under_some_cases : (key : List ℕ) (keys : List (List ℕ)) (one : List ℕ) →
-      IsUnderSome space root (key ∷ keys) one →
-      IsFeasibleUnder space root key one ⊎ IsUnderSome space root keys one
-  under_some_cases key keys one u =
-      ⊎_elim
-      (λ (e : key ≡ u.key). inl (u.feasible, subst (λ k. IsUnder space root one k) (sym e) u.under))
-      (λ (m : Contains keys u.key).
-      inr (record { feasible = u.feasible; key = u.key; member = m; under = u.under }))
-      (Contains-cons_cases u.key key keys u.member)
-
-  -- ---- one weight
   pub one_weight : (key : List ℕ) (v w : ℕ) → IsWeight space root key v → IsWeight space root key w → v ≡ w
   one_weight key v w (ks, l, e) (js, m, f) =
       sym e ∙ one_count ks js l.once m.once (λ k c. m.each k (l.only k c)) (λ k c. l.each k (m.only k c)) ∙ f
@@ -51,79 +30,9 @@ module _ (space : Space) (root : List ℕ) where
   one_total (key ∷ keys) v w (a, b, p, q, e) (c, d, r, s, f) =
       let g = one_weight key a c p r in let h = one_total keys b d q s in omega (arith, e, f, g, h)
 
--- ---- the cobases under keys
--- those under one of some keys, each once, so many of them
-pub record Gathers (space : Space) (root : List ℕ) (keys : List (List ℕ)) (w : ℕ) : Type 0 where
-  pub ones : List (List ℕ)
-  pub lists : ListsAll (IsUnderSome space root keys) ones
-  pub size : length ones ≡ w
-
+-- ---- the weight of a key from its children
 module _ (space : Space) (root : List ℕ) (home : Table) (h : IsFeasibleRoot space root home)
     (distinct : AreDistinct (rows_in space)) where
-  tree : IsTree space root
-  tree = is_tree space root home h distinct
-
-  -- a cobasis is not under both of two keys that are apart
-  pub not_under_both : (one b c : List ℕ) → IsFeasibleKey space root one → IsApart space root b c →
-      IsUnder space root one b → IsUnder space root one c → ⊥
-  not_under_both one b c f a u v = ⊎_elim a.above a.below (tree.meet one b c f u v)
-
-  pub gather : (keys : List (List ℕ)) → AreApart space root keys → (w : ℕ) → IsTotal space root keys w →
-      Gathers space root keys w
-  gather [] a w t = record {
-    ones = [];
-    lists = record {
-      once = tt;
-      only = λ one c. absurd (Contains-nil one c);
-      each = λ one u. absurd (Contains-nil u.key u.member);
-    };
-    size = sym t;
-  }
-  gather (key ∷ keys) a w (u, v, (ks, l, e), rest, sum) = by (gather keys a.1 v rest)
-    where
-      add : (x y w : ℕ) → x ≡ u → y ≡ v → w ≡ u + v → x + y ≡ w
-      add x y w e f g = omega arith
-
-      by : Gathers space root keys v → Gathers space root (key ∷ keys) w
-      by g = record {
-        ones = ks ++ g.ones;
-        lists = record {
-          once = once-append ks g.ones l.once g.lists.once
-              (λ one c d. let p = l.only one c in let q = g.lists.only one d in
-              not_under_both one key q.key p.0 (a.0 q.key q.member) p.1 q.under);
-          only = λ one c. ⊎_elim (λ d. under_some_first space root key keys one (l.only one d))
-              (λ d. under_some_later space root key keys one (g.lists.only one d))
-              (Contains-append_cases ks g.ones one c);
-          each = λ one p. ⊎_elim (λ q. Contains-append_left ks g.ones one (l.each one q))
-              (λ q. Contains-append_right ks g.ones one (g.lists.each one q))
-              (under_some_cases space root key keys one p);
-        };
-        size = length-append ks g.ones ∙ add (length ks) (length g.ones) w e g.size sum;
-      }
-
-  -- ---- the children of a key
-  -- a child under a child is that child
-  pub child_under_child : (key b c : List ℕ) → IsChild space root key b → IsChild space root key c →
-      IsUnder space root b c → b ≡ c
-  child_under_child key b c p q (zero, x) = x
-  child_under_child key b c p q (suc n, x) =
-      let e = one_length space root home h distinct (suc n + 1) 1 b key (p.0, p.1)
-      (above_twice space root (suc n) 1 b c key x (child_above space root key c q))
-      (child_above space root key b p) in
-      absurd (omega (arith, e))
-
-  pub children_apart : (key : List ℕ) (cs : List (List ℕ)) → StandOnce cs →
-      ((c : List ℕ) → Contains cs c → IsChild space root key c) → AreApart space root cs
-  children_apart key [] n a = tt
-  children_apart key (c ∷ cs) n a = (
-    λ b m. let p = a c (Contains-first c cs) in let q = a b (Contains-later b c cs m) in record {
-      above = λ u. n.0 (subst (λ k. Contains cs k) (sym (child_under_child key c b p q u)) m);
-      below = λ u. n.0 (subst (λ k. Contains cs k) (child_under_child key b c q p u) m);
-    },
-    children_apart key cs n.1 (λ b m. a b (Contains-later b c cs m)),
-  )
-
-  -- ---- the weight of a key from its children
   module _ (key : List ℕ) (f : IsFeasibleKey space root key) (cs : List (List ℕ))
       (l : ListsAll (IsChild space root key) cs) where
     under_key : (one : List ℕ) → IsUnderSome space root cs one → IsFeasibleUnder space root key one
@@ -143,10 +52,12 @@ module _ (space : Space) (root : List ℕ) (home : Table) (h : IsFeasibleRoot sp
         (own_or_under_child space root home h key one u.0 u.1)
 
     pub not_itself_under : IsUnderSome space root cs key → ⊥
-    not_itself_under u = tree.not_under_child key u.key (l.only u.key u.member) u.under
+    not_itself_under u = not_under_child space root home h distinct key u.key (l.only u.key u.member) u.under
 
     pub weight_of_children : (w : ℕ) → IsTotal space root cs w → IsWeight space root key (suc w)
-    weight_of_children w t = by (gather cs (children_apart key cs l.once l.only) w t)
+    weight_of_children w t =
+        by (gather space root home h distinct cs
+        (children_apart space root home h distinct key cs l.once l.only) w t)
       where
         by : Gathers space root cs w → IsWeight space root key (suc w)
         by g = (

@@ -4,4 +4,5 @@ pub mod PhaseEnds
 pub mod Shares
 pub mod Weights
 pub mod Splits
+pub mod SharesOnce
 pub mod ChildTest

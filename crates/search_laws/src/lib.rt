@@ -19,6 +19,7 @@ ghost use Rattle.search_laws.specs.PhaseEnds.{
 ghost use Rattle.search_laws.specs.Shares.{ListsChildren, ParentsMakeATree, SharesHaveParts, RootHasAll, AnyTableServes};
 ghost use Rattle.search_laws.specs.Weights.{WeightsAddUp, RootWeighsAll};
 ghost use Rattle.search_laws.specs.Splits.{RunsSplit};
+ghost use Rattle.search_laws.specs.SharesOnce.{SharesOnce};
 ghost use Rattle.search_laws.specs.ChildTest.{ChildByTest, MovedSigns};
 
 /// A cobasis of rows with t is a cobasis of the space of phase one, and its numbers are there those that it has.
@@ -131,6 +132,11 @@ pub fn root_weighs_all()
 /// weight that waits.
 pub fn runs_split()
     ensures { RunsSplit }
+{}
+
+/// In a share stands each vector once, and the rows that a visit shows are new.
+pub fn shares_once()
+    ensures { SharesOnce }
 {}
 
 /// Whether a neighbour is a child is read from the dictionary of the cobasis itself.
