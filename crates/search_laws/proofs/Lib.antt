@@ -21,3 +21,5 @@ pub mod ChildTest
 pub mod MovedSigns
 pub mod ShareOnce
 pub mod AnyShown
+pub mod RootShare
+pub mod MainStart

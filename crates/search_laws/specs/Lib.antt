@@ -1,6 +1,7 @@
 pub mod PhaseOne
 pub mod Lowering
 pub mod PhaseEnds
+pub mod Starts
 pub mod Shares
 pub mod Weights
 pub mod Splits

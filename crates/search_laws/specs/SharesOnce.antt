@@ -1,17 +1,19 @@
--- In a share stands each vector once: shares meet only where one key is under the other, and a run shows nothing that is
--- in a share that waits.
-use Rattle.std.specs.Prelude.{◌≡◌, ◌⊎◌, ℕ, List, ◌∷◌, ◌++◌}
+-- The share of the root is the extreme vectors, and each stands in a share once: shares meet only where one key is under
+-- the other, and a run shows nothing that is in a share that waits.
+use Rattle.std.specs.Prelude.{◌≡◌, ◌⊎◌, ◌↔◌, ℕ, List, ◌∷◌, ◌++◌}
 use Rattle.std.specs.List.{Contains}
 use Rattle.poly_num.specs.Vectors.{Vector}
 use Rattle.poly_model.specs.Spaces.{Space}
 use Rattle.poly_model.specs.Dictionaries.{Table}
 use Rattle.poly_model.specs.LexOrder.{rows_in}
-use Rattle.poly_model.specs.Tree.{IsFeasibleRoot, IsUnder}
+use Rattle.poly_model.specs.Tree.{IsFeasibleRoot, IsUnder, IsExtremeIn}
 use Rattle.dictionary_laws.specs.Keys.{AreDistinct}
 use Rattle.search_laws.specs.Shares.{ListsAll, IsChild, IsShownBy, InShare}
 use Rattle.search_laws.specs.Splits.{IsSplit, IsShownBySome, InSomeShare}
 
 pub record ShowsOnce (space : Space) (root : List ℕ) : Type 0 where
+  -- the share of the root is the extreme vectors
+  pub all : (y : Vector) → InShare space root root y ↔ IsExtremeIn space y
   -- one cobasis shows a vector
   pub one : (key other : List ℕ) (y : Vector) → IsShownBy space root key y → IsShownBy space root other y → key ≡ other
   -- so two shares with one vector are those of keys of which one is under the other

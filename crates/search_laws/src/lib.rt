@@ -16,6 +16,7 @@ ghost use Rattle.search_laws.specs.PhaseEnds.{
   FeasibleFiles,
   RootsOfPoints,
 };
+ghost use Rattle.search_laws.specs.Starts.{MainHasStart, FeasibleFileHasRoot};
 ghost use Rattle.search_laws.specs.Shares.{ListsChildren, ParentsMakeATree, SharesHaveParts, RootHasAll, AnyTableServes};
 ghost use Rattle.search_laws.specs.Weights.{WeightsAddUp, RootWeighsAll};
 ghost use Rattle.search_laws.specs.Splits.{RunsSplit};
@@ -98,6 +99,16 @@ pub fn roots_of_points()
     ensures { RootsOfPoints }
 {}
 
+/// The start cobasis of a main space with a point has a dictionary.
+pub fn main_has_start()
+    ensures { MainHasStart }
+{}
+
+/// The main space of a feasible file has a feasible root.
+pub fn feasible_file_has_root()
+    ensures { FeasibleFileHasRoot }
+{}
+
 /// The children of a lexicographically feasible cobasis are a list, and whether a column has one can be decided.
 pub fn children_are_listed()
     ensures { ListsChildren }
@@ -134,7 +145,7 @@ pub fn runs_split()
     ensures { RunsSplit }
 {}
 
-/// In a share stands each vector once, and the rows that a visit shows are new.
+/// The share of the root is the extreme vectors; each stands in a share once, and the rows that a visit shows are new.
 pub fn shares_once()
     ensures { SharesOnce }
 {}

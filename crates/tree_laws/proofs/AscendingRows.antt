@@ -73,7 +73,7 @@ module _ (left : ℕ → Bool) (m j n : ℕ) (few : m < 8192) where
     left_ascend,
   )
 
-fewer : (p : Polyhedron) → length (cone_of p).rows < 8192 → length (file_rows p) < 8192
+pub fewer : (p : Polyhedron) → length (cone_of p).rows < 8192 → length (file_rows p) < 8192
 fewer p l = omega (arith, l, length-append (file_rows p) (added_row p.kind p.n (file_rows p)))
 
 main_ascends : (kind : Kind) (p : Polyhedron) (free : List ℕ) → length (cone_of p).rows < 8192 →

@@ -16,10 +16,12 @@ use Rattle.poly_model.specs.Spaces.{Space, IsInside}
 use Rattle.poly_model.specs.LexOrder.{rows_in}
 use Rattle.poly_model.specs.Tree.{IsExtremeIn}
 use Rattle.linear_laws.proofs.Entries.{coordinate_reads, zeros, first_reads}
-use Rattle.linear_laws.proofs.Members.{Contains-first}
+use Rattle.linear_laws.proofs.Members.{Contains-first, all_at}
 use Rattle.cone_laws.specs.Faces.{fixed_rows}
 use Rattle.cone_laws.proofs.RowLemmas.{LinearRowsVanish, fixed_vanish, zero_at_fixed, linear_from_fixed}
+use Rattle.cone_laws.proofs.ColumnLemmas.{zero_from_tight}
 use Rattle.cone_laws.proofs.FaceLemmas.{linear_vanish_in_cone}
+use Rattle.dictionary_laws.specs.Points.{RowsDetermine}
 use Rattle.dictionary_laws.proofs.MainRows.{same_in_cone}
 use Rattle.tree_laws.proofs.MainLabels.{main_in, meets_linear, meets_other, met_other, same_fixed, rows_from_forms, forms_from_rows}
 
@@ -99,6 +101,24 @@ module _ (p : Polyhedron) (kind : p.kind ≡ H) (free : List ℕ) (f : AreFreeCo
       (rows_from_forms rows sys.rows (same_in_cone p) few 1 p.n (λ g. pos 0 ≤ℤ (g · y)) met m l n))
       (cases_Bool (get_or rows m no_row).linear))
       (subst (λ (x : ℤ). pos 0 ≤ℤ x) (sym (infinity_reads y)) finite)
+
+  -- where a direction of the space is 0 on all rows, so it is on those of the cone: the rows determine a direction
+  all_tight : (z : Vector) → IsInside space z → space.infinity · z ≡ pos 0 →
+      ((i : ℕ) → Contains (rows_in space) i → space.form i · z ≡ pos 0) → All (IsTight z) sys.rows
+  all_tight z i top others =
+      all_rows (IsTight z)
+      (λ m l. ⊎_elim
+      (λ (t : (get_or rows m no_row).linear ≡ true). linear_at z i m l t)
+      (λ (n : (get_or rows m no_row).linear ≡ false).
+      rows_from_forms rows sys.rows (same_in_cone p) few 1 p.n (λ g. g · z ≡ pos 0) others m l n)
+      (cases_Bool (get_or rows m no_row).linear))
+      (infinity_reads z ∙ top)
+
+  pub rows_determine : RowsDetermine space
+  rows_determine z d v =
+      zero_from_tight sys z (IsInside.width d.inside)
+      (all_tight z d.inside d.level (all_at (λ k. space.form k · z ≡ pos 0) (rows_in space) v))
+      (λ j q. zero_at_fixed free sys z (by_fixed z (IsInside.fixed d.inside)) j ((f.exactly j).0 q))
 
   module _ (y : Vector) (e : IsExtremeIn space y) where
     pub extreme_of_space : IsExtreme sys y

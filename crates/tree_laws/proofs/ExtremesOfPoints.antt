@@ -18,10 +18,13 @@ use Rattle.poly_model.specs.Spaces.{Space, IsInside, in_front, label_form}
 use Rattle.poly_model.specs.LexOrder.{rows_in}
 use Rattle.poly_model.specs.Tree.{IsExtremeIn}
 use Rattle.linear_laws.proofs.Entries.{coordinate_reads}
+use Rattle.linear_laws.proofs.Members.{all_at}
 use Rattle.linear_laws.proofs.AllLemmas.{all_weaker, all_from_map, all_to_map}
 use Rattle.cone_laws.specs.Faces.{fixed_rows}
 use Rattle.cone_laws.proofs.RowLemmas.{LinearRowsVanish, fixed_vanish, zero_at_fixed, linear_from_fixed}
+use Rattle.cone_laws.proofs.ColumnLemmas.{zero_from_tight}
 use Rattle.cone_laws.proofs.FaceLemmas.{linear_vanish_in_cone}
+use Rattle.dictionary_laws.specs.Points.{RowsDetermine}
 use Rattle.tree_laws.proofs.MainLabels.{main_in, meets_linear, meets_other, met_other, same_fixed, rows_from_forms, forms_from_rows}
 
 -- ---- a vector with an entry in front
@@ -96,6 +99,24 @@ module _ (p : Polyhedron) (free : List ℕ) (f : AreFreeColumns (cone_of p) free
   facts_of_forms P x z h i c =
       subst P (sym (front_value (label_form rows i) x z))
       (forms_from_rows rows rows (λ m l. refl) few 0 p.n (λ g. P (g · z)) h i c)
+
+  -- ---- a direction that is 0 on all rows of the space is so on those of the cone: the rows determine a direction
+  all_tight : (x : ℤ) (z : Vector) → IsInside space (x ∷ z) →
+      ((i : ℕ) → Contains (rows_in space) i → space.form i · (x ∷ z) ≡ pos 0) → All (IsTight z) rows
+  all_tight x z i others = All-from_get_or (IsTight z) rows no_row (λ m l. ⊎_elim
+      (λ (t : (get_or rows m no_row).linear ≡ true).
+      linear_from_fixed free sys z (by_fixed x z i.fixed) m no_row l t)
+      (λ (n : (get_or rows m no_row).linear ≡ false). form_facts (λ v. v ≡ pos 0) x z others m l n)
+      (cases_Bool (get_or rows m no_row).linear))
+
+  pub rows_determine : RowsDetermine space
+  rows_determine [] d v = absurd (let w = IsInside.width d.inside in omega arith)
+  rows_determine (x ∷ z) d v = (
+    sym (first_value x z) ∙ d.level,
+    zero_from_tight sys z (let w = IsInside.width d.inside in omega arith)
+        (all_tight x z d.inside (all_at (λ k. space.form k · (x ∷ z) ≡ pos 0) (rows_in space) v))
+        (λ j q. zero_at_fixed free sys z (by_fixed x z (IsInside.fixed d.inside)) j ((f.exactly j).0 q)),
+  )
 
   -- ---- from the cone to the space
   module _ (y : Vector) (e : IsExtreme sys y) where
