@@ -42,6 +42,7 @@ pub mod ExtremesOfInequalities
 pub mod ExtremesOfPoints
 pub mod MainExtremes
 pub mod AscendingRows
+pub mod ReverseSearch
 pub mod KnownTables
 pub mod KnownTests
 pub mod KnownSquare

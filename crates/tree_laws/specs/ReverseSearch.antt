@@ -1,7 +1,8 @@
 -- Reverse search is complete, and shows nothing twice: the laws of the tree of cobases under one root.
-use Rattle.std.specs.Prelude.{◌≡◌, ℕ, List, Option}
+use Rattle.std.specs.Prelude.{◌≡◌, ◌<◌, ℕ, List, Option, length}
 use Rattle.poly_num.specs.Vectors.{Vector}
-use Rattle.poly_model.specs.Spaces.{Space}
+use Rattle.poly_model.specs.Systems.{Polyhedron, cone_of}
+use Rattle.poly_model.specs.Spaces.{Space, main_space, lifted}
 use Rattle.poly_model.specs.Dictionaries.{Table}
 use Rattle.poly_model.specs.LexOrder.{rows_in}
 use Rattle.poly_model.specs.Tree.{IsFeasibleRoot, IsLexFeasible, IsNeighbour, IsParent, IsAbove, IsUnder, IsShownAt, IsExtremeIn}
@@ -38,3 +39,15 @@ abbrev pub ReverseSearch : Type 0
 ReverseSearch =
     (space : Space) (root : List ℕ) (home : Table) → AreDistinct (rows_in space) → IsFeasibleRoot space root home →
     IsSearched space root home
+
+-- so it is in the spaces in which a polyhedron is searched, of the phases main and first. No label of a row may be that
+-- of a coordinate
+pub record SearchesPolyhedron (p : Polyhedron) (free : List ℕ) : Type 0 where
+  pub main : (root : List ℕ) (home : Table) → IsFeasibleRoot (main_space p free) root home →
+      IsSearched (main_space p free) root home
+  pub first : (start root : List ℕ) (home : Table) → IsFeasibleRoot (lifted (main_space p free) start) root home →
+      IsSearched (lifted (main_space p free) start) root home
+
+abbrev pub ReverseSearchOfPolyhedra : Type 0
+ReverseSearchOfPolyhedra =
+    (p : Polyhedron) (free : List ℕ) → length (cone_of p).rows < 8192 → SearchesPolyhedron p free

@@ -4,7 +4,7 @@
 //! every root that has a dictionary there; where parents end, of every feasible root.
 #![tactic(auto)]
 
-ghost use Rattle.tree_laws.specs.ReverseSearch.{ReverseSearch};
+ghost use Rattle.tree_laws.specs.ReverseSearch.{ReverseSearch, ReverseSearchOfPolyhedra};
 ghost use Rattle.tree_laws.specs.Laws.{
   ListsAreNotZero,
   NoTies,
@@ -45,6 +45,11 @@ ghost use Rattle.tree_laws.specs.Extremes.{ExtremesOfMain, RowsAscend};
 /// "A pivoting algorithm for convex hulls and vertex enumeration of arrangements and polyhedra", 1992).
 pub fn reverse_search()
     ensures { ReverseSearch }
+{}
+
+/// So it is of each polyhedron, in the spaces of the phases `main` and `first`.
+pub fn reverse_search_of_polyhedra()
+    ensures { ReverseSearchOfPolyhedra }
 {}
 
 /// No list of a row outside the key is zero.
