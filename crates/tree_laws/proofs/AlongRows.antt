@@ -1,9 +1,7 @@
 -- The descent along given rows: from each lexicographically feasible cobasis one is reached in which no column is
 -- negative on them, at the first of the rows that is not 0 in the column.
-use Rattle.std.proofs.Common.{◌⊎◌, inl, inr, ⊎_elim, ℕ, List, ℤ, pos, neg_ℤ, map, refl, arith}
-use Rattle.std.specs.Prelude.{◌<ℤ◌}
+use Rattle.std.proofs.Common.{◌⊎◌, inl, inr, ⊎_elim, ℕ, List, neg_ℤ, map, refl}
 use Rattle.std.specs.List.{Contains}
-use Rattle.poly_num.proofs.Ring.{lin}
 use Rattle.poly_model.specs.Spaces.{Space}
 use Rattle.poly_model.specs.Dictionaries.{Table}
 use Rattle.poly_model.specs.LexOrder.{IsNonnegative, IsPositive, rows_in}
@@ -14,9 +12,7 @@ use Rattle.tree_laws.proofs.Least.{some_leaves}
 use Rattle.tree_laws.proofs.Neighbours.{key_entry, neighbour_exchanges, neighbour_dictionary, neighbour_feasible}
 use Rattle.tree_laws.proofs.Falls.{falls}
 use Rattle.tree_laws.proofs.Chains.{State, IsLower, by_falls}
-
-negative_of : (x : ℤ) → pos 0 <ℤ neg_ℤ x → x <ℤ pos 0
-negative_of x h = omega (arith, lin)
+use Rattle.tree_laws.proofs.Parents.{negative_of}
 
 module _ (space : Space) (root : List ℕ) (home : Table) (h : IsRowDictionary space root home) (qs : List ℕ)
     (rows : (q : ℕ) → Contains qs q → Contains (rows_in space) q) where

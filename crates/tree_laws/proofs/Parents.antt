@@ -29,7 +29,7 @@ use Rattle.tree_laws.proofs.Neighbours.{levels_nonnegative, key_entry, one_neigh
 use Rattle.tree_laws.proofs.AnyTable.{parent_too}
 use Rattle.tree_laws.proofs.Roots.{root_is_feasible}
 
-negative_of : (x : ℤ) → pos 0 <ℤ neg_ℤ x → x <ℤ pos 0
+pub negative_of : (x : ℤ) → pos 0 <ℤ neg_ℤ x → x <ℤ pos 0
 negative_of x h = omega (arith, lin)
 
 module _ (space : Space) (root key : List ℕ) (t : Table) (d : IsRowDictionary space key t) where
@@ -62,7 +62,7 @@ module _ (space : Space) (root key : List ℕ) (t : Table) (d : IsRowDictionary 
       )
 
 -- ---- where no column may enter, the key is the root
-same_places : (f : Option ℕ → ℤ) (ks : List ℕ) → map f (map Some ks) ≡ map (λ k. f (Some k)) ks
+pub same_places : (f : Option ℕ → ℤ) (ks : List ℕ) → map f (map Some ks) ≡ map (λ k. f (Some k)) ks
 same_places f [] = refl
 same_places f (k ∷ ks) = ap (λ xs. f (Some k) ∷ xs) (same_places f ks)
 

@@ -23,10 +23,7 @@ use Rattle.tree_laws.proofs.KeyLaw.{key_law}
 use Rattle.tree_laws.proofs.NotZero.{level_is_nonzero}
 use Rattle.tree_laws.proofs.Neighbours.{levels_nonnegative}
 use Rattle.tree_laws.proofs.Ends.{IsGone, ends_of_lists}
-
-same_places : (f : Option ℕ → ℤ) (ks : List ℕ) → map f (map Some ks) ≡ map (λ k. f (Some k)) ks
-same_places f [] = refl
-same_places f (k ∷ ks) = ap (λ xs. f (Some k) ∷ xs) (same_places f ks)
+use Rattle.tree_laws.proofs.Parents.{same_places}
 
 sum-append : (ks ls : List ℕ) (f : ℕ → ℤ) → sum_over (ks ++ ls) f ≡ sum_over ks f +ℤ sum_over ls f
 sum-append [] ls f = omega (arith, lin)
