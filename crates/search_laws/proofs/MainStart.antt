@@ -76,7 +76,7 @@ module _ (p : Polyhedron) (free : List ℕ) (f : AreFreeColumns (cone_of p) free
   pub main_start : HasPoints (main_space p free) → (start : List ℕ) → IsStartCobasis (main_space p free) start →
       (t : Table) × IsRowDictionary (main_space p free) start t
   main_start h start s =
-      start_dictionary (main_space p free) h (main_rows_ascend p free few).ascending (rows_of_kind p.kind refl) start s
+      start_dictionary (main_space p free) h (main_rows_ascend p free).ascending (rows_of_kind p.kind refl) start s
 
   some_start : HasPoints (main_space p free) →
       (start : List ℕ) × (t : Table) × IsRowDictionary (main_space p free) start t

@@ -1,6 +1,7 @@
 -- The rows of the spaces of the phases main and first ascend.
-use Rattle.std.proofs.Common.{ℕ, Bool, zero, suc, ◌+◌, ◌≤◌, ◌<◌, List, [], ◌∷◌, ◌++◌, length, arith}
-use Rattle.std.specs.List.{AllByRecursion, Contains, filter, range_with_len}
+use Rattle.std.proofs.Common.{◌≡◌, ℕ, Bool, true, false, cond, zero, suc, ◌+◌, ◌<◌, List, [], ◌∷◌, ◌++◌, length, refl, sym, ap, subst, ◌∙◌, arith}
+use Rattle.std.specs.List.{Contains, filter, range_with_len}
+use Rattle.std.proofs.lemmas.Bool.{le-ltb, cond-false}
 use Rattle.std.proofs.lemmas.List.{length-append}
 use Rattle.poly_model.specs.declared.kind.Kind.{Kind}
 use Rattle.poly_model.specs.declared.kind.Kind.TheVariants.{H, V}
@@ -8,8 +9,8 @@ use Rattle.poly_model.specs.Keys.{IsAscending}
 use Rattle.poly_model.specs.Systems.{Polyhedron, file_rows, cone_of, added_row}
 use Rattle.poly_model.specs.Spaces.{Space, is_row, is_left, labels_of, lifted, main_space}
 use Rattle.poly_model.specs.LexOrder.{rows_in}
-use Rattle.linear_laws.proofs.Members.{all_at}
-use Rattle.linear_laws.proofs.AllLemmas.{all_both, all_weaker}
+use Rattle.linear_laws.proofs.Members.{Contains-first, Contains-later, all_at}
+use Rattle.linear_laws.proofs.AllLemmas.{all_both}
 use Rattle.dictionary_laws.specs.Coordinates.{coordinate_key}
 use Rattle.dictionary_laws.proofs.Members.{all_from}
 use Rattle.dictionary_laws.proofs.Filters.{filter_only, range_only}
@@ -19,7 +20,7 @@ use Rattle.tree_laws.specs.Extremes.{HasAscendingRows}
 use Rattle.tree_laws.proofs.OrderLemmas.{ascending_filter}
 use Rattle.tree_laws.proofs.MainLabels.{main_in}
 
--- ---- labels from 1 on, and those of coordinates behind them
+-- ---- labels in a row
 ascending_range : (a n : ℕ) → IsAscending (range_with_len a n)
 ascending_range a zero = tt
 ascending_range a (suc n) = (
@@ -28,23 +29,36 @@ ascending_range a (suc n) = (
   ascending_range (a + 1) n,
 )
 
--- all of the first are below a bound, and all of the others are not
-ascending_joined : (bound : ℕ) (ks ls : List ℕ) → IsAscending ks → IsAscending ls →
-    AllByRecursion (λ k. k < bound) ks → AllByRecursion (λ k. bound ≤ k) ls → IsAscending (ks ++ ls)
-ascending_joined bound [] ls h g below from = g
-ascending_joined bound (x ∷ ks) ls h g below from =
-    let first : x < bound = below.0 in (
-      all_both (λ k. x < k) ks ls h.0
-          (all_weaker (λ k. bound ≤ k) (λ k. x < k) (λ k l. omega arith) ls from),
-      ascending_joined bound ks ls h.1 g below.1 from,
-    )
+-- ---- the labels of coordinates are none of rows
+filter-append : (test : ℕ → Bool) (ks ls : List ℕ) → filter test (ks ++ ls) ≡ filter test ks ++ filter test ls
+filter-append test [] ls = refl
+filter-append test (k ∷ ks) ls = by (test k) (filter-append test ks ls)
+  where
+    by : (b : Bool) → filter test (ks ++ ls) ≡ filter test ks ++ filter test ls →
+        cond b (k ∷ filter test (ks ++ ls)) (filter test (ks ++ ls))
+        ≡ cond b (k ∷ filter test ks) (filter test ks) ++ filter test ls
+    by true e = ap (λ l. k ∷ l) e
+    by false e = e
 
-ascending_labels : (m j n : ℕ) → m < 8192 → IsAscending (labels_of m j n)
-ascending_labels m j n few =
-    ascending_joined 8192 (range_with_len 1 m) (coordinate_key j n) (ascending_range 1 m)
-    (coordinate_keys j n).ascending
-    (all_from (λ k. k < 8192) (range_with_len 1 m) (λ k c. let h = (range_only 1 m k c).1 in omega arith))
-    (all_from (λ k. 8192 ≤ k) (coordinate_key j n) (coordinate_keys j n).coordinates)
+filter_none : (test : ℕ → Bool) (ls : List ℕ) → ((k : ℕ) → Contains ls k → test k ≡ false) → filter test ls ≡ []
+filter_none test [] h = refl
+filter_none test (k ∷ ls) h =
+    cond-false (test k) (k ∷ filter test ls) (filter test ls) (h k (Contains-first k ls))
+    ∙ filter_none test ls (λ j c. h j (Contains-later j k ls c))
+
+append_nil : (ks : List ℕ) → ks ++ [] ≡ ks
+append_nil [] = refl
+append_nil (k ∷ ks) = ap (λ l. k ∷ l) (append_nil ks)
+
+rows_left : (left : ℕ → Bool) (m j n : ℕ) →
+    filter is_row (filter left (labels_of m j n)) ≡ filter is_row (filter left (range_with_len 1 m))
+rows_left left m j n =
+    ap (λ l. filter is_row l) (filter-append left (range_with_len 1 m) (coordinate_key j n))
+    ∙ filter-append is_row (filter left (range_with_len 1 m)) (filter left (coordinate_key j n))
+    ∙ ap (λ l. filter is_row (filter left (range_with_len 1 m)) ++ l)
+    (filter_none is_row (filter left (coordinate_key j n)) (λ k c.
+    le-ltb k 8192 ((coordinate_keys j n).coordinates k (filter_only left (coordinate_key j n) k c).0)))
+    ∙ append_nil (filter is_row (filter left (range_with_len 1 m)))
 
 pub positive_labels : (m j n k : ℕ) → Contains (labels_of m j n) k → 0 < k
 positive_labels m j n k c =
@@ -59,11 +73,12 @@ from_ascending : (space : Space) → IsAscending (rows_in space) → HasAscendin
 from_ascending space a = record { ascending = a; distinct = ascending_distinct (rows_in space) a }
 
 -- some of such labels, and row 0 in front of them
-module _ (left : ℕ → Bool) (m j n : ℕ) (few : m < 8192) where
+module _ (left : ℕ → Bool) (m j n : ℕ) where
   left_ascend : IsAscending (filter is_row (filter left (labels_of m j n)))
   left_ascend =
-      ascending_filter is_row (filter left (labels_of m j n))
-      (ascending_filter left (labels_of m j n) (ascending_labels m j n few))
+      subst IsAscending (sym (rows_left left m j n))
+      (ascending_filter is_row (filter left (range_with_len 1 m))
+      (ascending_filter left (range_with_len 1 m) (ascending_range 1 m)))
 
   zero_ascends : IsAscending (0 ∷ filter is_row (filter left (labels_of m j n)))
   zero_ascends = (
@@ -76,26 +91,26 @@ module _ (left : ℕ → Bool) (m j n : ℕ) (few : m < 8192) where
 pub fewer : (p : Polyhedron) → length (cone_of p).rows < 8192 → length (file_rows p) < 8192
 fewer p l = omega (arith, l, length-append (file_rows p) (added_row p.kind p.n (file_rows p)))
 
-main_ascends : (kind : Kind) (p : Polyhedron) (free : List ℕ) → length (cone_of p).rows < 8192 →
+main_ascends : (kind : Kind) (p : Polyhedron) (free : List ℕ) →
     HasAscendingRows (main_in kind p free)
-main_ascends H p free l =
-    from_ascending (main_in H p free) (left_ascend (is_left (cone_of p).rows) (length (file_rows p)) 1 p.n (fewer p l))
-main_ascends V p free l =
-    from_ascending (main_in V p free) (left_ascend (is_left (cone_of p).rows) (length (cone_of p).rows) 0 p.n l)
+main_ascends H p free =
+    from_ascending (main_in H p free) (left_ascend (is_left (cone_of p).rows) (length (file_rows p)) 1 p.n)
+main_ascends V p free =
+    from_ascending (main_in V p free) (left_ascend (is_left (cone_of p).rows) (length (cone_of p).rows) 0 p.n)
 
-first_ascends : (kind : Kind) (p : Polyhedron) (free start : List ℕ) → length (cone_of p).rows < 8192 →
+first_ascends : (kind : Kind) (p : Polyhedron) (free start : List ℕ) →
     HasAscendingRows (lifted (main_in kind p free) start)
-first_ascends H p free start l =
+first_ascends H p free start =
     from_ascending (lifted (main_in H p free) start)
-    (zero_ascends (is_left (cone_of p).rows) (length (file_rows p)) 1 p.n (fewer p l))
-first_ascends V p free start l =
+    (zero_ascends (is_left (cone_of p).rows) (length (file_rows p)) 1 p.n)
+first_ascends V p free start =
     from_ascending (lifted (main_in V p free) start)
-    (zero_ascends (is_left (cone_of p).rows) (length (cone_of p).rows) 0 p.n l)
+    (zero_ascends (is_left (cone_of p).rows) (length (cone_of p).rows) 0 p.n)
 
-pub main_rows_ascend : (p : Polyhedron) (free : List ℕ) → length (cone_of p).rows < 8192 →
+pub main_rows_ascend : (p : Polyhedron) (free : List ℕ) →
     HasAscendingRows (main_space p free)
-main_rows_ascend p free l = main_ascends p.kind p free l
+main_rows_ascend p free = main_ascends p.kind p free
 
-pub first_rows_ascend : (p : Polyhedron) (free start : List ℕ) → length (cone_of p).rows < 8192 →
+pub first_rows_ascend : (p : Polyhedron) (free start : List ℕ) →
     HasAscendingRows (lifted (main_space p free) start)
-first_rows_ascend p free start l = first_ascends p.kind p free start l
+first_rows_ascend p free start = first_ascends p.kind p free start

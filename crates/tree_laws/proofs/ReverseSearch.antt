@@ -1,6 +1,6 @@
 -- Reverse search is complete, and shows nothing twice: the laws of the tree together.
-use Rattle.std.proofs.Common.{ℕ, List, ◌<◌, length}
-use Rattle.poly_model.specs.Systems.{Polyhedron, cone_of}
+use Rattle.std.proofs.Common.{ℕ, List}
+use Rattle.poly_model.specs.Systems.{Polyhedron}
 use Rattle.poly_model.specs.Spaces.{Space, main_space, lifted}
 use Rattle.poly_model.specs.Dictionaries.{Table}
 use Rattle.poly_model.specs.LexOrder.{rows_in}
@@ -33,10 +33,10 @@ reverse_search space root home distinct h = record {
   only_extreme = λ key t place y f s. only_extreme space root key t place y f s;
 }
 
-pub search_of_polyhedron : (p : Polyhedron) (free : List ℕ) → length (cone_of p).rows < 8192 →
+pub search_of_polyhedron : (p : Polyhedron) (free : List ℕ) →
     SearchesPolyhedron p free
-search_of_polyhedron p free few = record {
-  main = λ root home h. reverse_search (main_space p free) root home (main_rows_ascend p free few).distinct h;
+search_of_polyhedron p free = record {
+  main = λ root home h. reverse_search (main_space p free) root home (main_rows_ascend p free).distinct h;
   first = λ start root home h.
-      reverse_search (lifted (main_space p free) start) root home (first_rows_ascend p free start few).distinct h;
+      reverse_search (lifted (main_space p free) start) root home (first_rows_ascend p free start).distinct h;
 }

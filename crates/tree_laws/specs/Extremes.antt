@@ -31,5 +31,5 @@ pub record HasAscendingRows (space : Space) : Type 0 where
 
 abbrev pub RowsAscend : Type 0
 RowsAscend =
-    (p : Polyhedron) (free start : List ℕ) → length (cone_of p).rows < 8192 →
+    (p : Polyhedron) (free start : List ℕ) →
     HasAscendingRows (main_space p free) × HasAscendingRows (lifted (main_space p free) start)

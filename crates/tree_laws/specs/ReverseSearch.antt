@@ -1,7 +1,7 @@
 -- Reverse search is complete, and shows nothing twice: the laws of the tree of cobases under one root.
-use Rattle.std.specs.Prelude.{◌≡◌, ◌<◌, ℕ, List, Option, length}
+use Rattle.std.specs.Prelude.{◌≡◌, ℕ, List, Option}
 use Rattle.poly_num.specs.Vectors.{Vector}
-use Rattle.poly_model.specs.Systems.{Polyhedron, cone_of}
+use Rattle.poly_model.specs.Systems.{Polyhedron}
 use Rattle.poly_model.specs.Spaces.{Space, main_space, lifted}
 use Rattle.poly_model.specs.Dictionaries.{Table}
 use Rattle.poly_model.specs.LexOrder.{rows_in}
@@ -40,8 +40,7 @@ ReverseSearch =
     (space : Space) (root : List ℕ) (home : Table) → AreDistinct (rows_in space) → IsFeasibleRoot space root home →
     IsSearched space root home
 
--- so it is in the spaces in which a polyhedron is searched, of the phases main and first. No label of a row may be that
--- of a coordinate
+-- so it is in the spaces in which a polyhedron is searched, of the phases main and first
 pub record SearchesPolyhedron (p : Polyhedron) (free : List ℕ) : Type 0 where
   pub main : (root : List ℕ) (home : Table) → IsFeasibleRoot (main_space p free) root home →
       IsSearched (main_space p free) root home
@@ -50,4 +49,4 @@ pub record SearchesPolyhedron (p : Polyhedron) (free : List ℕ) : Type 0 where
 
 abbrev pub ReverseSearchOfPolyhedra : Type 0
 ReverseSearchOfPolyhedra =
-    (p : Polyhedron) (free : List ℕ) → length (cone_of p).rows < 8192 → SearchesPolyhedron p free
+    (p : Polyhedron) (free : List ℕ) → SearchesPolyhedron p free
