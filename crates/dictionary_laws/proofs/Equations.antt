@@ -7,7 +7,8 @@ use Rattle.poly_num.proofs.Ring.{lin, mul_comm}
 use Rattle.poly_num.proofs.Order.{zero_factor, positive_nonzero}
 use Rattle.poly_model.specs.Spaces.{Space}
 use Rattle.poly_model.specs.Dictionaries.{Table, Writes, sum_over}
-use Rattle.dictionary_laws.specs.Points.{HasPointOn, AreSettled}
+use Rattle.poly_model.specs.Equations.{HasPointOn}
+use Rattle.dictionary_laws.specs.Points.{AreSettled}
 use Rattle.dictionary_laws.proofs.Members.{contains_or, sum_zero}
 use Rattle.dictionary_laws.proofs.Values.{terms}
 use Rattle.dictionary_laws.proofs.Directions.{times_zero, zero_times}

@@ -16,7 +16,8 @@ use Rattle.poly_model.specs.Dictionaries.{Table, IsDictionary}
 use Rattle.linear_laws.proofs.Members.{Contains-first, Contains-later, Contains-nil}
 use Rattle.dictionary_laws.specs.Coordinates.{coordinate_table}
 use Rattle.dictionary_laws.specs.Points.{AreSettled}
-use Rattle.dictionary_laws.specs.MainSpace.{equations_of, stays, CanEnterMain, EntersMain}
+use Rattle.poly_model.specs.Equations.{equation_labels}
+use Rattle.dictionary_laws.specs.MainSpace.{stays, CanEnterMain, EntersMain}
 use Rattle.dictionary_laws.proofs.Members.{by_cases, contains_cases}
 use Rattle.dictionary_laws.proofs.CoordinateDictionary.{coordinate_dictionary}
 use Rattle.dictionary_laws.proofs.CoordinateSpaces.{phase_coordinates, coordinate_keys}
@@ -46,7 +47,7 @@ table = coordinate_table (prepare_space file) key
 abbrev free : List ℕ
 free = 2 ∷ []
 
-row_1_is_an_equation : equations_of file ≡ 1 ∷ []
+row_1_is_an_equation : equation_labels file ≡ 1 ∷ []
 row_1_is_an_equation = refl
 
 x1_stays : filter (stays file free) key ≡ 8193 ∷ []
@@ -126,7 +127,7 @@ entered = main_dictionary file free key table (omega arith) dictionary can_enter
 abbrev other : Polyhedron
 other = file_with (pos 0 ∷ pos 1 ∷ pos 0 ∷ [])
 
-not_settled : AreSettled key (coordinate_table (prepare_space other) key) (equations_of other) → ⊥
+not_settled : AreSettled key (coordinate_table (prepare_space other) key) (equation_labels other) → ⊥
 not_settled h =
     let e : pos 1 ≡ pos 0 = h 1 8193 (Contains-first 1 []) (Contains-first 8193 (8194 ∷ []))
     (λ c. ⊎_elim (λ (f : 8193 ≡ 1). absurd (omega arith)) (Contains-nil 8193) (contains_cases 1 [] 8193 c)) in

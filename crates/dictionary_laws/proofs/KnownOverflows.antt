@@ -183,7 +183,7 @@ row_1_outside c =
 passes : Passes (file (2 ^ 64) (2 ^ 63)) overflow
 passes = record {
   space = space (2 ^ 64) (2 ^ 63);
-  phase = refl;
+  is_space = refl;
   point = (phase_points (file (2 ^ 64) (2 ^ 63))).prepare (omega arith);
   table = table (2 ^ 64) (2 ^ 63);
   dictionary = dictionary (2 ^ 64) (2 ^ 63);
@@ -226,7 +226,7 @@ crosses_along a b c d e f g h i j k l m = rw (← i, ← j, ← k, ← l) m
 passes_not : Passes (file (2 ^ 127 - 1) 1) overflow → ⊥
 passes_not h =
     let d : IsDictionary (space (2 ^ 127 - 1) 1) key h.table =
-    subst (λ (s : Space). IsDictionary s key h.table) h.phase h.dictionary in
+    subst (λ (s : Space). IsDictionary s key h.table) h.is_space h.dictionary in
     h.passing.passes (crosses_along (pos (2 ^ 127 - 1)) (pos 1) (pos 0) (pos 0)
     (h.table.entry 1 8193) (h.table.entry 2 8194) (h.table.entry 2 8193) (h.table.entry 1 8194)
     (entry_is h.table d 1 8193 (has_row_1 (2 ^ 127 - 1) 1) (Contains-first 8193 (8194 ∷ [])))

@@ -12,7 +12,8 @@ use Rattle.poly_model.specs.Cones.{coordinate}
 use Rattle.poly_model.specs.Spaces.{coordinate_label, is_row, label_form, linear_rows}
 use Rattle.linear_laws.proofs.AllLemmas.{all_left, all_right, all_both, all_from_map, all_to_map}
 use Rattle.linear_laws.proofs.Members.{all_at}
-use Rattle.dictionary_laws.specs.MainSpace.{equations_of}
+use Rattle.poly_model.specs.Equations.{equation_labels}
+use Rattle.poly_model.proofs.RowLemmas.{row_from_one}
 use Rattle.dictionary_laws.proofs.Members.{all_from}
 use Rattle.dictionary_laws.proofs.Filters.{filter_only, filter_kept, range_only, range_has, map_only, map_has}
 use Rattle.dictionary_laws.proofs.CoordinateSpaces.{coordinate_form}
@@ -92,20 +93,20 @@ module _ (p : Polyhedron) where
     pub within : i < 1 + length p.rows
     pub linear : (row_of (file_rows p) i).linear ≡ true
 
-  pub equation_only : (i : ℕ) → Contains (equations_of p) i → IsEquation i
+  pub equation_only : (i : ℕ) → Contains (equation_labels p) i → IsEquation i
   equation_only i c =
       let h = filter_only (λ k. (row_of (file_rows p) k).linear) (range_with_len 1 (length p.rows)) i c in
       let l = range_only 1 (length p.rows) i h.0 in
       record { some = l.0; within = l.1; linear = h.1 }
 
-  pub equation_has : (i : ℕ) → IsEquation i → Contains (equations_of p) i
+  pub equation_has : (i : ℕ) → IsEquation i → Contains (equation_labels p) i
   equation_has i e =
       filter_kept (λ k. (row_of (file_rows p) k).linear) (range_with_len 1 (length p.rows)) i
       (range_has 1 (length p.rows) i e.some e.within) e.linear
 
   -- the labels that are 0 in the main space
   abbrev pub gone : List ℕ → List ℕ
-  gone free = map coordinate_label free ++ equations_of p
+  gone free = map coordinate_label free ++ equation_labels p
 
   -- its fixed rows
   abbrev pub fixed_rows : List ℕ → List Vector
@@ -118,7 +119,8 @@ module _ (p : Polyhedron) where
         let l = e.some in
         let m = e.within in
         cond-true (is_row i) (row_of rows i).entries (coordinate (i - 8192)) (lt-ltb i 8192 (omega arith))
-        ∙ ap (λ (row : Row). row.entries) (same (i - 1) (omega (arith, count_of_rows)))
+        ∙ ap (λ (row : Row). row.entries) (row_from_one rows i l ∙ same (i - 1) (omega (arith, count_of_rows))
+        ∙ sym (row_from_one (file_rows p) i l))
 
     -- a fact of the fixed rows is one of the forms of these labels
     pub gone_from_fixed : (P : Vector → Type 0) → AllByRecursion P (fixed_rows free) →
@@ -132,12 +134,15 @@ module _ (p : Polyhedron) where
         (all_at (λ k. P (coordinate k)) free
         (all_from_map P coordinate free (all_left P (map coordinate free) (linear_rows (file_rows p)) h))
         j.0 j.1)))
-        (λ (d : Contains (equations_of p) i).
+        (λ (d : Contains (equation_labels p) i).
         let e = equation_only i d in
+        let here = row_from_one (file_rows p) i e.some in
         subst P (sym (equation_form i e))
+        (subst (λ (row : Row). P row.entries) (sym here)
         (each_from_linear P (file_rows p)
-        (all_right P (map coordinate free) (linear_rows (file_rows p)) h) (i - 1) e.linear))
-        (Contains-append_cases (map coordinate_label free) (equations_of p) i c)
+        (all_right P (map coordinate free) (linear_rows (file_rows p)) h) (i - 1)
+        (ap (λ (row : Row). row.linear) (sym here) ∙ e.linear))))
+        (Contains-append_cases (map coordinate_label free) (equation_labels p) i c)
 
     pub fixed_from_gone : (P : Vector → Type 0) →
         ((i : ℕ) → Contains (gone free) i → P (label_form rows i)) → AllByRecursion P (fixed_rows free)
@@ -146,21 +151,19 @@ module _ (p : Polyhedron) where
         (all_to_map P coordinate free (all_from (λ j. P (coordinate j)) free (λ j c.
         subst P (coordinate_form rows j)
         (h (coordinate_label j)
-        (Contains-append_left (map coordinate_label free) (equations_of p) (coordinate_label j)
+        (Contains-append_left (map coordinate_label free) (equation_labels p) (coordinate_label j)
         (map_has coordinate_label free j c))))))
         (linear_from_each P (file_rows p) (λ m l e. row_after m l e))
       where
         row_after : (m : ℕ) → m < length (file_rows p) → (get_or (file_rows p) m no_row).linear ≡ true →
             P (get_or (file_rows p) m no_row).entries
         row_after m l e =
-            let back : suc m - 1 ≡ m = omega arith in
             let q : IsEquation (suc m) = record {
               some = omega arith;
               within = omega (arith, l, count_of_rows);
-              linear = ap (λ i. (get_or (file_rows p) i no_row).linear) back ∙ e;
+              linear = e;
             } in
-            subst (λ (i : ℕ). P (get_or (file_rows p) i no_row).entries) back
-            (subst P (equation_form (suc m) q)
+            subst P (equation_form (suc m) q)
             (h (suc m)
-            (Contains-append_right (map coordinate_label free) (equations_of p) (suc m)
-            (equation_has (suc m) q))))
+            (Contains-append_right (map coordinate_label free) (equation_labels p) (suc m)
+            (equation_has (suc m) q)))

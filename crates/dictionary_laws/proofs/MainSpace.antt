@@ -12,9 +12,12 @@ use Rattle.poly_model.specs.Systems.{Row, row_of, Polyhedron, file_rows, added_r
 use Rattle.poly_model.specs.Spaces.{Space, IsInside, HasPoints, coordinate_label, is_row, is_left, is_member, labels_of, in_front, cut_space, prepare_space, main_space}
 use Rattle.poly_model.specs.Dictionaries.{Table, IsCobasis, Writes, IsDictionary}
 use Rattle.linear_laws.proofs.AllLemmas.{all_from_map, all_to_map}
+use Rattle.poly_model.proofs.RowLemmas.{row_from_one}
 use Rattle.dictionary_laws.specs.Numbers.{IsOwnRow}
-use Rattle.dictionary_laws.specs.Points.{HasPointOn, AreSettled}
-use Rattle.dictionary_laws.specs.MainSpace.{equations_of, stays, CanEnterMain, EntersMain}
+use Rattle.poly_model.specs.Equations.{HasPointOn}
+use Rattle.dictionary_laws.specs.Points.{AreSettled}
+use Rattle.poly_model.specs.Equations.{equation_labels}
+use Rattle.dictionary_laws.specs.MainSpace.{stays, CanEnterMain, EntersMain}
 use Rattle.dictionary_laws.proofs.Filters.{filter_only, filter_kept, range_only, range_has, map_only, map_has, member_only, member_has}
 use Rattle.dictionary_laws.proofs.Values.{is_label, own_row}
 use Rattle.dictionary_laws.proofs.Origins.{some_origin}
@@ -60,12 +63,14 @@ module _ (p : Polyhedron) (few : length p.rows < 8192) (free : List ℕ) where
       of_row : is_row k ≡ true → Contains (gone p free) k
       of_row b =
           let linear = not-false (row_of (cone_of p).rows k).linear (sym (row_stays k b) ∙ e) in
-          let within = linear_in_file p (k - 1) linear in
-          Contains-append_right (map coordinate_label free) (equations_of p) k
+          let here = row_from_one (cone_of p).rows k positive in
+          let within = linear_in_file p (k - 1) (ap (λ (row : Row). row.linear) (sym here) ∙ linear) in
+          Contains-append_right (map coordinate_label free) (equation_labels p) k
           (equation_has p k (record {
             some = positive;
             within = omega (arith, within, count_of_rows p);
-            linear = ap (λ (row : Row). row.linear) (sym (same_in_cone p (k - 1) within)) ∙ linear;
+            linear = ap (λ (row : Row). row.linear)
+                (row_from_one (file_rows p) k positive ∙ sym (same_in_cone p (k - 1) within) ∙ sym here) ∙ linear;
           }))
 
       of_coordinate : is_row k ≡ false → Contains (gone p free) k
@@ -73,14 +78,14 @@ module _ (p : Polyhedron) (few : length p.rows < 8192) (free : List ℕ) where
           let member = not-false (is_member (k - 8192) free) (sym (coordinate_stays k b) ∙ e) in
           let l = ltb-false k 8192 b in
           let there : coordinate_label (k - 8192) ≡ k = omega arith in
-          Contains-append_left (map coordinate_label free) (equations_of p) k
+          Contains-append_left (map coordinate_label free) (equation_labels p) k
           (subst (λ (i : ℕ). Contains (map coordinate_label free) i) there
           (map_has coordinate_label free (k - 8192) (member_only (k - 8192) free member)))
 
   not_gone_if : (k : ℕ) → stays p free k ≡ true → Contains (gone p free) k → ⊥
   not_gone_if k e c =
       ⊎_elim of_coordinate of_row
-      (Contains-append_cases (map coordinate_label free) (equations_of p) k c)
+      (Contains-append_cases (map coordinate_label free) (equation_labels p) k c)
     where
       of_coordinate : Contains (map coordinate_label free) k → ⊥
       of_coordinate d =
@@ -92,13 +97,14 @@ module _ (p : Polyhedron) (few : length p.rows < 8192) (free : List ℕ) where
           ∙ not_from_true (is_member (k - 8192) free) member in
           cc
 
-      of_row : Contains (equations_of p) k → ⊥
+      of_row : Contains (equation_labels p) k → ⊥
       of_row d =
           let q = equation_only p k d in
           let l = q.some in
           let r = q.within in
           let linear = ap (λ (row : Row). row.linear)
-          (same_in_cone p (k - 1) (omega (arith, count_of_rows p))) ∙ q.linear in
+          (row_from_one (cone_of p).rows k l ∙ same_in_cone p (k - 1) (omega (arith, count_of_rows p))
+          ∙ sym (row_from_one (file_rows p) k l)) ∙ q.linear in
           let f : true ≡ false = sym e ∙ row_stays k (lt-ltb k 8192 (omega arith))
           ∙ not_from_true (row_of (cone_of p).rows k).linear linear in
           cc
@@ -142,8 +148,8 @@ module _ (p : Polyhedron) (few : length p.rows < 8192) (free : List ℕ) where
         (λ (d : Contains (map coordinate_label free) i).
         let h = map_only coordinate_label free i d in
         subst (λ (k : ℕ). Contains (cut_space kind p []).labels k) (sym h.2) (free_labels h.0 h.1))
-        (λ (d : Contains (equations_of p) i). equation_in kind i (equation_only p i d))
-        (Contains-append_cases (map coordinate_label free) (equations_of p) i c)
+        (λ (d : Contains (equation_labels p) i). equation_in kind i (equation_only p i d))
+        (Contains-append_cases (map coordinate_label free) (equation_labels p) i c)
 
     old_in : (i : ℕ) → Contains (labels_in kind) i → Contains (cut_space kind p []).labels i
     old_in i c = (filter_only (is_left (cone_of p).rows) (cut_space kind p []).labels i c).0
@@ -188,16 +194,16 @@ module _ (p : Polyhedron) (few : length p.rows < 8192) (free : List ℕ) where
   -- ---- what is gone is settled, and has a point
   module _ (space : Space) (key : List ℕ) (t : Table) (cobasis : IsCobasis space key) (w : Writes space key t)
       (free_inside : (j : ℕ) → Contains free j → Contains key (coordinate_label j))
-      (settled : AreSettled key t (equations_of p)) where
+      (settled : AreSettled key t (equation_labels p)) where
     gone_by : (P : ℕ → Type 0) → ((k : ℕ) → Contains key k → Contains (gone p free) k → P k) →
-        ((i : ℕ) → Contains (equations_of p) i → P i) → (i : ℕ) → Contains (gone p free) i → P i
+        ((i : ℕ) → Contains (equation_labels p) i → P i) → (i : ℕ) → Contains (gone p free) i → P i
     gone_by P f g i c =
         ⊎_elim
         (λ (d : Contains (map coordinate_label free) i).
         let h = map_only coordinate_label free i d in
         f i (subst (λ (k : ℕ). Contains key k) (sym h.2) (free_inside h.0 h.1)) c)
         (g i)
-        (Contains-append_cases (map coordinate_label free) (equations_of p) i c)
+        (Contains-append_cases (map coordinate_label free) (equation_labels p) i c)
 
     gone_settled : AreSettled key t (gone p free)
     gone_settled i k c m n =
@@ -205,17 +211,17 @@ module _ (p : Polyhedron) (few : length p.rows < 8192) (free : List ℕ) where
         (λ j h d. IsOwnRow.elsewhere (own_row space key cobasis t w j h) k m
         (λ e. n (subst (λ (l : ℕ). Contains (gone p free) l) (sym e) d)))
         (λ j d. settled j k d m
-        (λ e. n (Contains-append_right (map coordinate_label free) (equations_of p) k e)))
+        (λ e. n (Contains-append_right (map coordinate_label free) (equation_labels p) k e)))
         i c
 
     gone_has_point : ((i : ℕ) → Contains (gone p free) i → Contains space.labels i) →
-        HasPointOn space (equations_of p) → HasPointOn space (gone p free)
+        HasPointOn space (equation_labels p) → HasPointOn space (gone p free)
     gone_has_point labels point =
         point_where_constants space key (gone p free) t w labels (some_origin space key points cobasis)
         (gone_by (λ j. t.constant j ≡ pos 0)
         (λ j h d. IsOwnRow.constant (own_row space key cobasis t w j h) points)
-        (constants_where_point space key (equations_of p) t w
-        (λ i c. labels i (Contains-append_right (map coordinate_label free) (equations_of p) i c))
+        (constants_where_point space key (equation_labels p) t w
+        (λ i c. labels i (Contains-append_right (map coordinate_label free) (equation_labels p) i c))
         settled point))
       where
         points : HasPoints space

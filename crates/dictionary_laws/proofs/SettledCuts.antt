@@ -8,7 +8,8 @@ use Rattle.poly_num.specs.Vectors.{Vector, ◌·◌}
 use Rattle.poly_num.proofs.Order.{zero_factor, positive_nonzero}
 use Rattle.poly_model.specs.Spaces.{Space, IsInside, IsDirection, HasPoints}
 use Rattle.poly_model.specs.Dictionaries.{Table, IsCobasis, Writes}
-use Rattle.dictionary_laws.specs.Points.{HasPointOn, AreSettled}
+use Rattle.poly_model.specs.Equations.{HasPointOn}
+use Rattle.dictionary_laws.specs.Points.{AreSettled}
 use Rattle.linear_laws.proofs.Members.{Contains-nil, all_at}
 use Rattle.dictionary_laws.proofs.Members.{all_from}
 use Rattle.dictionary_laws.proofs.Filters.{filter_only, filter_kept, distinct_filter, sum_filter}

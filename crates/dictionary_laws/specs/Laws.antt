@@ -6,7 +6,8 @@ use Rattle.poly_model.specs.Systems.{Polyhedron}
 use Rattle.poly_model.specs.Spaces.{Space, IsStartCobasis, prepare_space, HasPoints}
 use Rattle.poly_model.specs.Dictionaries.{Table, IsCobasis, Writes, IsDictionary}
 use Rattle.dictionary_laws.specs.Keys.{AreDistinct, HaveSameLabels, Exchanges}
-use Rattle.dictionary_laws.specs.Points.{HasPointOn, AreSettled, RowsDetermine, ArePhasePoints}
+use Rattle.poly_model.specs.Equations.{HasPointOn}
+use Rattle.dictionary_laws.specs.Points.{AreSettled, RowsDetermine, ArePhasePoints}
 use Rattle.dictionary_laws.specs.Numbers.{IsOwnRow, Agree, DividesNumbers, DividesOutside, ArePrimitive, IsGcdOfNumbers, divided}
 use Rattle.dictionary_laws.specs.Exchange.{CanExchange, exchanged}
 use Rattle.dictionary_laws.specs.Coordinates.{HasCoordinates, coordinate_key, coordinate_table, ArePhaseCoordinates, AreCoordinateLabels}

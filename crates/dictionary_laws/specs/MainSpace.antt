@@ -6,11 +6,8 @@ use Rattle.poly_model.specs.FreeColumns.{AreFreeColumns}
 use Rattle.poly_model.specs.Systems.{row_of, Polyhedron, file_rows, cone_of}
 use Rattle.poly_model.specs.Spaces.{coordinate_label, is_row, is_member, prepare_space, main_space, HasPoints}
 use Rattle.poly_model.specs.Dictionaries.{Table, IsCobasis, Writes}
-use Rattle.dictionary_laws.specs.Points.{HasPointOn, AreSettled}
-
--- the labels of the linear rows of the file
-abbrev pub equations_of : Polyhedron → List ℕ
-equations_of p = filter (λ k. (row_of (file_rows p) k).linear) (range_with_len 1 (length p.rows))
+use Rattle.poly_model.specs.Equations.{HasPointOn, equation_labels}
+use Rattle.dictionary_laws.specs.Points.{AreSettled}
 
 -- a label of the key stays: it is neither that of an equation nor that of a free coordinate
 abbrev pub stays : Polyhedron → List ℕ → ℕ → Bool
@@ -22,8 +19,8 @@ stays p free k =
 pub record CanEnterMain (p : Polyhedron) (free key : List ℕ) (t : Table) : Type 0 where
   pub columns : AreFreeColumns (cone_of p) free
   pub free_inside : (j : ℕ) → Contains free j → Contains key (coordinate_label j)
-  pub settled : AreSettled key t (equations_of p)
-  pub point : HasPointOn (prepare_space p) (equations_of p)
+  pub settled : AreSettled key t (equation_labels p)
+  pub point : HasPointOn (prepare_space p) (equation_labels p)
 
 -- the main space has a point, the labels that stay are a cobasis of it, and the numbers write its
 -- labels in them

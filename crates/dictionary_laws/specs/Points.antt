@@ -1,4 +1,4 @@
--- Points of spaces, common points of equations, and rows that determine a direction.
+-- Points of spaces, settled equations, and rows that determine a direction.
 use Rattle.std.specs.Prelude.{◌≡◌, ◌≢◌, ℕ, ◌<◌, pos, List}
 use Rattle.std.specs.List.{AllByRecursion, Contains, filter}
 use Rattle.poly_num.specs.Vectors.{Vector, ◌·◌, IsZero}
@@ -6,13 +6,6 @@ use Rattle.poly_model.specs.declared.kind.Kind.TheVariants.{V}
 use Rattle.poly_model.specs.Systems.{Polyhedron}
 use Rattle.poly_model.specs.Spaces.{Space, IsInside, IsDirection, is_row, cone_space, prepare_space, main_space, lifted, HasPoints}
 use Rattle.poly_model.specs.Dictionaries.{Table}
-
--- some vector of the space is not 0 at infinity, and these labels are 0 there
-pub record HasPointOn (space : Space) (equations : List ℕ) : Type 0 where
-  pub vector : Vector
-  pub inside : IsInside space vector
-  pub finite : space.infinity · vector ≢ pos 0
-  pub zero : (i : ℕ) → Contains equations i → space.form i · vector ≡ pos 0
 
 -- no equation can enter the key for a label that is none: its entries at those are 0
 abbrev pub AreSettled : List ℕ → Table → List ℕ → Type 0

@@ -12,7 +12,8 @@ use Rattle.poly_model.specs.Systems.{System, Polyhedron, row_of, cone_of}
 use Rattle.poly_model.specs.FreeColumns.{AreFreeColumns, AreLinesOf}
 use Rattle.poly_model.specs.Spaces.{IsSpaceOf, HasPoints, IsStartCobasis, prepare_space, main_space}
 use Rattle.dictionary_laws.specs.Points.{AreSettled}
-use Rattle.dictionary_laws.specs.MainSpace.{equations_of, stays, CanEnterMain}
+use Rattle.poly_model.specs.Equations.{equation_labels}
+use Rattle.dictionary_laws.specs.MainSpace.{stays, CanEnterMain}
 use Rattle.dictionary_laws.proofs.Equations.{constants_where_point, point_where_constants}
 use Rattle.dictionary_laws.proofs.MainRows.{equation_only}
 use Rattle.dictionary_laws.proofs.MainSpace.{equation_in}
@@ -23,7 +24,8 @@ use Rattle.dictionary.specs.Views.{Dictionary, IsDictionaryIn, table_of}
 use Rattle.linearity.specs.Columns.{columns_in, coordinate_vectors}
 use Rattle.linearity.specs.Elimination.{IsDictionaryOf, IsEliminated}
 use Rattle.linearity.specs.Turns.{StopsAt}
-use Rattle.linearity.specs.Prepared.{AreConsistent, HasNoConstants, PassesInOrder, IsUnreduced, IsReduced, IsPrepared}
+use Rattle.poly_model.specs.Equations.{AreConsistent}
+use Rattle.linearity.specs.Prepared.{HasNoConstants, PassesInOrder, IsUnreduced, IsReduced, IsPrepared}
 use Rattle.linearity.proofs.Beginnings.{begins_new}
 use Rattle.linearity.proofs.Tries.{overflows_at}
 use Rattle.linearity.proofs.LeftLines.{elimination_leaves_lines}
@@ -42,22 +44,22 @@ module _ (p : Polyhedron) (d : Dictionary) (of : IsDictionaryOf p d) (e : d.phas
     is : IsDictionaryIn (prepare_space p) d
     is = in_prepare p d of e
 
-    settled : AreSettled d.key (table_of d) (equations_of p)
+    settled : AreSettled d.key (table_of d) (equation_labels p)
     settled =
         equations_settled p of.few d is
         (λ i c l linear. tried.settled i c l (linear, row_within p of.few d is i c l))
 
-    labels : (i : ℕ) → Contains (equations_of p) i → Contains (prepare_space p).labels i
+    labels : (i : ℕ) → Contains (equation_labels p) i → Contains (prepare_space p).labels i
     labels i c = equation_in p (few_in_file p of.few d is) [] p.kind i (equation_only p i c)
 
     constants_are_zero : AreConsistent p → HasNoConstants (cone_of p) d
     constants_are_zero point i from_one within c linear =
-        constants_where_point (prepare_space p) d.key (equations_of p) (table_of d) is.dictionary.writes labels settled point i
+        constants_where_point (prepare_space p) d.key (equation_labels p) (table_of d) is.dictionary.writes labels settled point i
         (row_is_equation p of.few d is i c (let few = of.few in omega arith) linear)
 
     consistent_by_constants : HasNoConstants (cone_of p) d → AreConsistent p
     consistent_by_constants zero =
-        point_where_constants (prepare_space p) d.key (equations_of p) (table_of d) is.dictionary.writes labels
+        point_where_constants (prepare_space p) d.key (equation_labels p) (table_of d) is.dictionary.writes labels
         (some_origin (prepare_space p) d.key (prepare_points p d of e) is.dictionary.cobasis)
         (λ i c.
         let q = equation_only p i c in

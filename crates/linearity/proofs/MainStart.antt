@@ -15,8 +15,10 @@ use Rattle.poly_model.specs.Cones.{coordinate}
 use Rattle.poly_model.specs.Spaces.{linear_rows, is_row, is_member, is_left, labels_of, cut_space, prepare_space, main_space, IsStartCobasis}
 use Rattle.poly_model.specs.Dictionaries.{Table}
 use Rattle.dictionary_laws.specs.Coordinates.{coordinate_key}
-use Rattle.dictionary_laws.specs.Points.{HasPointOn, AreSettled}
-use Rattle.dictionary_laws.specs.MainSpace.{equations_of, stays, CanEnterMain, EntersMain}
+use Rattle.poly_model.specs.Equations.{HasPointOn}
+use Rattle.dictionary_laws.specs.Points.{AreSettled}
+use Rattle.poly_model.specs.Equations.{equation_labels}
+use Rattle.dictionary_laws.specs.MainSpace.{stays, CanEnterMain, EntersMain}
 use Rattle.dictionary_laws.proofs.Members.{contains_or}
 use Rattle.dictionary_laws.proofs.Filters.{filter_only, filter_kept, range_only, member_has}
 use Rattle.dictionary_laws.proofs.CoordinateSpaces.{coordinate_keys}
@@ -80,7 +82,7 @@ module _ (p : Polyhedron) (few : length (cone_of p).rows < 8192) (d : Dictionary
 
   -- a row of a label of the space, if it is linear, is an equation
   is_equation : (k : ℕ) → Contains (prepare_space p).labels k → is_row k ≡ true → (row_of rows k).linear ≡ true →
-      Contains (equations_of p) k
+      Contains (equation_labels p) k
   is_equation k c r e =
       let l = cut_row_label p.kind p k c r in
       let within = linear_in_file p (k - 1) e in
@@ -90,7 +92,7 @@ module _ (p : Polyhedron) (few : length (cone_of p).rows < 8192) (d : Dictionary
         linear = ap (λ (row : Row). row.linear) (sym (same_in_cone p (k - 1) within)) ∙ e;
       })
 
-  pub linear_equation : (i : ℕ) → Contains (equations_of p) i → (row_of rows i).linear ≡ true
+  pub linear_equation : (i : ℕ) → Contains (equation_labels p) i → (row_of rows i).linear ≡ true
   linear_equation i c =
       let q = equation_only p i c in
       let l = q.some in
@@ -102,11 +104,11 @@ module _ (p : Polyhedron) (few : length (cone_of p).rows < 8192) (d : Dictionary
   row_within i c l =
       let h = (cut_row_label p.kind p i (subst (λ ks. Contains ks i) is.labels c) (lt-ltb i 8192 l)).1 in omega arith
 
-  pub row_is_equation : (i : ℕ) → Contains d.labels i → i < 8192 → (row_of rows i).linear ≡ true → Contains (equations_of p) i
+  pub row_is_equation : (i : ℕ) → Contains d.labels i → i < 8192 → (row_of rows i).linear ≡ true → Contains (equation_labels p) i
   row_is_equation i c l e = is_equation i (subst (λ ks. Contains ks i) is.labels c) (lt-ltb i 8192 l) e
 
   -- a label of the key that is no equation stands behind every equation
-  behind_equation : (i k : ℕ) → Contains (equations_of p) i → Contains d.key k → (Contains (equations_of p) k → ⊥) →
+  behind_equation : (i k : ℕ) → Contains (equation_labels p) i → Contains d.key k → (Contains (equation_labels p) k → ⊥) →
       IsBehind rows i k
   behind_equation i k c m n =
       ⊎_elim
@@ -119,12 +121,12 @@ module _ (p : Polyhedron) (few : length (cone_of p).rows < 8192) (d : Dictionary
 
   -- where the linear rows have been tried, the equations are settled
   pub equations_settled : ((i : ℕ) → Contains d.labels i → i < 8192 → (row_of rows i).linear ≡ true → IsSettled rows d i) →
-      AreSettled d.key (table_of d) (equations_of p)
+      AreSettled d.key (table_of d) (equation_labels p)
   equations_settled tried i k c m n =
       ⊎_elim
       (λ (h : Contains d.key i).
       (own_row (prepare_space p) d.key is.dictionary.cobasis (table_of d) is.dictionary.writes i h).elsewhere k m
-      (λ e. n (subst (Contains (equations_of p)) (sym e) c)))
+      (λ e. n (subst (Contains (equation_labels p)) (sym e) c)))
       (λ (h : Contains d.key i → ⊥).
       let q = equation_only p i c in
       let l = q.within in
@@ -134,7 +136,7 @@ module _ (p : Polyhedron) (few : length (cone_of p).rows < 8192) (d : Dictionary
 
   -- ---- all rows have been tried
   module _ (ascending : IsAscending d.key) (free : AreFreeColumns (cone_of p) (columns_in d.key))
-      (point : HasPointOn (prepare_space p) (equations_of p))
+      (point : HasPointOn (prepare_space p) (equation_labels p))
       (done : IsEliminated rows true (length rows + 1) d) where
     abbrev columns : List ℕ
     columns = columns_in d.key

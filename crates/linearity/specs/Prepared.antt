@@ -9,15 +9,10 @@ use Rattle.poly_model.specs.Systems.{row_of, System, Polyhedron, cone_of}
 use Rattle.poly_model.specs.FreeColumns.{AreFreeColumns, AreLinesOf}
 use Rattle.poly_model.specs.Spaces.{IsStartCobasis, prepare_space, main_space}
 use Rattle.poly_model.specs.Dictionaries.{Table}
-use Rattle.dictionary_laws.specs.Points.{HasPointOn}
-use Rattle.dictionary_laws.specs.MainSpace.{equations_of}
+use Rattle.poly_model.specs.Equations.{HasPointOn}
+use Rattle.poly_model.specs.Equations.{equation_labels}
 use Rattle.dictionary.specs.Views.{Dictionary, IsDictionaryIn, table_of}
 use Rattle.linearity.specs.Elimination.{IsDictionaryOf, IsEliminated}
-
--- the equations of the file have a common point: of an H file a vector that is not 0 at infinity and meets them all. The
--- linear rows of a V file always have one
-abbrev pub AreConsistent : Polyhedron → Type 0
-AreConsistent p = HasPointOn (prepare_space p) (equations_of p)
 
 -- equations come before inequalities: a pivot of a linear row needs a product that passes; or that of some row does, and
 -- the equations have a common point

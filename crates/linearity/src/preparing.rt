@@ -7,7 +7,8 @@ ghost use Rattle.poly_model.specs.declared.overflow.Phase.TheVariants.{Prepare};
 ghost use Rattle.poly_model.specs.Systems.{Polyhedron, row_of, cone_of};
 ghost use Rattle.poly_model.specs.Dictionaries.{Table};
 ghost use Rattle.dictionary.specs.Views.{table_of};
-ghost use Rattle.linearity.specs.Prepared.{AreConsistent, HasNoConstants, PassesInOrder, IsPrepared, IsReduced, IsUnreduced};
+ghost use Rattle.poly_model.specs.Equations.{AreConsistent};
+ghost use Rattle.linearity.specs.Prepared.{HasNoConstants, PassesInOrder, IsPrepared, IsReduced, IsUnreduced};
 
 use crate::eliminate::{Pass, enter_rows};
 use crate::lines::{free_columns, lines_of};

@@ -11,6 +11,7 @@ use Rattle.std.specs.Prelude.{nat_lt, nat_le, ◌==◌, ◌&&◌, if◌then◌el
 use Rattle.std.proofs.lemmas.Bool.{ltb-true, ltb-false, leb-true, leb-false, eqb-true, eqb-false}
 use Rattle.std.specs.List.{AllByRecursion}
 use Rattle.std.specs.List.Sorted.{IsStrictlyIncreasing}
+use Rattle.poly_model.specs.Limits.{most_labels}
 use Rattle.poly_model.specs.Keys.{IsAscending, IsKey, lower_of, with_label}
 
 -- a front of a list, element by element
@@ -97,7 +98,7 @@ ascending_with label (x ∷ xs) h = by (ascending_with label xs h.1) (nat_lt lab
         let above : x < label = omega (arith, ltb-false label x l, eqb-false label x m) in
         (all_with (λ y. x < y) label xs above h.0, rest)
 
-pub key_with : (label : ℕ) (xs : List ℕ) → IsKey xs → length xs < 256 → IsKey (with_label label xs)
+pub key_with : (label : ℕ) (xs : List ℕ) → IsKey xs → length xs < most_labels → IsKey (with_label label xs)
 key_with label xs h room = record { room = omega (arith, length_with label xs); ascending = ascending_with label xs h.ascending }
 
 -- the place of a label that is there
@@ -135,11 +136,11 @@ with_new label (x ∷ xs) n = by (with_new label xs) (nat_le label x) (nat_lt la
     by same false false false k l m n = ap (λ ys. x ∷ ys) (same (λ r. n (omega arith)))
 
 -- the parts of a key with a new label
-pub key_with_below : (label : ℕ) (xs : List ℕ) → IsKey xs → length xs < 256 → (lower_of label xs < length xs → get_or xs (lower_of label xs) 0 ≢ label) →
+pub key_with_below : (label : ℕ) (xs : List ℕ) → IsKey xs → length xs < most_labels → (lower_of label xs < length xs → get_or xs (lower_of label xs) 0 ≢ label) →
     IsKey (take (lower_of label xs) xs ++ label ∷ [])
 key_with_below label xs h l n = key_front _ (drop (lower_of label xs) xs) (subst IsKey (with_new label xs n) (key_with label xs h l))
 
-pub key_with_new : (label : ℕ) (xs : List ℕ) → IsKey xs → length xs < 256 → (lower_of label xs < length xs → get_or xs (lower_of label xs) 0 ≢ label) →
+pub key_with_new : (label : ℕ) (xs : List ℕ) → IsKey xs → length xs < most_labels → (lower_of label xs < length xs → get_or xs (lower_of label xs) 0 ≢ label) →
     IsKey (take (lower_of label xs) xs ++ label ∷ [] ++ drop (lower_of label xs) xs)
 key_with_new label xs h l n = subst IsKey (with_new label xs n) (key_with label xs h l)
 
@@ -173,11 +174,11 @@ neighbours_ascend (x ∷ y ∷ xs) h (suc k) l = rw (add-one) (rw (add-one) at (
 
 -- a key with the rest of its room
 abbrev pub padded : List ℕ → List ℕ
-padded ls = ls ++ replicate (256 - length ls) 0
+padded ls = ls ++ replicate (most_labels - length ls) 0
 
 unpadded : (a b : List ℕ) → length a ≡ length b → padded a ≡ padded b → a ≡ b
 unpadded a b l e =
-    sym (take-append_seam a (replicate (256 - length a) 0)) ∙ ap (take (length a)) e ∙ ap (λ n. take n (padded b)) l ∙ take-append_seam b (replicate (256 - length b) 0)
+    sym (take-append_seam a (replicate (most_labels - length a) 0)) ∙ ap (take (length a)) e ∙ ap (λ n. take n (padded b)) l ∙ take-append_seam b (replicate (most_labels - length b) 0)
 
 -- keys whose rooms and lengths are equal are equal
 pub same_labels : (a b : List ℕ) (r : Bool) → r ≡ (pointwise eqb (padded a) (padded b) && eqb (length a) (length b)) → (r ≡ true → a ≡ b) × (a ≡ b → r ≡ true)

@@ -1,20 +1,21 @@
--- How a key lies in its room of 256 places.
+-- How a key lies in its room.
 use Rattle.std.specs.Prelude.{◌≡◌, ◌≤◌, ◌-◌, ◌++◌, ℕ, List, length, take, drop}
 use Rattle.std.proofs.Common.{◌∙◌, ap, sym, subst}
 use Rattle.std.proofs.Math.ListN.{replicate}
 use Rattle.std.proofs.lemmas.List.{take-append-drop, length-take-le}
+use Rattle.poly_model.specs.Limits.{most_labels}
 use Rattle.poly_model.specs.Keys.{IsAscending}
 
 -- the first places hold the labels, ascending, and the others 0
 pub record Fills (labels : List ℕ) (len : ℕ) : Type 0 where
-  pub size : length labels ≡ 256
-  pub within : len ≤ 256
-  pub rest : drop len labels ≡ replicate (256 - len) 0
+  pub size : length labels ≡ most_labels
+  pub within : len ≤ most_labels
+  pub rest : drop len labels ≡ replicate (most_labels - len) 0
   pub ascending : IsAscending (take len labels)
 
 pub taken : (labels : List ℕ) (len : ℕ) → Fills labels len → length (take len labels) ≡ len
 taken labels len h = length-take-le len labels (subst (λ n. len ≤ n) (sym h.size) h.within)
 
-pub filled : (labels : List ℕ) (len : ℕ) → Fills labels len → take len labels ++ replicate (256 - length (take len labels)) 0 ≡ labels
+pub filled : (labels : List ℕ) (len : ℕ) → Fills labels len → take len labels ++ replicate (most_labels - length (take len labels)) 0 ≡ labels
 filled labels len h =
-    ap (λ n. take len labels ++ replicate (256 - n) 0) (taken labels len h) ∙ ap (λ l. take len labels ++ l) (sym h.rest) ∙ take-append-drop len labels
+    ap (λ n. take len labels ++ replicate (most_labels - n) 0) (taken labels len h) ∙ ap (λ l. take len labels ++ l) (sym h.rest) ∙ take-append-drop len labels

@@ -1,15 +1,16 @@
 -- Keys as lists of the numbers of their labels.
 use Rattle.std.specs.Prelude.{ℕ, zero, suc, ◌≤◌, ◌<◌, ◌==◌, nat_lt, nat_le, if◌then◌else◌, List, [], ◌∷◌, length}
 use Rattle.std.specs.List.{AllByRecursion}
+use Rattle.poly_model.specs.Limits.{most_labels}
 
 -- each number is below all later ones
 abbrev pub IsAscending : List ℕ → Type 0
 IsAscending [] = Unit {0}
 IsAscending (x ∷ xs) = AllByRecursion (λ y. x < y) xs × IsAscending xs
 
--- at most 256 numbers, strictly ascending
+-- not too many numbers, strictly ascending
 pub record IsKey (labels : List ℕ) : Type 0 where
-  pub room : length labels ≤ 256
+  pub room : length labels ≤ most_labels
   pub ascending : IsAscending labels
 
 -- how many numbers, from the first on, are below this one

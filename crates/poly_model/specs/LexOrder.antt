@@ -1,7 +1,8 @@
--- The order of rows relative to a root, and lists of numbers compared by their first entry that is not 0.
+-- The order of rows relative to a root, and lists of numbers compared by their first entry that is not 0. All of it is
+-- said of the labels of a space.
 use Rattle.std.specs.Prelude.{◌≡◌, ◌⊎◌, ℕ, not, ◌==◌, if◌then◌else◌, ℤ, pos, neg_ℤ, ◌-ℤ◌, ◌*ℤ◌, ◌<ℤ◌, List, [], ◌∷◌, ◌++◌, map}
 use Rattle.std.specs.List.{Contains, filter}
-use Rattle.poly_model.specs.Spaces.{Space, is_row, is_member}
+use Rattle.poly_model.specs.Spaces.{is_row, is_member}
 use Rattle.poly_model.specs.Dictionaries.{Table}
 
 -- the first number that is not 0 is positive, if there is one
@@ -21,20 +22,20 @@ gaps p [] q ys = []
 gaps p (x ∷ xs) q [] = []
 gaps p (x ∷ xs) q (y ∷ ys) = (p *ℤ x -ℤ q *ℤ y) ∷ gaps p xs q ys
 
--- the rows of a space, ascending; where it has t, that is the first of them
-abbrev pub rows_in : Space → List ℕ
-rows_in space = filter is_row space.labels
+-- the rows among the labels of a space, ascending; where it has t, that is the first of them
+abbrev pub rows_in : List ℕ → List ℕ
+rows_in labels = filter is_row labels
 
 -- those that are not in a root, and those that are
-abbrev pub outside : Space → List ℕ → List ℕ
-outside space root = filter (λ k. not (is_member k root)) (rows_in space)
+abbrev pub outside : List ℕ → List ℕ → List ℕ
+outside labels root = filter (λ k. not (is_member k root)) (rows_in labels)
 
-abbrev pub within : Space → List ℕ → List ℕ
-within space root = filter (λ k. is_member k root) (rows_in space)
+abbrev pub within : List ℕ → List ℕ → List ℕ
+within labels root = filter (λ k. is_member k root) (rows_in labels)
 
 -- the order relative to a root: the rows outside it, then its own
-abbrev pub order : Space → List ℕ → List ℕ
-order space root = outside space root ++ within space root
+abbrev pub order : List ℕ → List ℕ → List ℕ
+order labels root = outside labels root ++ within labels root
 
 abbrev pub backwards : List ℕ → List ℕ
 backwards [] = []
@@ -46,8 +47,8 @@ Precedes [] k i = ⊥
 Precedes (x ∷ xs) k i = ((k ≡ x) × Contains xs i) ⊎ Precedes xs k i
 
 -- earlier in the order relative to a root
-abbrev pub IsEarlier : Space → List ℕ → ℕ → ℕ → Type 0
-IsEarlier space root k i = Precedes (order space root) k i
+abbrev pub IsEarlier : List ℕ → List ℕ → ℕ → ℕ → Type 0
+IsEarlier labels root k i = Precedes (order labels root) k i
 
 -- the number of row i at row k, for its list: the denominator at itself, minus its entry at a label of the key, else 0
 abbrev pub listed_at : List ℕ → Table → ℕ → ℕ → ℤ
@@ -55,5 +56,5 @@ listed_at key t i k =
     if k == i then t.denominator else (if is_member k key then neg_ℤ (t.entry i k) else pos 0)
 
 -- the list of row i at the dictionary of a key: its constant, and a number for each row outside the root, in order
-abbrev pub list_of : Space → List ℕ → List ℕ → Table → ℕ → List ℤ
-list_of space root key t i = t.constant i ∷ map (listed_at key t i) (outside space root)
+abbrev pub list_of : List ℕ → List ℕ → List ℕ → Table → ℕ → List ℤ
+list_of labels root key t i = t.constant i ∷ map (listed_at key t i) (outside labels root)

@@ -1,3 +1,4 @@
+pub mod Limits
 pub mod Keys
 pub mod KeyRoom
 pub mod LabelText
@@ -14,3 +15,8 @@ pub mod Overflows
 pub mod Tables
 pub mod LexOrder
 pub mod Tree
+pub mod Subtrees
+pub mod Lowering
+pub mod PhaseOne
+pub mod Equations
+pub mod Due

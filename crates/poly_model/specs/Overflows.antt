@@ -45,10 +45,10 @@ pub record IsPassing (labels key : List ℕ) (t : Table) (r s : ℕ) (o : Overfl
   pub places : IsInner labels key r s o ⊎ IsOuter labels s o
   pub passes : ¬ (Crosses (number_at t o.a) (number_at t o.b) (number_at t o.c) (number_at t o.d))
 
--- a pivot at the dictionary of the overflow's key in its phase needs these products
-pub record Passes (p : Polyhedron) (o : Overflow) : Type 0 where
+-- in a space with P, a pivot at the dictionary of the overflow's key needs these products
+pub record PassesIn (P : Space → Type 0) (o : Overflow) : Type 0 where
   pub space : Space
-  pub phase : IsSpaceOf p o.phase space
+  pub is_space : P space
   -- without a point, any constants would do
   pub point : HasPoints space
   pub table : Table
@@ -59,3 +59,7 @@ pub record Passes (p : Polyhedron) (o : Overflow) : Type 0 where
   pub inside : Contains o.key s
   pub nonzero : table.entry r s ≢ pos 0
   pub passing : IsPassing space.labels o.key table r s o
+
+-- it does so in the space of its phase
+abbrev pub Passes : Polyhedron → Overflow → Type 0
+Passes p o = PassesIn (IsSpaceOf p o.phase) o

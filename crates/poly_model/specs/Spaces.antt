@@ -79,10 +79,15 @@ without_constants n fixed rows = record {
 abbrev pub cone_space : Polyhedron → Space
 cone_space p = without_constants p.n [] (cone_of p).rows
 
--- a polyhedron cut by fixed rows: of H the file's rows with their constants, of V the cone's rows
+-- the rows of the phases `prepare`, `main` and `first`: of an H file its own, of a V file those of its cone
+abbrev pub phase_rows : Kind → Polyhedron → List Row
+phase_rows H p = file_rows p
+phase_rows V p = (cone_of p).rows
+
+-- a polyhedron cut by fixed rows: of H the rows have constants
 abbrev pub cut_space : Kind → Polyhedron → List Vector → Space
-cut_space H p fixed = with_constants p.n fixed (file_rows p)
-cut_space V p fixed = without_constants p.n fixed (cone_of p).rows
+cut_space H p fixed = with_constants p.n fixed (phase_rows H p)
+cut_space V p fixed = without_constants p.n fixed (phase_rows V p)
 
 -- the file's rows, nothing divided out
 abbrev pub prepare_space : Polyhedron → Space
@@ -92,6 +97,10 @@ abbrev pub linear_rows : List Row → List Vector
 linear_rows [] = []
 linear_rows (row ∷ rows) = cond row.linear (row.entries ∷ linear_rows rows) (linear_rows rows)
 
+-- the linear rows of a file: its equations, or its lines
+abbrev pub equations : Polyhedron → List Vector
+equations p = linear_rows (file_rows p)
+
 -- a label of what is left: a coordinate, or a row that is not linear
 abbrev pub is_left : List Row → ℕ → Bool
 is_left rows k = if is_row k then not (row_of rows k).linear else true
@@ -99,8 +108,13 @@ is_left rows k = if is_row k then not (row_of rows k).linear else true
 -- the equations hold and the free coordinates are 0; the rows that are not linear are left
 abbrev pub main_space : Polyhedron → List ℕ → Space
 main_space p free =
-    let space = cut_space p.kind p (map coordinate free ++ linear_rows (file_rows p)) in
+    let space = cut_space p.kind p (map coordinate free ++ equations p) in
     record space { labels = filter (is_left (cone_of p).rows) space.labels }
+
+-- a vector of the cone in the main space: of V an entry for constants stands in front, and is 0
+abbrev pub in_main : Kind → Vector → Vector
+in_main H y = y
+in_main V y = pos 0 ∷ y
 
 -- the members that are marked
 abbrev pub marked : List ℕ → List Bool → List ℕ

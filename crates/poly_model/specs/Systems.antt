@@ -39,13 +39,13 @@ pub record System : Type 0 where
   pub n : ℕ
   pub rows : List Row
 
--- row i of a file, counted from 1
+-- row i of a file, counted from 1; the number 0 is that of no row
 abbrev pub file_row : Polyhedron → ℕ → FileRow
-file_row p i = slice_index_or p.rows (i - 1) no_file_row
+file_row p i = slice_index_or (no_file_row ∷ p.rows) i no_file_row
 
--- row i of a cone, counted from 1
+-- row i of a cone, counted from 1; the number 0 is that of no row
 abbrev pub row_of : List Row → ℕ → Row
-row_of rows i = slice_index_or rows (i - 1) no_row
+row_of rows i = slice_index_or (no_row ∷ rows) i no_row
 
 -- `1 0 .. 0`, of n entries: the row at infinity of an H file, the origin of a V file
 abbrev pub first_unit : ℕ → Vector

@@ -4,6 +4,7 @@ use Rattle.poly_num.specs.Vectors.{Vector}
 use Rattle.poly_model.specs.declared.kind.RowKind.{RowKind}
 use Rattle.poly_model.specs.declared.kind.RowKind.TheVariants.{Point, Ray}
 use Rattle.std.specs.Prelude.{true, false}
+use Rattle.poly_model.specs.Limits.{most_columns}
 use Rattle.poly_model.specs.Systems.{FileRow, Row}
 
 -- the rows of a file: one for each mark, of n cells each
@@ -23,9 +24,9 @@ cone_rows_in n cells (mark ∷ marks) [] = []
 cone_rows_in n cells (mark ∷ marks) (kind ∷ kinds) =
     record { entries = take n cells; linear = mark; point = is_point_kind kind } ∷ cone_rows_in n (drop n cells) marks kinds
 
--- m rows of n cells, n from 1 to 256, m at most so many
+-- m rows of n cells, n from 1 on, m at most so many
 pub record IsShaped (most m n : ℕ) (cells : Vector) : Type 0 where
   pub full : length cells ≡ m * n
   pub few : m ≤ most
   pub some : 0 < n
-  pub narrow : n ≤ 256
+  pub narrow : n ≤ most_columns

@@ -3,16 +3,16 @@ ghost use Rattle.std.specs.Prelude.{◌≡◌, ◌≢◌, ◌≤◌, ◌<◌, �
 ghost use Rattle.std.specs.Prelude.{take};
 ghost use Rattle.std.specs.Option.{SomeIff};
 ghost use Rattle.std.specs.List.Sorted.{IsStrictlyIncreasing};
+ghost use Rattle.poly_model.specs.Limits.{most_labels};
 ghost use Rattle.poly_model.specs.Keys.{IsKey, lower_of, with_label};
 
+use crate::MOST_LABELS;
 use std::marker::Model;
 
-const ROOM: usize = 256;
-
-/// At most 256 labels, strictly ascending, kept in place. Contracts see the list of their numbers.
+/// At most `MOST_LABELS` labels, strictly ascending, kept in place. Contracts see the list of their numbers.
 #[derive(Clone, Copy, PartialEq, Eq, Hash, Debug)]
 pub struct Key {
-    labels: [u16; ROOM],
+    labels: [u16; MOST_LABELS],
     len: u16,
 }
 
@@ -20,6 +20,7 @@ impl Model for Key {
     ghost use Rattle.std.specs.Prelude.{ℕ, List, take, ◌-◌, ◌++◌, length};
     ghost use Rattle.std.proofs.Math.ListN.{replicate};
     ghost use Rattle.std.proofs.Common.{ap₂};
+    ghost use Rattle.poly_model.specs.Limits.{most_labels};
     ghost use Rattle.poly_model.specs.KeyRoom.{Fills, filled, taken};
 
     ghost Value = { List ℕ };
@@ -28,7 +29,7 @@ impl Model for Key {
 
     ghost invariant = { λ k. Fills k.labels k.len };
 
-    ghost inverse = { λ ls. record { labels = ls ++ replicate (256 - length ls) 0; len = length ls } };
+    ghost inverse = { λ ls. record { labels = ls ++ replicate (most_labels - length ls) 0; len = length ls } };
 
     ghost inverse_ok = { λ a h. ap₂ (λ ls n. record { labels = ls; len = n }) (filled a.labels a.len h) (taken a.labels a.len h) };
 }
@@ -39,16 +40,16 @@ impl Key {
         ensures { result ≡ [] }
     {
         Key {
-            labels: [0; ROOM],
+            labels: [0; MOST_LABELS],
             len: 0,
         }
     }
 
-    /// The key of these labels: none exactly where they are more than 256 or do not ascend strictly.
+    /// The key of these labels: none exactly where they are more than `MOST_LABELS` or do not ascend strictly.
     pub fn from_ascending(labels: &[u16]) -> Option<Key>
         ensures { SomeIff result (IsKey labels.now) labels.now }
     {
-        if labels.len() <= ROOM && ascends(labels) {
+        if labels.len() <= MOST_LABELS && ascends(labels) {
             Some(Key::of(labels))
         } else {
             None
@@ -58,7 +59,7 @@ impl Key {
     /// How many labels it has.
     pub fn len(&self) -> usize
         ensures value { result ≡ length self.now }
-        ensures room { result ≤ 256 }
+        ensures room { result ≤ most_labels }
     {
         self.len as usize
     }
@@ -97,7 +98,7 @@ impl Key {
 
     /// The same with this label too.
     pub fn with(&self, label: u16) -> Key
-        requires { length self.now < 256 }
+        requires { length self.now < most_labels }
         ensures value { result ≡ with_label label self.now }
         ensures room { length result ≤ length self.now + 1 }
     {

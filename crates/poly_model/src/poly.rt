@@ -1,5 +1,6 @@
 //! Polyhedra as files give them.
 ghost use Rattle.std.specs.Prelude.{◌≡◌, ◌≤◌, ◌<◌, length};
+ghost use Rattle.poly_model.specs.Limits.{most_columns, most_file_rows};
 ghost use Rattle.poly_model.specs.Systems.{file_row};
 ghost use Rattle.poly_model.specs.Tables.{IsShaped, file_rows_in};
 
@@ -21,6 +22,7 @@ pub struct Poly {
 
 impl Model for Poly {
     ghost use Rattle.std.specs.Prelude.{length};
+    ghost use Rattle.poly_model.specs.Limits.{most_file_rows};
     ghost use Rattle.poly_model.specs.Systems.{Polyhedron};
     ghost use Rattle.poly_model.specs.Tables.{IsShaped, file_rows_in};
 
@@ -28,14 +30,14 @@ impl Model for Poly {
 
     ghost view = { λ p. record { kind = p.kind; n = p.n; rows = file_rows_in p.n p.cells.items p.linear.items; text = p.text.items } };
 
-    ghost invariant = { λ p. IsShaped 4096 (length p.linear.items) p.n p.cells.items };
+    ghost invariant = { λ p. IsShaped most_file_rows (length p.linear.items) p.n p.cells.items };
 }
 
 impl Poly {
     /// The polyhedron of these cells, row by row, n to a row, with a mark for each row that says
     /// whether it is linear.
     pub fn new(kind: Kind, n: u32, cells: Vec<Num>, linear: Vec<bool>, text: Vec<u8>) -> Poly
-        requires { IsShaped 4096 (length linear.items) n cells.items }
+        requires { IsShaped most_file_rows (length linear.items) n cells.items }
         ensures { result ≡ record { kind = kind; n = n; rows = file_rows_in n cells.items linear.items; text = text.items } }
     {
         Poly {
@@ -58,7 +60,7 @@ impl Poly {
     pub fn n(&self) -> u32
         ensures value { result ≡ self.now.n }
         ensures some { 0 < result }
-        ensures narrow { result ≤ 256 }
+        ensures narrow { result ≤ most_columns }
     {
         self.n
     }
@@ -66,7 +68,7 @@ impl Poly {
     /// How many rows there are.
     pub fn rows(&self) -> u32
         ensures value { result ≡ length self.now.rows }
-        ensures few { result ≤ 4096 }
+        ensures few { result ≤ most_file_rows }
     {
         let linear: &[bool] = &self.linear;
         linear.len() as u32

@@ -1,5 +1,6 @@
 //! The cone of a polyhedron.
 ghost use Rattle.std.specs.Prelude.{◌≡◌, ◌≤◌, ◌<◌, length};
+ghost use Rattle.poly_model.specs.Limits.{most_columns, most_cone_rows};
 ghost use Rattle.poly_model.specs.Systems.{row_of};
 ghost use Rattle.poly_model.specs.Tables.{IsShaped, cone_rows_in, is_point_kind};
 
@@ -21,6 +22,7 @@ pub struct System {
 
 impl Model for System {
     ghost use Rattle.std.specs.Prelude.{◌≡◌, length};
+    ghost use Rattle.poly_model.specs.Limits.{most_cone_rows};
     ghost use Rattle.poly_model.specs.Systems.{System as Cone};
     ghost use Rattle.poly_model.specs.Tables.{IsShaped, cone_rows_in};
 
@@ -28,7 +30,7 @@ impl Model for System {
 
     ghost view = { λ s. record { kind = s.kind; n = s.n; rows = cone_rows_in s.n s.cells.items s.linear.items s.kinds.items } };
 
-    ghost invariant = { λ s. IsShaped 4097 (length s.linear.items) s.n s.cells.items × (length s.kinds.items ≡ length s.linear.items) };
+    ghost invariant = { λ s. IsShaped most_cone_rows (length s.linear.items) s.n s.cells.items × (length s.kinds.items ≡ length s.linear.items) };
 }
 
 impl System {
@@ -41,7 +43,7 @@ impl System {
         linear: Vec<bool>,
         kinds: Vec<RowKind>,
     ) -> System
-        requires shape { IsShaped 4097 (length linear.items) n cells.items }
+        requires shape { IsShaped most_cone_rows (length linear.items) n cells.items }
         requires marks { length kinds.items ≡ length linear.items }
         ensures { result ≡ record { kind = kind; n = n; rows = cone_rows_in n cells.items linear.items kinds.items } }
     {
@@ -65,7 +67,7 @@ impl System {
     pub fn n(&self) -> u32
         ensures value { result ≡ self.now.n }
         ensures some { 0 < result }
-        ensures narrow { result ≤ 256 }
+        ensures narrow { result ≤ most_columns }
     {
         self.n
     }
@@ -73,7 +75,7 @@ impl System {
     /// How many rows there are, the added one among them.
     pub fn rows(&self) -> u32
         ensures value { result ≡ length self.now.rows }
-        ensures few { result ≤ 4097 }
+        ensures few { result ≤ most_cone_rows }
     {
         let linear: &[bool] = &self.linear;
         linear.len() as u32

@@ -38,25 +38,25 @@ same_where_zero f g v w (q ∷ qs) h k =
 
 module _ (space : Space) (root key : List ℕ) (t u : Table) (d : IsRowDictionary space key t)
     (e : IsRowDictionary space key u) where
-  point_too : ShowsPoint space root key t → ShowsPoint space root key u
+  point_too : ShowsPoint space.labels root key t → ShowsPoint space.labels root key u
   point_too h i o z k c l =
       sym (same_entry space root key t u d e i k o.row c)
       ∙ h i o (Agree.constants (agree space root key t u d e) d.points i (row_is_label space i o.row) ∙ z) k c l
 
-  ray_too : (s : ℕ) → ShowsRay space root key t s → ShowsRay space root key u s
+  ray_too : (s : ℕ) → ShowsRay space.labels root key t s → ShowsRay space.labels root key u s
   ray_too s h = record {
     column = h.column;
     none = λ i o. subst (λ (z : ℤ). pos 0 ≤ℤ z) (same_entry space root key t u d e i s o.row h.column) (h.none i o);
     others = λ j c n. subst IsPositive
         (same_where_zero (λ q. t.entry q j) (λ q. u.entry q j) (λ q. t.entry q s) (λ q. u.entry q s)
-        (backwards (order space root))
+        (backwards (order space.labels root))
         (λ q m. same_entry space root key t u d e q j (row_at q m) c)
         (λ q m. same_entry space root key t u d e q s (row_at q m) h.column))
         (h.others j c n);
   }
     where
-      row_at : (q : ℕ) → Contains (backwards (order space root)) q → Contains (rows_in space) q
-      row_at q m = order_only space root q (backwards_only (order space root) q m)
+      row_at : (q : ℕ) → Contains (backwards (order space.labels root)) q → Contains (rows_in space.labels) q
+      row_at q m = order_only space root q (backwards_only (order space.labels root) q m)
 
   pub shown_too : (place : Option ℕ) (y : Vector) → IsShownAt space root key t place y →
       IsShownAt space root key u place y

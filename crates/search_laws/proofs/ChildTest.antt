@@ -18,11 +18,11 @@ use Rattle.tree_laws.proofs.Back.{neighbour_back}
 use Rattle.search_laws.proofs.MovedColumns.{positive_at_members, column_r, column_j}
 
 module _ (space : Space) (root key new : List ℕ) (t u : Table) (f : IsLexFeasible space root key t)
-    (g : IsLexFeasible space root new u) (s : ℕ) (n : IsNeighbour space root key t s new) where
+    (g : IsLexFeasible space root new u) (s : ℕ) (n : IsNeighbour space.labels root key t s new) where
   there : Exchanges key new n.r s
   there = neighbour_exchanges space root key t s new f.dictionary n
 
-  back : IsNeighbour space root new u n.r key
+  back : IsNeighbour space.labels root new u n.r key
   back = (neighbour_back space root key new t u f g s n).0
 
   up_here : pos 0 <ℤ t.denominator
@@ -38,21 +38,21 @@ module _ (space : Space) (root key new : List ℕ) (t u : Table) (f : IsLexFeasi
       minus_positive (u.entry s n.r)
       (subst (λ k. u.entry k n.r <ℤ pos 0) w.1 w.0.leaves.negative)
 
-  at_r : (q : ℕ) → Contains (downward space root) q →
+  at_r : (q : ℕ) → Contains (downward space.labels root) q →
       t.denominator *ℤ neg_ℤ (u.entry q n.r) ≡ neg_ℤ (u.entry s n.r) *ℤ t.entry q s
   at_r q c =
       column_r space key new t u f.dictionary g.dictionary s n.r n.column n.leaves.row there q
       (backwards_within_only space root q c).0
 
-  pub enters_up : MayEnter space root u n.r → LeadsUp space root t s
+  pub enters_up : MayEnter space.labels root u n.r → LeadsUp space.labels root t s
   enters_up =
       positive_at_members t.denominator (neg_ℤ (u.entry s n.r)) up_here up_back (λ q. neg_ℤ (u.entry q n.r))
-      (λ q. t.entry q s) (downward space root) at_r
+      (λ q. t.entry q s) (downward space.labels root) at_r
 
-  pub up_enters : LeadsUp space root t s → MayEnter space root u n.r
+  pub up_enters : LeadsUp space.labels root t s → MayEnter space.labels root u n.r
   up_enters =
       positive_at_members (neg_ℤ (u.entry s n.r)) t.denominator up_back up_here (λ q. t.entry q s)
-      (λ q. neg_ℤ (u.entry q n.r)) (downward space root) (λ q c. sym (at_r q c))
+      (λ q. neg_ℤ (u.entry q n.r)) (downward space.labels root) (λ q c. sym (at_r q c))
 
   module _ (j : ℕ) (m : Contains key j) (o : j ≢ s) where
     factor_up : pos 0 <ℤ (neg_ℤ (t.entry n.r s) *ℤ t.denominator)
@@ -60,26 +60,26 @@ module _ (space : Space) (root key new : List ℕ) (t u : Table) (f : IsLexFeasi
         positive_product (neg_ℤ (t.entry n.r s)) t.denominator (minus_positive (t.entry n.r s) n.leaves.negative)
         up_here
 
-    at_j : (q : ℕ) → Contains (downward space root) q →
+    at_j : (q : ℕ) → Contains (downward space.labels root) q →
         (neg_ℤ (t.entry n.r s) *ℤ t.denominator) *ℤ neg_ℤ (u.entry q j)
         ≡ u.denominator *ℤ neg_ℤ (moved t s n.r j q)
     at_j q c =
         column_j space key new t u f.dictionary g.dictionary s n.r n.column n.leaves.row there j m o q
         (backwards_within_only space root q c).0
 
-    enters_would : MayEnter space root u j → WouldEnter t s n.r j (downward space root)
+    enters_would : MayEnter space.labels root u j → WouldEnter t s n.r j (downward space.labels root)
     enters_would =
         positive_at_members (neg_ℤ (t.entry n.r s) *ℤ t.denominator) u.denominator factor_up up_there
-        (λ q. neg_ℤ (u.entry q j)) (λ q. neg_ℤ (moved t s n.r j q)) (downward space root) at_j
+        (λ q. neg_ℤ (u.entry q j)) (λ q. neg_ℤ (moved t s n.r j q)) (downward space.labels root) at_j
 
-    would_enters : WouldEnter t s n.r j (downward space root) → MayEnter space root u j
+    would_enters : WouldEnter t s n.r j (downward space.labels root) → MayEnter space.labels root u j
     would_enters =
         positive_at_members u.denominator (neg_ℤ (t.entry n.r s) *ℤ t.denominator) up_there factor_up
-        (λ q. neg_ℤ (moved t s n.r j q)) (λ q. neg_ℤ (u.entry q j)) (downward space root) (λ q c. sym (at_j q c))
+        (λ q. neg_ℤ (moved t s n.r j q)) (λ q. neg_ℤ (u.entry q j)) (downward space.labels root) (λ q c. sym (at_j q c))
 
-  module _ (distinct : AreDistinct (rows_in space)) where
+  module _ (distinct : AreDistinct (rows_in space.labels)) where
     -- at a child the row that took the place enters
-    r_enters : (p : IsParent space root new u key) → p.s ≡ n.r
+    r_enters : (p : IsParent space.labels root new u key) → p.s ≡ n.r
     r_enters p =
         ⊎_elim
         (λ (e : n.r ≡ p.s). sym e)
@@ -87,41 +87,41 @@ module _ (space : Space) (root key new : List ℕ) (t u : Table) (f : IsLexFeasi
         (Exchanges.kept (neighbour_exchanges space root new u p.s key g.dictionary p.neighbour) n.r there.entering o)))
         (cases_eq n.r p.s)
 
-    pub to_down : IsParent space root new u key → IsDown space root key t s n.r
+    pub to_down : IsParent space.labels root new u key → IsDown space.labels root key t s n.r
     to_down p = record {
-      lead = enters_up (subst (λ k. MayEnter space root u k) (r_enters p) p.enters.may);
+      lead = enters_up (subst (λ k. MayEnter space.labels root u k) (r_enters p) p.enters.may);
       others = λ j m o b w. ⊎_elim
           (λ (e : j ≡ n.r). n.leaves.row.outside (subst (Contains key) e m))
-          (λ (a : IsEarlier space root n.r j). not_earlier_and_later space root distinct j n.r b a)
-          (subst (λ k. (j ≡ k) ⊎ IsEarlier space root k j) (r_enters p)
+          (λ (a : IsEarlier space.labels root n.r j). not_earlier_and_later space root distinct j n.r b a)
+          (subst (λ k. (j ≡ k) ⊎ IsEarlier space.labels root k j) (r_enters p)
           (p.enters.least j (there.kept j m o) (would_enters j m o w)));
     }
 
-    pub from_down : IsDown space root key t s n.r → IsParent space root new u key
+    pub from_down : IsDown space.labels root key t s n.r → IsParent space.labels root new u key
     from_down w = record {
       s = n.r;
       enters = record { column = there.entering; may = up_enters w.lead; least = least };
       neighbour = back;
     }
       where
-        other : (k : ℕ) → MayEnter space root u k → Contains key k → k ≢ s → IsEarlier space root n.r k
+        other : (k : ℕ) → MayEnter space.labels root u k → Contains key k → k ≢ s → IsEarlier space.labels root n.r k
         other k m c o =
             ⊎_elim
-            (λ (b : IsEarlier space root k n.r). absurd (w.others k c o b (enters_would k c o m)))
-            (λ (a : IsEarlier space root n.r k). a)
+            (λ (b : IsEarlier space.labels root k n.r). absurd (w.others k c o b (enters_would k c o m)))
+            (λ (a : IsEarlier space.labels root n.r k). a)
             (one_is_earlier space root k n.r (key_row space key t f.dictionary k c) n.leaves.row.row
             (λ e. n.leaves.row.outside (subst (Contains key) e c)))
 
-        least : (k : ℕ) → Contains new k → MayEnter space root u k → (k ≡ n.r) ⊎ IsEarlier space root n.r k
+        least : (k : ℕ) → Contains new k → MayEnter space.labels root u k → (k ≡ n.r) ⊎ IsEarlier space.labels root n.r k
         least k c m =
             ⊎_elim
             (λ (e : k ≡ n.r). inl e)
             (λ (h : Contains key k × (k ≢ s)). inr (other k m h.0 h.1))
             (there.only k c)
 
-pub child_by_test : (space : Space) (root key : List ℕ) (home t : Table) → AreDistinct (rows_in space) →
+pub child_by_test : (space : Space) (root key : List ℕ) (home t : Table) → AreDistinct (rows_in space.labels) →
     IsRowDictionary space root home → IsLexFeasible space root key t → (s r : ℕ) → Contains key s →
-    Leaves space root key t s r → IsChild space root key (exchanged_key key s r) ↔ IsDown space root key t s r
+    Leaves space.labels root key t s r → IsChild space root key (exchanged_key key s r) ↔ IsDown space.labels root key t s r
 child_by_test space root key home t distinct h f s r c l = (
   λ k. to_down space root key new t k.0 f k.1 s n distinct k.2,
   λ w. (u.0, g, from_down space root key new t u.0 f g s n distinct w),
@@ -130,7 +130,7 @@ child_by_test space root key home t distinct h f s r c l = (
     new : List ℕ
     new = exchanged_key key s r
 
-    n : IsNeighbour space root key t s new
+    n : IsNeighbour space.labels root key t s new
     n = record { column = c; r = r; leaves = l; exchange = refl }
 
     u : (v : Table) × IsRowDictionary space new v

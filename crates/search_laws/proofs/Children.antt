@@ -19,32 +19,32 @@ use Rattle.tree_laws.proofs.Parents.{root_or_child, one_parent}
 use Rattle.search_laws.proofs.OnceLists.{one_key_or_not, one_of_or_not, at_first_or_later}
 
 module _ (space : Space) (root : List ℕ) (home : Table) (h : IsFeasibleRoot space root home)
-    (distinct : AreDistinct (rows_in space)) where
+    (distinct : AreDistinct (rows_in space.labels)) where
   -- whether a key is the parent of a feasible cobasis
   parent_or_not : (child key : List ℕ) (u : Table) → IsLexFeasible space root child u →
-      IsParent space root child u key ⊎ (IsParent space root child u key → ⊥)
+      IsParent space.labels root child u key ⊎ (IsParent space.labels root child u key → ⊥)
   parent_or_not child key u g = by (root_or_child space root child home u h g)
     where
-      by : IsRootOrChild space root child u → IsParent space root child u key ⊎ (IsParent space root child u key → ⊥)
+      by : IsRootOrChild space root child u → IsParent space.labels root child u key ⊎ (IsParent space.labels root child u key → ⊥)
       by (inl r) = inr (r.1 key)
       by (inr r) =
           ⊎_elim
-          (λ (e : r.1 ≡ key). inl (subst (λ k. IsParent space root child u k) e r.2))
+          (λ (e : r.1 ≡ key). inl (subst (λ k. IsParent space.labels root child u k) e r.2))
           (λ (n : r.1 ≡ key → ⊥). inr (λ p. n (one_parent space root child r.1 key home u u distinct h.dictionary
           g.dictionary g.dictionary r.2 p)))
           (one_key_or_not r.1 key)
 
   module _ (key : List ℕ) (t : Table) (f : IsLexFeasible space root key t) where
     pub child_column : (child : List ℕ) → IsChild space root key child →
-        (s : ℕ) × IsNeighbour space root key t s child
+        (s : ℕ) × IsNeighbour space.labels root key t s child
     child_column child (u, g, p) =
         (p.neighbour.r, (child_is_neighbour space root child key u t g f p).0)
 
     abbrev HasChildAt : ℕ → Type 0
-    HasChildAt s = (child : List ℕ) × IsChild space root key child × IsNeighbour space root key t s child
+    HasChildAt s = (child : List ℕ) × IsChild space root key child × IsNeighbour space.labels root key t s child
 
     abbrev HasNoChildAt : ℕ → Type 0
-    HasNoChildAt s = (child : List ℕ) → IsChild space root key child → IsNeighbour space root key t s child → ⊥
+    HasNoChildAt s = (child : List ℕ) → IsChild space root key child → IsNeighbour space.labels root key t s child → ⊥
 
     pub child_or_none : (s : ℕ) → Contains key s → HasChildAt s ⊎ HasNoChildAt s
     child_or_none s c = by (none_or_leaves space root key t s)
@@ -52,13 +52,13 @@ module _ (space : Space) (root : List ℕ) (home : Table) (h : IsFeasibleRoot sp
         not_less : (i : ℕ) → pos 0 ≤ℤ t.entry i s → t.entry i s <ℤ pos 0 → ⊥
         not_less i a b = omega (arith, lin)
 
-        with_row : (r : ℕ) → Leaves space root key t s r → HasChildAt s ⊎ HasNoChildAt s
+        with_row : (r : ℕ) → Leaves space.labels root key t s r → HasChildAt s ⊎ HasNoChildAt s
         with_row r l = by_parent (parent_or_not new key w.0 g)
           where
             new : List ℕ
             new = exchanged_key key s r
 
-            n : IsNeighbour space root key t s new
+            n : IsNeighbour space.labels root key t s new
             n = record { column = c; r = r; leaves = l; exchange = refl }
 
             w : (u : Table) × IsRowDictionary space new u
@@ -67,7 +67,7 @@ module _ (space : Space) (root : List ℕ) (home : Table) (h : IsFeasibleRoot sp
             g : IsLexFeasible space root new w.0
             g = neighbour_feasible space root key t s new home w.0 h.dictionary f n w.1
 
-            by_parent : IsParent space root new w.0 key ⊎ (IsParent space root new w.0 key → ⊥) →
+            by_parent : IsParent space.labels root new w.0 key ⊎ (IsParent space.labels root new w.0 key → ⊥) →
                 HasChildAt s ⊎ HasNoChildAt s
             by_parent (inl p) = inl (new, (w.0, g, p), n)
             by_parent (inr m) = inr (λ child k j. none child k
@@ -76,9 +76,9 @@ module _ (space : Space) (root : List ℕ) (home : Table) (h : IsFeasibleRoot sp
                 none : (child : List ℕ) → IsChild space root key child → child ≡ new → ⊥
                 none child (u, e, p) q =
                     m (parent_too space root new u w.0 (subst (λ k. IsLexFeasible space root k u) q e).dictionary
-                    w.1 key (subst (λ k. IsParent space root k u key) q p))
+                    w.1 key (subst (λ k. IsParent space.labels root k u key) q p))
 
-        by : ((i : ℕ) → IsRowOutside space key i → pos 0 ≤ℤ t.entry i s) ⊎ ((r : ℕ) × Leaves space root key t s r) →
+        by : ((i : ℕ) → IsRowOutside space.labels key i → pos 0 ≤ℤ t.entry i s) ⊎ ((r : ℕ) × Leaves space.labels root key t s r) →
             HasChildAt s ⊎ HasNoChildAt s
         by (inl none) = inr (λ child k n. not_less n.r (none n.r n.leaves.row) n.leaves.negative)
         by (inr w) = with_row w.0 w.1
@@ -89,14 +89,14 @@ module _ (space : Space) (root : List ℕ) (home : Table) (h : IsFeasibleRoot sp
       once : StandOnce children
       only : (child : List ℕ) → Contains children child → IsChild space root key child
       each : (child : List ℕ) (s : ℕ) → Contains columns s → IsChild space root key child →
-          IsNeighbour space root key t s child → Contains children child
+          IsNeighbour space.labels root key t s child → Contains children child
 
     at_column : (child : List ℕ) (s : ℕ) (columns : List ℕ) (P : Type 0) →
-        (IsNeighbour space root key t s child → P) →
-        ((r : ℕ) → Contains columns r → IsNeighbour space root key t r child → P) →
-        (r : ℕ) → Contains (s ∷ columns) r → IsNeighbour space root key t r child → P
+        (IsNeighbour space.labels root key t s child → P) →
+        ((r : ℕ) → Contains columns r → IsNeighbour space.labels root key t r child → P) →
+        (r : ℕ) → Contains (s ∷ columns) r → IsNeighbour space.labels root key t r child → P
     at_column child s columns P a b =
-        at_first_or_later (λ r. IsNeighbour space root key t r child → P) s columns a b
+        at_first_or_later (λ r. IsNeighbour space.labels root key t r child → P) s columns a b
 
     found_none : (s : ℕ) (columns : List ℕ) → HasNoChildAt s → Found columns → Found (s ∷ columns)
     found_none s columns none w = record {
@@ -108,10 +108,10 @@ module _ (space : Space) (root : List ℕ) (home : Table) (h : IsFeasibleRoot sp
     }
 
     found_child : (s : ℕ) (columns : List ℕ) (b : List ℕ) → IsChild space root key b →
-        IsNeighbour space root key t s b → Found columns → Found (s ∷ columns)
+        IsNeighbour space.labels root key t s b → Found columns → Found (s ∷ columns)
     found_child s columns b k n w = by (one_of_or_not w.children b)
       where
-        one : (child : List ℕ) → IsNeighbour space root key t s child → b ≡ child
+        one : (child : List ℕ) → IsNeighbour space.labels root key t s child → b ≡ child
         one child m = one_neighbour space root key t home h.dictionary f.dictionary s b child n m
 
         by : Contains w.children b ⊎ (Contains w.children b → ⊥) → Found (s ∷ columns)

@@ -12,7 +12,8 @@ use Rattle.linear_laws.proofs.Members.{Contains-nil, Contains-first, Contains-la
 use Rattle.dictionary_laws.proofs.Members.{contains_or, contains_cases}
 use Rattle.dictionary_laws.specs.Keys.{Exchanges}
 use Rattle.search_laws.specs.Lowering.{HasEnd}
-use Rattle.search_laws.specs.PhaseOne.{HasNoRowZero, MeetsRows, IsWorst, GivesRoot}
+use Rattle.poly_model.specs.PhaseOne.{IsWorst}
+use Rattle.search_laws.specs.PhaseOne.{HasNoRowZero, MeetsRows, GivesRoot}
 use Rattle.search_laws.specs.PhaseEnds.{HasRoot, IsDecided}
 use Rattle.tree_laws.proofs.LexLemmas.{by_sign}
 use Rattle.tree_laws.proofs.OrderLemmas.{row_outside, is_row_outside}
@@ -86,7 +87,7 @@ module _ (space : Space) (start : List ℕ) (none : HasNoRowZero space) where
   from_outside key t f o z =
       let s = some_column space start key t f.dictionary in
       let g = exchange_at_zero (lifted space start) key t f 0 s.0
-      (record { row = Contains-first 0 (rows_in space); outside = o }) z s.1 s.2 in
+      (record { row = Contains-first 0 (rows_in space.labels); outside = o }) z s.1 s.2 in
       from_inside (exchanged_key key s.0 0) g.some.0 (g.feasible g.some.0 g.some.1)
       (Exchanges.entering (exchanges key s.0 0 f.dictionary.ascending o))
 
@@ -96,7 +97,7 @@ module _ (space : Space) (start : List ℕ) (none : HasNoRowZero space) where
       (λ up. inr (none_meets_rows space start e.end e.table none f.dictionary e.lowest up))
       (λ z. inl (⊎_elim (from_inside e.end e.table f) (λ (o : Contains e.end 0 → ⊥). from_outside e.end e.table f o z)
       (contains_or e.end 0)))
-      (λ down. absurd (below (e.table.constant 0) down (f.constants 0 (Contains-first 0 (rows_in space)))))
+      (λ down. absurd (below (e.table.constant 0) down (f.constants 0 (Contains-first 0 (rows_in space.labels)))))
     where
       f : IsFeasibleRoot (lifted space start) e.end e.table
       f = constants_are_not_negative (lifted space start) root e.end e.table e.feasible
@@ -113,10 +114,10 @@ module _ (space : Space) (start : List ℕ) (none : HasNoRowZero space) where
         by : HasRoot (lifted space start) → HasRoot space ⊎ (MeetsRows space → ⊥)
         by (root, home, f) =
             from_end root root
-            (steps_end (lifted space start) root home f.dictionary 0 (Contains-first 0 (rows_in space))
+            (steps_end (lifted space start) root home f.dictionary 0 (Contains-first 0 (rows_in space.labels))
             (record { key = root; table = home; feasible = root_is_feasible (lifted space start) root home f }))
 
-    already : ((i : ℕ) → IsRowOutside space start i → pos 0 ≤ℤ t.constant i) → HasRoot space
+    already : ((i : ℕ) → IsRowOutside space.labels start i → pos 0 ≤ℤ t.constant i) → HasRoot space
     already h = (
       start,
       t,
@@ -133,7 +134,7 @@ module _ (space : Space) (start : List ℕ) (none : HasNoRowZero space) where
         no_less : (x : ℤ) → x ≡ pos 0 → pos 0 ≤ℤ x
         no_less x e = omega (arith, lin)
 
-    from_rows : (ks : List ℕ) → outside space start ≡ ks → HasRoot space ⊎ (MeetsRows space → ⊥)
+    from_rows : (ks : List ℕ) → outside space.labels start ≡ ks → HasRoot space ⊎ (MeetsRows space → ⊥)
     from_rows [] e =
         inl (already (λ i o. absurd (Contains-nil i (subst (λ ks. Contains ks i) e (row_outside space start i o)))))
     from_rows (k ∷ ks) e = by (least_in t.constant k ks)
@@ -154,7 +155,7 @@ module _ (space : Space) (start : List ℕ) (none : HasNoRowZero space) where
             (l i (subst (λ xs. Contains xs i) e (row_outside space start i o))))))
 
     decides : HasRoot space ⊎ (MeetsRows space → ⊥)
-    decides = from_rows (outside space start) refl
+    decides = from_rows (outside space.labels start) refl
 
     pub phase_one_decides : IsDecided space
     phase_one_decides = record {

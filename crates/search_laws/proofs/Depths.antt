@@ -32,13 +32,13 @@ child_above space root key child (t, f, p) = (t, f.dictionary.dictionary, key, p
 module _ (space : Space) (root : List ℕ) (home : Table) (h : IsFeasibleRoot space root home) where
   -- a parent by any table is feasible, and by the table of the feasible child it is the same
   by_own_table : (key parent : List ℕ) (f : IsFeasibleKey space root key) (u : Table) → IsDictionary space key u →
-      IsParent space root key u parent → IsParent space root key f.0 parent
+      IsParent space.labels root key u parent → IsParent space.labels root key f.0 parent
   by_own_table key parent f u d p =
       parent_too space root key u f.0
       (other_table space root home h.dictionary key f.0 u f.1.dictionary d) f.1.dictionary parent p
 
   pub parent_key : (key parent : List ℕ) → IsFeasibleKey space root key → (u : Table) → IsDictionary space key u →
-      IsParent space root key u parent → IsFeasibleKey space root parent
+      IsParent space.labels root key u parent → IsFeasibleKey space root parent
   parent_key key parent f u d p =
       parent_feasible space root home h.dictionary key parent f.0 f.1 (by_own_table key parent f u d p)
 
@@ -52,13 +52,13 @@ module _ (space : Space) (root : List ℕ) (home : Table) (h : IsFeasibleRoot sp
   pub last_step : (n : ℕ) (a b : List ℕ) → IsFeasibleKey space root a → IsAbove space root (suc n) a b →
       (child : List ℕ) × IsAbove space root n a child × IsChild space root b child
   last_step zero a b f (u, d, parent, p, x) =
-      (a, refl, (f.0, f.1, subst (λ k. IsParent space root a f.0 k) x (by_own_table a parent f u d p)))
+      (a, refl, (f.0, f.1, subst (λ k. IsParent space.labels root a f.0 k) x (by_own_table a parent f u d p)))
   last_step (suc n) a b f (u, d, parent, p, x) =
       let w = last_step n parent b (parent_key a parent f u d p) x in (w.0, (u, d, parent, p, w.1), w.2)
 
-  module _ (distinct : AreDistinct (rows_in space)) where
+  module _ (distinct : AreDistinct (rows_in space.labels)) where
     same_parent : (a b c : List ℕ) (f : IsFeasibleKey space root a) (u v : Table) → IsDictionary space a u →
-        IsDictionary space a v → IsParent space root a u b → IsParent space root a v c → b ≡ c
+        IsDictionary space a v → IsParent space.labels root a u b → IsParent space.labels root a v c → b ≡ c
     same_parent a b c f u v d e p q =
         one_parent space root a b c home f.0 f.0 distinct h.dictionary f.1.dictionary f.1.dictionary
         (by_own_table a b f u d p) (by_own_table a c f v e q)

@@ -13,7 +13,8 @@ use Rattle.linear_laws.proofs.Members.{Contains-first, Contains-later}
 use Rattle.linear_laws.proofs.Nearest.{nonnegative_product, nonnegative_factor}
 use Rattle.dictionary_laws.specs.Keys.{Exchanges}
 use Rattle.dictionary_laws.proofs.Members.{contains_or, contains_cases}
-use Rattle.search_laws.specs.PhaseOne.{HasNoRowZero, with_t, IsWorst, GivesRoot}
+use Rattle.poly_model.specs.PhaseOne.{IsWorst}
+use Rattle.search_laws.specs.PhaseOne.{HasNoRowZero, with_t, GivesRoot}
 use Rattle.tree_laws.proofs.OrderLemmas.{row_only}
 use Rattle.tree_laws.proofs.ExchangedKeys.{exchanges}
 use Rattle.tree_laws.proofs.Exchange.{exchanged_dictionary}
@@ -58,12 +59,12 @@ module _ (space : Space) (start : List ℕ) (t : Table) (none : HasNoRowZero spa
   abbrev new : List ℕ
   new = exchanged_key (0 ∷ start) 0 r
 
-  row_not_t : (i : ℕ) → Contains (rows_in space) i → i ≢ 0
+  row_not_t : (i : ℕ) → Contains (rows_in space.labels) i → i ≢ 0
   row_not_t i c = not_t space start none i (row_only space i c).0
 
-  comes_in : IsRowOutside (first space start) (0 ∷ start) r
+  comes_in : IsRowOutside (first space start).labels (0 ∷ start) r
   comes_in = record {
-    row = Contains-later r 0 (rows_in space) w.row.row;
+    row = Contains-later r 0 (rows_in space.labels) w.row.row;
     outside = λ c. ⊎_elim (row_not_t r w.row.row) w.row.outside (contains_cases 0 start r c);
   }
 
@@ -89,7 +90,7 @@ module _ (space : Space) (start : List ℕ) (t : Table) (none : HasNoRowZero spa
         let n = start_not_t space start none t d k c in
         sym (value_inside space start k n c x z) ∙ at.nothing k (keys.kept k (Contains-later k 0 start c) n)
 
-    constant_is : (i : ℕ) → Contains (rows_in space) i →
+    constant_is : (i : ℕ) → Contains (rows_in space.labels) i →
         t.denominator *ℤ (space.form i · z) ≡ t.constant i *ℤ (space.infinity · z)
     constant_is i l = row_at_point space start t d i l z (inside_rest space start x z at.inside) start_zero
 
@@ -98,7 +99,7 @@ module _ (space : Space) (start : List ℕ) (t : Table) (none : HasNoRowZero spa
         sym (value_outside space start r (row_not_t r w.row.row) (row_only space r w.row.row).1 w.row.outside x z)
         ∙ at.nothing r keys.entering
 
-    row_value : (i : ℕ) → Contains (rows_in space) i → pos 0 ≤ℤ ((first space start).form i · (x ∷ z))
+    row_value : (i : ℕ) → Contains (rows_in space.labels) i → pos 0 ≤ℤ ((first space start).form i · (x ∷ z))
     row_value i l =
         ⊎_elim
         (λ (c : Contains start i). at_least ((first space start).form i · (x ∷ z))
@@ -117,12 +118,12 @@ module _ (space : Space) (start : List ℕ) (t : Table) (none : HasNoRowZero spa
         (t_above t.denominator (space.infinity · z) x (space.form r · z) (t.constant r) d.dictionary.writes.positive
         level r_zero (constant_is r w.row.row) w.negative)
 
-    all_values : (i : ℕ) → Contains (0 ∷ rows_in space) i → pos 0 ≤ℤ ((first space start).form i · (x ∷ z))
+    all_values : (i : ℕ) → Contains (0 ∷ rows_in space.labels) i → pos 0 ≤ℤ ((first space start).form i · (x ∷ z))
     all_values i c =
         ⊎_elim
         (λ (e : i ≡ 0). subst (λ j. pos 0 ≤ℤ ((first space start).form j · (x ∷ z))) (sym e) t_value)
         (row_value i)
-        (contains_cases 0 (rows_in space) i c)
+        (contains_cases 0 (rows_in space.labels) i c)
 
   pub first_root : GivesRoot (lifted space start) new
   first_root = record {

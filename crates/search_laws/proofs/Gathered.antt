@@ -43,7 +43,7 @@ pub record Gathers (space : Space) (root : List ℕ) (keys : List (List ℕ)) (w
   pub size : length ones ≡ w
 
 module _ (space : Space) (root : List ℕ) (home : Table) (h : IsFeasibleRoot space root home)
-    (distinct : AreDistinct (rows_in space)) where
+    (distinct : AreDistinct (rows_in space.labels)) where
   tree : IsTree space root
   tree = is_tree space root home h distinct
 

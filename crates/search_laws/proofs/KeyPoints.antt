@@ -26,7 +26,7 @@ module _ (space : Space) (key : List ℕ) (t : Table) (d : IsRowDictionary space
       )
 
   module _ (y : Vector) (at : IsKeyPoint space key y) where
-    pub root_from_point : ((i : ℕ) → Contains (rows_in space) i → pos 0 ≤ℤ (space.form i · y)) →
+    pub root_from_point : ((i : ℕ) → Contains (rows_in space.labels) i → pos 0 ≤ℤ (space.form i · y)) →
         IsFeasibleRoot space key t
     root_from_point h =
         record { dictionary = d; constants = λ i l. nonnegative_constant space key t d y at i l (h i l) }

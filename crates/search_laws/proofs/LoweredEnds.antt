@@ -6,14 +6,15 @@ use Rattle.poly_model.specs.Dictionaries.{Table, IsDictionary}
 use Rattle.poly_model.specs.LexOrder.{rows_in}
 use Rattle.poly_model.specs.Tree.{IsRowDictionary, IsLexFeasible}
 use Rattle.dictionary_laws.specs.Keys.{AreDistinct}
-use Rattle.search_laws.specs.Lowering.{IsStep, IsLowest, IsDescent, HasEnd}
+use Rattle.poly_model.specs.Lowering.{IsLoweringStep, IsLowest, IsDescent}
+use Rattle.search_laws.specs.Lowering.{HasEnd}
 use Rattle.tree_laws.proofs.Neighbours.{neighbour_dictionary, neighbour_feasible}
 use Rattle.tree_laws.proofs.Chains.{State, by_falls, other_table}
 use Rattle.search_laws.proofs.Lowered.{only_row, row_falls, some_step, lowest_too, step_too, no_step, one_step}
 
 module _ (space : Space) (root : List ℕ) (home : Table) (h : IsRowDictionary space root home) (q : ℕ)
-    (l : Contains (rows_in space) q) where
-  after : (key new : List ℕ) (t : Table) → IsLexFeasible space root key t → IsStep space root q key t new →
+    (l : Contains (rows_in space.labels) q) where
+  after : (key new : List ℕ) (t : Table) → IsLexFeasible space root key t → IsLoweringStep space.labels root q key t new →
       (u : Table) × IsLexFeasible space root new u
   after key new t f x =
       let w = neighbour_dictionary space root key t x.s new f.dictionary x.neighbour in
@@ -31,7 +32,7 @@ module _ (space : Space) (root : List ℕ) (home : Table) (h : IsRowDictionary s
         lowest = lowest;
         descent = refl;
       }))
-      (λ (w : (new : List ℕ) × IsStep space root q d.key d.table new).
+      (λ (w : (new : List ℕ) × IsLoweringStep space.labels root q d.key d.table new).
       let u = after d.key w.0 d.table d.feasible w.1 in
       inr (
         record { key = w.0; table = u.0; feasible = u.1 },
@@ -49,11 +50,11 @@ module _ (space : Space) (root : List ℕ) (home : Table) (h : IsRowDictionary s
       (some_step space root d.key d.table d.feasible.dictionary q l))
 
   -- ---- it is one
-  module _ (distinct : AreDistinct (rows_in space)) where
+  module _ (distinct : AreDistinct (rows_in space.labels)) where
     -- no step leads on from where the row is lowest
     ends : (key end : List ℕ) (t u : Table) → IsLexFeasible space root key t → IsDictionary space end u →
         IsLowest end u q → key ≡ end → (v : Table) → IsDictionary space key v → (new : List ℕ) →
-        IsStep space root q key v new → ⊥
+        IsLoweringStep space.labels root q key v new → ⊥
     ends key end t u f e low same v g new x =
         no_step space root key v d q l
         (lowest_too space root key u

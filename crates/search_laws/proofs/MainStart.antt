@@ -48,7 +48,7 @@ marked_ascend (x ∷ ks) (true ∷ ms) h = (
 marked_ascend (x ∷ ks) (false ∷ ms) h = marked_ascend ks ms h.1
 
 -- ---- the start cobasis
-start_dictionary : (space : Space) → HasPoints space → IsAscending (rows_in space) → RowsDetermine space →
+start_dictionary : (space : Space) → HasPoints space → IsAscending (rows_in space.labels) → RowsDetermine space →
     (start : List ℕ) → IsStartCobasis space start → (t : Table) × IsRowDictionary space start t
 start_dictionary space points ascending rows start h =
     with_table (some_dictionary space start (start_is_cobasis space rows start h))
@@ -58,11 +58,11 @@ start_dictionary space points ascending rows start h =
       t,
       record {
         points = points;
-        ascending = subst IsAscending (sym h.taken) (marked_ascend (rows_in space) h.marks ascending);
-        rows = subst (λ ks. All (Contains (rows_in space)) ks) (sym h.taken)
-            (All-from_recursion (Contains (rows_in space)) (marked (rows_in space) h.marks)
-            (all_from (Contains (rows_in space)) (marked (rows_in space) h.marks)
-            (marked_only (rows_in space) h.marks)));
+        ascending = subst IsAscending (sym h.taken) (marked_ascend (rows_in space.labels) h.marks ascending);
+        rows = subst (λ ks. All (Contains (rows_in space.labels)) ks) (sym h.taken)
+            (All-from_recursion (Contains (rows_in space.labels)) (marked (rows_in space.labels) h.marks)
+            (all_from (Contains (rows_in space.labels)) (marked (rows_in space.labels) h.marks)
+            (marked_only (rows_in space.labels) h.marks)));
         dictionary = d;
       },
     )

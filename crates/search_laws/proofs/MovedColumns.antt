@@ -64,10 +64,10 @@ solved_either true D E x y a v u h = solved_here D E x y a v u h
 solved_either false D E x y a v u h = solved_apart D E x y a v u (pos 0) refl h
 
 module _ (space : Space) (key new : List ℕ) (t u : Table) (d : IsRowDictionary space key t)
-    (e : IsRowDictionary space new u) (s r : ℕ) (c : Contains key s) (o : IsRowOutside space key r)
+    (e : IsRowDictionary space new u) (s r : ℕ) (c : Contains key s) (o : IsRowOutside space.labels key r)
     (x : Exchanges key new r s) where
   -- the column of r is that of s, turned
-  pub column_r : (q : ℕ) → Contains (rows_in space) q →
+  pub column_r : (q : ℕ) → Contains (rows_in space.labels) q →
       t.denominator *ℤ neg_ℤ (u.entry q r) ≡ neg_ℤ (u.entry s r) *ℤ t.entry q s
   column_r q l =
       turn t.denominator (u.entry q r) (t.entry q s) (u.entry s r)
@@ -87,7 +87,7 @@ module _ (space : Space) (key new : List ℕ) (t u : Table) (d : IsRowDictionary
         less : (a b c : ℤ) → a ≡ pos 0 → b ≡ c → a -ℤ b ≡ neg_ℤ c
         less a b c e f = omega (arith, lin)
 
-    pub column_j : (q : ℕ) → Contains (rows_in space) q →
+    pub column_j : (q : ℕ) → Contains (rows_in space.labels) q →
         (neg_ℤ (t.entry r s) *ℤ t.denominator) *ℤ neg_ℤ (u.entry q j) ≡ u.denominator *ℤ neg_ℤ (moved t s r j q)
     column_j q l =
         solved_either (j == q) t.denominator u.denominator (t.entry r s) (t.entry q s) (t.entry q j) (t.entry r j)

@@ -85,12 +85,12 @@ module _ (space : Space) (root key : List ℕ) (t : Table) (d : IsRowDictionary 
   once : (x y : ℤ) → x ≡ y → pos 1 *ℤ x ≡ y
   once x y e = one_mul x ∙ e
 
-  kept : t.entry r j ≡ pos 0 → WouldEnter t s r j (downward space root) ↔ MayEnter space root t j
+  kept : t.entry r j ≡ pos 0 → WouldEnter t s r j (downward space.labels root) ↔ MayEnter space.labels root t j
   kept z = (
     positive_at_members (pos 1) (neg_ℤ (t.entry r s)) one_up up (λ q. neg_ℤ (moved t s r j q))
-        (λ q. neg_ℤ (t.entry q j)) (downward space root) (λ q _. part q),
+        (λ q. neg_ℤ (t.entry q j)) (downward space.labels root) (λ q _. part q),
     positive_at_members (neg_ℤ (t.entry r s)) (pos 1) up one_up (λ q. neg_ℤ (t.entry q j))
-        (λ q. neg_ℤ (moved t s r j q)) (downward space root) (λ q _. sym (part q)),
+        (λ q. neg_ℤ (moved t s r j q)) (downward space.labels root) (λ q _. sym (part q)),
   )
     where
       part : (q : ℕ) → pos 1 *ℤ neg_ℤ (moved t s r j q) ≡ neg_ℤ (t.entry r s) *ℤ neg_ℤ (t.entry q j)
@@ -131,7 +131,7 @@ module _ (space : Space) (root key : List ℕ) (t : Table) (d : IsRowDictionary 
       decides (neg_ℤ (t.entry r s)) (neg_ℤ (moved t s r j q)) (t.entry q j)
       (IsPositive (map (λ q. neg_ℤ (moved t s r j q)) qs)) up (one_part q (zero_times (t.entry q s) (t.entry r j) z)) o
 
-  pub are_moved : AreMoved space root key t s r j
+  pub are_moved : AreMoved space.labels root key t s r j
   are_moved = record {
     at_r = same_row (t.entry r s) (t.entry r j);
     at_s = at_s;

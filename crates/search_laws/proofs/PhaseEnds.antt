@@ -19,7 +19,7 @@ use Rattle.dictionary_laws.proofs.Members.{contains_cases, sum_single}
 use Rattle.dictionary_laws.proofs.Directions.{times_zero, zero_times}
 use Rattle.dictionary_laws.proofs.Duals.{distinct}
 use Rattle.dictionary_laws.proofs.Values.{terms}
-use Rattle.search_laws.specs.Lowering.{IsLowest}
+use Rattle.poly_model.specs.Lowering.{IsLowest}
 use Rattle.search_laws.specs.PhaseOne.{HasNoRowZero, MeetsRows, GivesRoot}
 use Rattle.tree_laws.proofs.LexLemmas.{by_sign}
 use Rattle.tree_laws.proofs.FirstMembers.{IsFirst, first_with}
@@ -66,11 +66,11 @@ module _ (space : Space) (start key : List ℕ) (t : Table) where
         ⊎_elim
         (λ (e : k ≡ 0). at_least ((first space start).form k · lifted_vector)
         (ap (λ j. (first space start).form j · lifted_vector) e ∙ value_of_t space start (pos 0) m.vector))
-        (λ (l : Contains (rows_in space) k).
+        (λ (l : Contains (rows_in space.labels) k).
         subst (λ (x : ℤ). pos 0 ≤ℤ x)
         (sym (value_without space start k (not_t space start none k (row_only space k l).0) (pos 0) m.vector refl))
         (m.rows k l))
-        (contains_cases 0 (rows_in space) k (key_row (first space start) key t d k c))
+        (contains_cases 0 (rows_in space.labels) k (key_row (first space start) key t d k c))
       where
         at_least : (x : ℤ) → x ≡ pos 0 → pos 0 ≤ℤ x
         at_least x e = omega (arith, lin)
@@ -97,7 +97,7 @@ module _ (space : Space) (start key : List ℕ) (t : Table) where
       ⊎_elim
       (λ (none : (k : ℕ) → Contains key k → (t.entry 0 k ≢ pos 0) → ⊥).
       absurd (t_is_not_zero space start
-      (row_at_direction (first space start) key t d 0 (Contains-first 0 (rows_in space)) (along_t space start)
+      (row_at_direction (first space start) key t d 0 (Contains-first 0 (rows_in space.labels)) (along_t space start)
       (along_t_direction space start)
       (λ c m. inl (⊎_elim (λ (e : t.entry 0 c ≡ pos 0). e) (λ (n : t.entry 0 c ≢ pos 0). absurd (none c m n))
       (zero_or (t.entry 0 c)))))))
@@ -108,7 +108,7 @@ module _ (space : Space) (start key : List ℕ) (t : Table) where
 
 -- ---- an exchange at which constants stay as they are
 module _ (space : Space) (key : List ℕ) (t : Table) (f : IsFeasibleRoot space key t) (q s : ℕ)
-    (o : IsRowOutside space key q) (z : t.constant q ≡ pos 0) (c : Contains key s) (n : t.entry q s ≢ pos 0) where
+    (o : IsRowOutside space.labels key q) (z : t.constant q ≡ pos 0) (c : Contains key s) (n : t.entry q s ≢ pos 0) where
   abbrev new : List ℕ
   new = exchanged_key key s q
 

@@ -11,7 +11,7 @@ use Rattle.search_laws.specs.Shares.{InShare, IsShownBy}
 use Rattle.search_laws.proofs.ShareParts.{root_has_all}
 
 pub share_of_root : (space : Space) (root : List ℕ) (home : Table) → IsFeasibleRoot space root home →
-    AreDistinct (rows_in space) → (y : Vector) → InShare space root root y ↔ IsExtremeIn space y
+    AreDistinct (rows_in space.labels) → (y : Vector) → InShare space root root y ↔ IsExtremeIn space y
 share_of_root space root home h distinct y = (
   λ w. extreme ((root_has_all space root home h y).0 w),
   λ e. let k = shown_once space root home y e h distinct in

@@ -39,7 +39,7 @@ module _ (space : Space) (root : List ℕ) (rays : RaysAreOne space root) where
       absurd (finite_or_not (space.infinity · y) z.1.finite x.1.level)
   one_place b c y (t, f, Some s, x) (u, g, Some r, z) = rays b c t u s r y f g x z
 
-  module _ (home : Table) (h : IsFeasibleRoot space root home) (distinct : AreDistinct (rows_in space)) where
+  module _ (home : Table) (h : IsFeasibleRoot space root home) (distinct : AreDistinct (rows_in space.labels)) where
     tree : IsTree space root
     tree = is_tree space root home h distinct
 

@@ -22,7 +22,7 @@ pub under_itself : (space : Space) (root key : List ℕ) → IsUnder space root 
 under_itself space root key = (zero, refl)
 
 module _ (space : Space) (root : List ℕ) (home : Table) (h : IsFeasibleRoot space root home) where
-  module _ (distinct : AreDistinct (rows_in space)) where
+  module _ (distinct : AreDistinct (rows_in space.labels)) where
     both_under : (a b : List ℕ) → IsFeasibleKey space root a → IsUnder space root a b → IsUnder space root b a → a ≡ b
     both_under a b f (zero, x) y = x
     both_under a b f (suc m, x) (n, y) =

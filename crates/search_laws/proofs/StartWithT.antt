@@ -177,10 +177,10 @@ module _ (space : Space) (start : List ℕ) (none : HasNoRowZero space) where
     dictionary_with_t = record {
       points = points_with_t;
       ascending = (all_from (λ k. 0 < k) start (λ k c. let n = start_not_t k c in omega (arith, n)), d.ascending);
-      rows = All-from_recursion (Contains (0 ∷ rows_in space)) (0 ∷ start) (
-        Contains-first 0 (rows_in space),
-        all_from (Contains (0 ∷ rows_in space)) start
-            (λ k c. Contains-later k 0 (rows_in space) (key_row space start t d k c)),
+      rows = All-from_recursion (Contains (0 ∷ rows_in space.labels)) (0 ∷ start) (
+        Contains-first 0 (rows_in space.labels),
+        all_from (Contains (0 ∷ rows_in space.labels)) start
+            (λ k c. Contains-later k 0 (rows_in space.labels) (key_row space start t d k c)),
       );
       dictionary = record {
         cobasis = cobasis_with_t;

@@ -59,7 +59,7 @@ module _ (space : Space) (root : List ℕ) where
     share_back (inr (k, c, (one, u, b))) = (one, under_twice space root one k key u (s.waits k c).1, b)
 
 module _ (space : Space) (root : List ℕ) (home : Table) (h : IsFeasibleRoot space root home)
-    (distinct : AreDistinct (rows_in space)) where
+    (distinct : AreDistinct (rows_in space.labels)) where
   tree : IsTree space root
   tree = is_tree space root home h distinct
 

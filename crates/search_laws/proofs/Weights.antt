@@ -32,7 +32,7 @@ module _ (space : Space) (root : List ℕ) where
 
 -- ---- the weight of a key from its children
 module _ (space : Space) (root : List ℕ) (home : Table) (h : IsFeasibleRoot space root home)
-    (distinct : AreDistinct (rows_in space)) where
+    (distinct : AreDistinct (rows_in space.labels)) where
   module _ (key : List ℕ) (f : IsFeasibleKey space root key) (cs : List (List ℕ))
       (l : ListsAll (IsChild space root key) cs) where
     under_key : (one : List ℕ) → IsUnderSome space root cs one → IsFeasibleUnder space root key one
@@ -112,8 +112,8 @@ module _ (space : Space) (root : List ℕ) (home : Table) (h : IsFeasibleRoot sp
   pub some_weight : (key : List ℕ) → IsFeasibleKey space root key → (w : ℕ) × IsWeight space root key w
   some_weight key f =
       by_all_below (State space root) (List ℕ) (λ d. d.key) IsBelow below_twice below_is_other
-      (ascending_parts (rows_in space))
-      (λ d. contains_ascending (rows_in space) d.key d.feasible.dictionary.ascending
+      (ascending_parts (rows_in space.labels))
+      (λ d. contains_ascending (rows_in space.labels) d.key d.feasible.dictionary.ascending
       (key_row space d.key d.table d.feasible.dictionary))
       (λ d. (w : ℕ) × IsWeight space root d.key w) weigh (record { key = key; table = f.0; feasible = f.1 })
 

@@ -34,12 +34,12 @@ zero_in_front (k ∷ ks) a c =
 
 module _ (space : Space) (start rest : List ℕ) (t : Table) (none : HasNoRowZero space)
     (d : IsRowDictionary (lifted space start) (0 ∷ rest) t) where
-  rest_row : (k : ℕ) → Contains rest k → Contains (rows_in space) k
+  rest_row : (k : ℕ) → Contains rest k → Contains (rows_in space.labels) k
   rest_row k c =
       ⊎_elim
       (λ (e : k ≡ 0). let l : 0 < k = all_at (λ j. 0 < j) rest d.ascending.0 k c in absurd (omega (arith, l, e)))
-      (λ (m : Contains (rows_in space) k). m)
-      (contains_cases 0 (rows_in space) k
+      (λ (m : Contains (rows_in space.labels) k). m)
+      (contains_cases 0 (rows_in space.labels) k
       (key_row (first space start) (0 ∷ rest) t d k (Contains-later k 0 rest c)))
 
   rest_label : (k : ℕ) → Contains rest k → Contains space.labels k
@@ -104,7 +104,7 @@ module _ (space : Space) (start rest : List ℕ) (t : Table) (none : HasNoRowZer
         record {
           points = some_points d.points;
           ascending = d.ascending.1;
-          rows = All-from_recursion (Contains (rows_in space)) rest (all_from (Contains (rows_in space)) rest rest_row);
+          rows = All-from_recursion (Contains (rows_in space.labels)) rest (all_from (Contains (rows_in space.labels)) rest rest_row);
           dictionary = h;
         },
       )
@@ -123,13 +123,13 @@ module _ (space : Space) (start rest : List ℕ) (t : Table) (none : HasNoRowZer
   }
 
   module _ (f : IsFeasibleRoot (lifted space start) (0 ∷ rest) t) where
-    rest_value : (z : Vector) → IsKeyPoint space rest z → (i : ℕ) → Contains (rows_in space) i →
+    rest_value : (z : Vector) → IsKeyPoint space rest z → (i : ℕ) → Contains (rows_in space.labels) i →
         pos 0 ≤ℤ (space.form i · z)
     rest_value z at i l =
         subst (λ (x : ℤ). pos 0 ≤ℤ x)
         (value_without space start i (not_t space start none i (row_only space i l).0) (pos 0) z refl)
         (nonnegative_value (first space start) (0 ∷ rest) t d (pos 0 ∷ z) (rest_point z at) i
-        (Contains-later i 0 (rows_in space) l) (f.constants i (Contains-later i 0 (rows_in space) l)))
+        (Contains-later i 0 (rows_in space.labels) l) (f.constants i (Contains-later i 0 (rows_in space.labels) l)))
 
     pub with_t : IsWithT space (0 ∷ rest) t
     with_t = record {

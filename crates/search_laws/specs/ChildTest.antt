@@ -13,38 +13,38 @@ abbrev pub moved : Table → ℕ → ℕ → ℕ → ℕ → ℤ
 moved t s r j q = neg_ℤ (t.entry r s) *ℤ t.entry q j +ℤ t.entry q s *ℤ t.entry r j
 
 -- the rows of the root, the greatest first
-abbrev pub downward : Space → List ℕ → List ℕ
-downward space root = backwards (within space root)
+abbrev pub downward : List ℕ → List ℕ → List ℕ
+downward labels root = backwards (within labels root)
 
 -- the greatest row of the root that is not 0 in the column of s is positive there
-abbrev pub LeadsUp : Space → List ℕ → Table → ℕ → Type 0
-LeadsUp space root t s = IsPositive (map (λ q. t.entry q s) (downward space root))
+abbrev pub LeadsUp : List ℕ → List ℕ → Table → ℕ → Type 0
+LeadsUp labels root t s = IsPositive (map (λ q. t.entry q s) (downward labels root))
 
 -- the first of these rows that would not be 0 in the column of j after the exchange would be negative there
 abbrev pub WouldEnter : Table → ℕ → ℕ → ℕ → List ℕ → Type 0
 WouldEnter t s r j qs = IsPositive (map (λ q. neg_ℤ (moved t s r j q)) qs)
 
 -- column s leads up, and after the exchange no label before r would enter in its place
-pub record IsDown (space : Space) (root key : List ℕ) (t : Table) (s r : ℕ) : Type 0 where
-  pub lead : LeadsUp space root t s
-  pub others : (j : ℕ) → Contains key j → j ≢ s → IsEarlier space root j r →
-      WouldEnter t s r j (downward space root) → ⊥
+pub record IsDown (labels root key : List ℕ) (t : Table) (s r : ℕ) : Type 0 where
+  pub lead : LeadsUp labels root t s
+  pub others : (j : ℕ) → Contains key j → j ≢ s → IsEarlier labels root j r →
+      WouldEnter t s r j (downward labels root) → ⊥
 
 -- the neighbour in the column of s, where row r leaves, is a child exactly where the test holds
 abbrev pub ChildByTest : Type 0
 ChildByTest =
-    (space : Space) (root key : List ℕ) (home t : Table) → AreDistinct (rows_in space) →
+    (space : Space) (root key : List ℕ) (home t : Table) → AreDistinct (rows_in space.labels) →
     IsRowDictionary space root home → IsLexFeasible space root key t → (s r : ℕ) → Contains key s →
-    Leaves space root key t s r → IsChild space root key (exchanged_key key s r) ↔ IsDown space root key t s r
+    Leaves space.labels root key t s r → IsChild space root key (exchanged_key key s r) ↔ IsDown space.labels root key t s r
 
 -- how the sign in the column of another label j of the key is found, without products
-pub record AreMoved (space : Space) (root key : List ℕ) (t : Table) (s r j : ℕ) : Type 0 where
+pub record AreMoved (labels root key : List ℕ) (t : Table) (s r j : ℕ) : Type 0 where
   -- rows r, s and j after the exchange
   pub at_r : moved t s r j r ≡ pos 0
   pub at_s : moved t s r j s ≡ t.denominator *ℤ t.entry r j
   pub at_j : moved t s r j j ≡ neg_ℤ (t.entry r s) *ℤ t.denominator
   -- row r is 0 in the column: it is as it was
-  pub kept : t.entry r j ≡ pos 0 → WouldEnter t s r j (downward space root) ↔ MayEnter space root t j
+  pub kept : t.entry r j ≡ pos 0 → WouldEnter t s r j (downward labels root) ↔ MayEnter labels root t j
   -- rows that are 0 in both columns do not count
   pub skip : (front back : List ℕ) →
       ((q : ℕ) → Contains front q → (t.entry q s ≡ pos 0) × (t.entry q j ≡ pos 0)) →
@@ -59,4 +59,4 @@ pub record AreMoved (space : Space) (root key : List ℕ) (t : Table) (s r j : �
 abbrev pub MovedSigns : Type 0
 MovedSigns =
     (space : Space) (root key : List ℕ) (t : Table) → IsRowDictionary space key t → (s r j : ℕ) → Contains key s →
-    Contains key j → j ≢ s → t.entry r s <ℤ pos 0 → AreMoved space root key t s r j
+    Contains key j → j ≢ s → t.entry r s <ℤ pos 0 → AreMoved space.labels root key t s r j

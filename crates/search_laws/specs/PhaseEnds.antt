@@ -8,7 +8,7 @@ use Rattle.poly_model.specs.Extreme.{IsFeasible}
 use Rattle.poly_model.specs.Spaces.{Space, lifted, main_space}
 use Rattle.poly_model.specs.Dictionaries.{Table, Writes}
 use Rattle.poly_model.specs.Tree.{IsRowDictionary, IsRowOutside, IsFeasibleRoot, exchanged_key}
-use Rattle.search_laws.specs.Lowering.{IsLowest}
+use Rattle.poly_model.specs.Lowering.{IsLowest}
 use Rattle.search_laws.specs.PhaseOne.{HasNoRowZero, MeetsRows, GivesRoot}
 
 -- where t is lowest and its constant is positive, no vector meets all rows
@@ -27,7 +27,7 @@ SomeColumnOfT =
 abbrev pub ExchangeAtZero : Type 0
 ExchangeAtZero =
     (space : Space) (key : List ℕ) (t : Table) → IsFeasibleRoot space key t → (q s : ℕ) →
-    IsRowOutside space key q → t.constant q ≡ pos 0 → Contains key s → t.entry q s ≢ pos 0 →
+    IsRowOutside space.labels key q → t.constant q ≡ pos 0 → Contains key s → t.entry q s ≢ pos 0 →
     GivesRoot space (exchanged_key key s q)
 
 -- t is the first label of a key; its numbers write the labels of the space over the others, which give a feasible root

@@ -16,7 +16,7 @@ pub record MeetsRows (space : Space) : Type 0 where
   pub vector : Vector
   pub inside : IsInside space vector
   pub finite : pos 0 <ℤ (space.infinity · vector)
-  pub rows : (i : ℕ) → Contains (rows_in space) i → pos 0 ≤ℤ (space.form i · vector)
+  pub rows : (i : ℕ) → Contains (rows_in space.labels) i → pos 0 ≤ℤ (space.form i · vector)
 
 -- ---- the beginning
 -- the numbers of a start cobasis, with a row and a column for t
@@ -35,12 +35,6 @@ abbrev pub StartWithT : Type 0
 StartWithT =
     (space : Space) (start : List ℕ) (t : Table) → HasNoRowZero space → IsRowDictionary space start t →
     IsRowDictionary (lifted space start) (0 ∷ start) (with_t start t)
-
--- the constant of r is negative, and none is less
-pub record IsWorst (space : Space) (start : List ℕ) (t : Table) (r : ℕ) : Type 0 where
-  pub row : IsRowOutside space start r
-  pub negative : t.constant r <ℤ pos 0
-  pub least : (i : ℕ) → IsRowOutside space start i → t.constant r ≤ℤ t.constant i
 
 -- the key has a dictionary, at which no constant of a row is negative
 pub record GivesRoot (space : Space) (key : List ℕ) : Type 0 where

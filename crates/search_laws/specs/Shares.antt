@@ -26,7 +26,7 @@ module _ (space : Space) (root : List ℕ) where
 
   -- a lexicographically feasible cobasis whose parent is the key
   abbrev pub IsChild : List ℕ → List ℕ → Type 0
-  IsChild key child = (t : Table) × IsLexFeasible space root child t × IsParent space root child t key
+  IsChild key child = (t : Table) × IsLexFeasible space root child t × IsParent space.labels root child t key
 
   -- a lexicographically feasible cobasis under the key
   abbrev pub IsFeasibleUnder : List ℕ → List ℕ → Type 0
@@ -45,15 +45,15 @@ module _ (space : Space) (root : List ℕ) where
 -- the children are neighbours, one at most in each column, and whether there is one can be decided
 pub record HasChildren (space : Space) (root key : List ℕ) (t : Table) : Type 0 where
   pub listed : (children : List (List ℕ)) × ListsAll (IsChild space root key) children
-  pub column : (child : List ℕ) → IsChild space root key child → (s : ℕ) × IsNeighbour space root key t s child
+  pub column : (child : List ℕ) → IsChild space root key child → (s : ℕ) × IsNeighbour space.labels root key t s child
   pub decided : (s : ℕ) → Contains key s →
-      ((child : List ℕ) × IsChild space root key child × IsNeighbour space root key t s child)
-      ⊎ ((child : List ℕ) → IsChild space root key child → IsNeighbour space root key t s child → ⊥)
+      ((child : List ℕ) × IsChild space root key child × IsNeighbour space.labels root key t s child)
+      ⊎ ((child : List ℕ) → IsChild space root key child → IsNeighbour space.labels root key t s child → ⊥)
 
 -- the children of a lexicographically feasible cobasis are a list
 abbrev pub ListsChildren : Type 0
 ListsChildren =
-    (space : Space) (root key : List ℕ) (home t : Table) → AreDistinct (rows_in space) →
+    (space : Space) (root key : List ℕ) (home t : Table) → AreDistinct (rows_in space.labels) →
     IsFeasibleRoot space root home → IsLexFeasible space root key t → HasChildren space root key t
 
 -- ---- the cobases under a key
@@ -70,7 +70,7 @@ pub record IsTree (space : Space) (root : List ℕ) : Type 0 where
 
 abbrev pub ParentsMakeATree : Type 0
 ParentsMakeATree =
-    (space : Space) (root : List ℕ) (home : Table) → AreDistinct (rows_in space) → IsFeasibleRoot space root home →
+    (space : Space) (root : List ℕ) (home : Table) → AreDistinct (rows_in space.labels) → IsFeasibleRoot space root home →
     IsTree space root
 
 -- ---- shares

@@ -34,5 +34,5 @@ pub record ShowsOnce (space : Space) (root : List ℕ) : Type 0 where
 
 abbrev pub SharesOnce : Type 0
 SharesOnce =
-    (space : Space) (root : List ℕ) (home : Table) → AreDistinct (rows_in space) → IsFeasibleRoot space root home →
+    (space : Space) (root : List ℕ) (home : Table) → AreDistinct (rows_in space.labels) → IsFeasibleRoot space root home →
     ShowsOnce space root

@@ -42,7 +42,7 @@ pub record HasWeight (space : Space) (root key : List ℕ) : Type 0 where
 
 abbrev pub WeightsAddUp : Type 0
 WeightsAddUp =
-    (space : Space) (root key : List ℕ) (home t : Table) → AreDistinct (rows_in space) →
+    (space : Space) (root key : List ℕ) (home t : Table) → AreDistinct (rows_in space.labels) →
     IsFeasibleRoot space root home → IsLexFeasible space root key t → HasWeight space root key
 
 -- the weight of the root is the number of all lexicographically feasible cobases

@@ -15,7 +15,7 @@ use Rattle.tree_laws.proofs.Chains.{State, IsLower, by_falls}
 use Rattle.tree_laws.proofs.Parents.{negative_of}
 
 module _ (space : Space) (root : List ℕ) (home : Table) (h : IsRowDictionary space root home) (qs : List ℕ)
-    (rows : (q : ℕ) → Contains qs q → Contains (rows_in space) q) where
+    (rows : (q : ℕ) → Contains qs q → Contains (rows_in space.labels) q) where
   -- no column is negative on the rows
   abbrev pub IsUpOn : State space root → Type 0
   IsUpOn d = (c : ℕ) → Contains d.key c → IsNonnegative (map (λ q. d.table.entry q c) qs)
@@ -25,7 +25,7 @@ module _ (space : Space) (root : List ℕ) (home : Table) (h : IsRowDictionary s
     abbrev IsDown : ℕ → Type 0
     IsDown s = IsPositive (map (λ q. neg_ℤ (d.table.entry q s)) qs)
 
-    some_leaving : (s : ℕ) → Contains d.key s → IsDown s → (r : ℕ) × Leaves space root d.key d.table s r
+    some_leaving : (s : ℕ) → Contains d.key s → IsDown s → (r : ℕ) × Leaves space.labels root d.key d.table s r
     some_leaving s c p =
         let w = positive_value (λ q. neg_ℤ (d.table.entry q s)) qs p in
         let l = negative_of (d.table.entry w.0 s) w.2 in
@@ -37,11 +37,11 @@ module _ (space : Space) (root : List ℕ) (home : Table) (h : IsRowDictionary s
         l
 
     -- the neighbour in that column stands below
-    lower : (s : ℕ) → Contains d.key s → IsDown s → (r : ℕ) → Leaves space root d.key d.table s r →
+    lower : (s : ℕ) → Contains d.key s → IsDown s → (r : ℕ) → Leaves space.labels root d.key d.table s r →
         (e : State space root) × IsLower space root qs e d
     lower s c p r l =
         let new = exchanged_key d.key s r in
-        let n : IsNeighbour space root d.key d.table s new =
+        let n : IsNeighbour space.labels root d.key d.table s new =
         record { column = c; r = r; leaves = l; exchange = refl } in
         let u = neighbour_dictionary space root d.key d.table s new d.feasible.dictionary n in
         let g = neighbour_feasible space root d.key d.table s new home u.0 h d.feasible n u.1 in (

@@ -27,14 +27,14 @@ module _ (space : Space) (root key : List ℕ) (t u : Table) (d : IsRowDictionar
   pub agree : Agree space key t u
   agree = one_dictionary space key key t u (record { there = λ k c. c; back = λ k c. c }) d.dictionary e.dictionary
 
-  pub same_entry : (i s : ℕ) → Contains (rows_in space) i → Contains key s → t.entry i s ≡ u.entry i s
+  pub same_entry : (i s : ℕ) → Contains (rows_in space.labels) i → Contains key s → t.entry i s ≡ u.entry i s
   same_entry i s l c = Agree.entries agree i s (row_is_label space i l) c
 
-  pub same_list : (i : ℕ) → Contains (rows_in space) i → list_of space root key t i ≡ list_of space root key u i
+  pub same_list : (i : ℕ) → Contains (rows_in space.labels) i → list_of space.labels root key t i ≡ list_of space.labels root key u i
   same_list i l =
-      ap (λ (x : ℤ). x ∷ map (listed_at key t i) (outside space root))
+      ap (λ (x : ℤ). x ∷ map (listed_at key t i) (outside space.labels root))
       (Agree.constants agree d.points i (row_is_label space i l))
-      ∙ ap (λ xs. u.constant i ∷ xs) (rows (outside space root))
+      ∙ ap (λ xs. u.constant i ∷ xs) (rows (outside space.labels root))
     where
       by : (k : ℕ) (b m : Bool) → is_member k key ≡ m →
           cond b t.denominator (cond m (neg_ℤ (t.entry i k)) (pos 0))
@@ -49,17 +49,17 @@ module _ (space : Space) (root key : List ℕ) (t u : Table) (d : IsRowDictionar
           let a : listed_at key t i k ≡ listed_at key u i k = by k (k == i) (is_member k key) refl in
           let b = rows ks in cc
 
-  pub same_gaps : (s r i : ℕ) → Contains key s → Contains (rows_in space) r → Contains (rows_in space) i →
-      ratio_gaps space root key t s r i ≡ ratio_gaps space root key u s r i
+  pub same_gaps : (s r i : ℕ) → Contains key s → Contains (rows_in space.labels) r → Contains (rows_in space.labels) i →
+      ratio_gaps space.labels root key t s r i ≡ ratio_gaps space.labels root key u s r i
   same_gaps s r i c l m =
-      ap (λ (x : ℤ). gaps (neg_ℤ x) (list_of space root key t i) (neg_ℤ (t.entry i s)) (list_of space root key t r))
+      ap (λ (x : ℤ). gaps (neg_ℤ x) (list_of space.labels root key t i) (neg_ℤ (t.entry i s)) (list_of space.labels root key t r))
       (same_entry r s l c)
-      ∙ ap (λ xs. gaps (neg_ℤ (u.entry r s)) xs (neg_ℤ (t.entry i s)) (list_of space root key t r)) (same_list i m)
-      ∙ ap (λ (x : ℤ). gaps (neg_ℤ (u.entry r s)) (list_of space root key u i) (neg_ℤ x) (list_of space root key t r))
+      ∙ ap (λ xs. gaps (neg_ℤ (u.entry r s)) xs (neg_ℤ (t.entry i s)) (list_of space.labels root key t r)) (same_list i m)
+      ∙ ap (λ (x : ℤ). gaps (neg_ℤ (u.entry r s)) (list_of space.labels root key u i) (neg_ℤ x) (list_of space.labels root key t r))
       (same_entry i s m c)
-      ∙ ap (λ xs. gaps (neg_ℤ (u.entry r s)) (list_of space root key u i) (neg_ℤ (u.entry i s)) xs) (same_list r l)
+      ∙ ap (λ xs. gaps (neg_ℤ (u.entry r s)) (list_of space.labels root key u i) (neg_ℤ (u.entry i s)) xs) (same_list r l)
 
-  pub leaves_too : (s r : ℕ) → Contains key s → Leaves space root key t s r → Leaves space root key u s r
+  pub leaves_too : (s r : ℕ) → Contains key s → Leaves space.labels root key t s r → Leaves space.labels root key u s r
   leaves_too s r c l = record {
     row = l.row;
     negative = subst (λ (x : ℤ). x <ℤ pos 0) (same_entry r s l.row.row c) l.negative;
@@ -67,23 +67,23 @@ module _ (space : Space) (root key : List ℕ) (t u : Table) (d : IsRowDictionar
         (l.least i o (subst (λ (x : ℤ). x <ℤ pos 0) (sym (same_entry i s o.row c)) h));
   }
 
-  pub neighbour_too : (s : ℕ) (new : List ℕ) → IsNeighbour space root key t s new → IsNeighbour space root key u s new
+  pub neighbour_too : (s : ℕ) (new : List ℕ) → IsNeighbour space.labels root key t s new → IsNeighbour space.labels root key u s new
   neighbour_too s new n =
       record { column = n.column; r = n.r; leaves = leaves_too s n.r n.column n.leaves; exchange = n.exchange }
 
-  same_column : (s : ℕ) → Contains key s → map (λ q. neg_ℤ (t.entry q s)) (backwards (within space root))
-      ≡ map (λ q. neg_ℤ (u.entry q s)) (backwards (within space root))
+  same_column : (s : ℕ) → Contains key s → map (λ q. neg_ℤ (t.entry q s)) (backwards (within space.labels root))
+      ≡ map (λ q. neg_ℤ (u.entry q s)) (backwards (within space.labels root))
   same_column s c =
-      map_backwards (λ q. neg_ℤ (t.entry q s)) (λ q. neg_ℤ (u.entry q s)) (within space root)
-      (λ q m. ap neg_ℤ (same_entry q s (filter_only (λ k. is_member k root) (rows_in space) q m).0 c))
+      map_backwards (λ q. neg_ℤ (t.entry q s)) (λ q. neg_ℤ (u.entry q s)) (within space.labels root)
+      (λ q m. ap neg_ℤ (same_entry q s (filter_only (λ k. is_member k root) (rows_in space.labels) q m).0 c))
 
-  pub enters_too : (s : ℕ) → Enters space root key t s → Enters space root key u s
+  pub enters_too : (s : ℕ) → Enters space.labels root key t s → Enters space.labels root key u s
   enters_too s x = record {
     column = x.column;
     may = subst IsPositive (same_column s x.column) x.may;
     least = λ k c m. x.least k c (subst IsPositive (sym (same_column k c)) m);
   }
 
-  pub parent_too : (parent : List ℕ) → IsParent space root key t parent → IsParent space root key u parent
+  pub parent_too : (parent : List ℕ) → IsParent space.labels root key t parent → IsParent space.labels root key u parent
   parent_too parent p =
       record { s = p.s; enters = enters_too p.s p.enters; neighbour = neighbour_too p.s parent p.neighbour }

@@ -69,8 +69,8 @@ positive_labels m j n k c =
     (λ i d. let h = (coordinate_keys j n).coordinates i d in omega arith))) k c
 
 -- ---- the spaces
-from_ascending : (space : Space) → IsAscending (rows_in space) → HasAscendingRows space
-from_ascending space a = record { ascending = a; distinct = ascending_distinct (rows_in space) a }
+from_ascending : (space : Space) → IsAscending (rows_in space.labels) → HasAscendingRows space
+from_ascending space a = record { ascending = a; distinct = ascending_distinct (rows_in space.labels) a }
 
 -- some of such labels, and row 0 in front of them
 module _ (left : ℕ → Bool) (m j n : ℕ) where

@@ -17,11 +17,11 @@ use Rattle.tree_laws.proofs.Exchange.{gap, ratio_gaps_are, back_entry, exchanged
 use Rattle.tree_laws.proofs.Neighbours.{minus_positive, levels_nonnegative, neighbour_exchanges}
 
 module _ (space : Space) (root key new : List ℕ) (t u : Table) (f : IsLexFeasible space root key t)
-    (g : IsLexFeasible space root new u) (s : ℕ) (n : IsNeighbour space root key t s new) where
+    (g : IsLexFeasible space root new u) (s : ℕ) (n : IsNeighbour space.labels root key t s new) where
   there : Exchanges key new n.r s
   there = neighbour_exchanges space root key t s new f.dictionary n
 
-  leaving_row : IsRowOutside space new s
+  leaving_row : IsRowOutside space.labels new s
   leaving_row = record {
     row = key_row space key t f.dictionary s n.column;
     outside = leaving_outside key new n.r s there n.column n.leaves.row.outside;
@@ -53,7 +53,7 @@ module _ (space : Space) (root key new : List ℕ) (t u : Table) (f : IsLexFeasi
           minus_negative y (positive_factor (neg_ℤ x) (neg_ℤ y) (minus_positive x h)
           (subst (λ (z : ℤ). pos 0 <ℤ z) (sym (neg-mul-neg x y ∙ e)) l))
 
-  leaves_back : Leaves space root new u n.r s
+  leaves_back : Leaves space.labels root new u n.r s
   leaves_back = record {
     row = leaving_row;
     negative = negative_back;
@@ -66,13 +66,13 @@ module _ (space : Space) (root key new : List ℕ) (t u : Table) (f : IsLexFeasi
         (places space root) (levels_nonnegative space root key t f i o.row));
   }
 
-  pub neighbour_back : (m : IsNeighbour space root new u n.r key) × (m.r ≡ s)
+  pub neighbour_back : (m : IsNeighbour space.labels root new u n.r key) × (m.r ≡ s)
   neighbour_back = (
     record { column = there.entering; r = s; leaves = leaves_back; exchange = key_again },
     refl,
   )
 
 pub child_is_neighbour : (space : Space) (root key parent : List ℕ) (t u : Table) → IsLexFeasible space root key t →
-    IsLexFeasible space root parent u → (p : IsParent space root key t parent) →
-    (m : IsNeighbour space root parent u p.neighbour.r key) × (m.r ≡ p.s)
+    IsLexFeasible space root parent u → (p : IsParent space.labels root key t parent) →
+    (m : IsNeighbour space.labels root parent u p.neighbour.r key) × (m.r ≡ p.s)
 child_is_neighbour space root key parent t u f g p = neighbour_back space root key parent t u f g p.s p.neighbour

@@ -30,7 +30,7 @@ module _ (space : Space) (root qs : List ℕ) where
   IsLower e d = IsPositive (level_gaps space root d.key d.table e.key e.table qs)
 
   -- what holds of a cobasis, or follows for it from one below it, holds of all
-  pub by_falls : ((q : ℕ) → Contains qs q → Contains (rows_in space) q) → (P : State space root → Type 0) →
+  pub by_falls : ((q : ℕ) → Contains qs q → Contains (rows_in space.labels) q) → (P : State space root → Type 0) →
       ((d : State space root) → P d ⊎ ((e : State space root) × IsLower e d × (P e → P d))) →
       (d : State space root) → P d
   by_falls rows =
@@ -39,15 +39,15 @@ module _ (space : Space) (root qs : List ℕ) where
       f.feasible.dictionary e.feasible.dictionary qs)
       (λ e f. falls_elsewhere space root f.key e.key f.table e.table f.feasible.dictionary e.feasible.dictionary
       qs rows)
-      (ascending_parts (rows_in space))
-      (λ d. contains_ascending (rows_in space) d.key d.feasible.dictionary.ascending
+      (ascending_parts (rows_in space.labels))
+      (λ d. contains_ascending (rows_in space.labels) d.key d.feasible.dictionary.ascending
       (key_row space d.key d.table d.feasible.dictionary))
 
 -- ---- parents
 module _ (space : Space) (root : List ℕ) (home : Table) (h : IsRowDictionary space root home) where
   -- a parent has a dictionary, and is feasible
   pub parent_feasible : (key parent : List ℕ) (t : Table) → IsLexFeasible space root key t →
-      IsParent space root key t parent → (u : Table) × IsLexFeasible space root parent u
+      IsParent space.labels root key t parent → (u : Table) × IsLexFeasible space root parent u
   parent_feasible key parent t f p =
       let w = neighbour_dictionary space root key t p.s parent f.dictionary p.neighbour in
       (w.0, neighbour_feasible space root key t p.s parent home w.0 h f p.neighbour w.1)
@@ -64,7 +64,7 @@ module _ (space : Space) (root : List ℕ) (home : Table) (h : IsRowDictionary s
       no_parent space root key u (other_table key t u f.dictionary d) (λ q m. subst (λ l. Contains l q) (sym e) m)
       parent p
 
-  module _ (distinct : AreDistinct (rows_in space)) where
+  module _ (distinct : AreDistinct (rows_in space.labels)) where
     pub one_depth : (m n : ℕ) (key : List ℕ) (t : Table) → IsLexFeasible space root key t →
         IsAbove space root m key root → IsAbove space root n key root → m ≡ n
     one_depth zero zero key t f a b = refl
@@ -82,14 +82,14 @@ module _ (space : Space) (root : List ℕ) (home : Table) (h : IsFeasibleRoot sp
   -- by descent: the root is under itself, and a child is where its parent is
   pub is_under : (d : State space root) → IsUnder space root d.key root
   is_under =
-      by_falls space root (backwards (within space root)) (λ q c. (backwards_within_only space root q c).0)
+      by_falls space root (backwards (within space.labels root)) (λ q c. (backwards_within_only space root q c).0)
       (λ d. IsUnder space root d.key root)
       (λ d. by d (root_or_child space root d.key home d.table h d.feasible))
     where
       by : (d : State space root) → IsRootOrChild space root d.key d.table →
           IsUnder space root d.key root
           ⊎ ((e : State space root)
-          × IsLower space root (backwards (within space root)) e d
+          × IsLower space root (backwards (within space.labels root)) e d
           × (IsUnder space root e.key root → IsUnder space root d.key root))
       by d (inl r) = inl (zero, r.0)
       by d (inr r) =

@@ -25,11 +25,11 @@ use Rattle.tree_laws.proofs.ExchangedKeys.{ascending_exchanged, exchanges, leavi
 
 -- ---- the dictionary
 module _ (space : Space) (key : List ℕ) (t : Table) (d : IsRowDictionary space key t) (s r : ℕ) (c : Contains key s)
-    (o : IsRowOutside space key r) (n : t.entry r s ≢ pos 0) where
-  new_rows : (k : ℕ) → Contains (exchanged_key key s r) k → Contains (rows_in space) k
+    (o : IsRowOutside space.labels key r) (n : t.entry r s ≢ pos 0) where
+  new_rows : (k : ℕ) → Contains (exchanged_key key s r) k → Contains (rows_in space.labels) k
   new_rows k m =
       ⊎_elim
-      (λ (e : k ≡ r). subst (Contains (rows_in space)) (sym e) o.row)
+      (λ (e : k ≡ r). subst (Contains (rows_in space.labels)) (sym e) o.row)
       (λ (h : Contains key k × (k ≢ s)). key_row space key t d k h.0)
       (Exchanges.only (exchanges key s r d.ascending o.outside) k m)
 
@@ -49,8 +49,8 @@ module _ (space : Space) (key : List ℕ) (t : Table) (d : IsRowDictionary space
         record {
           points = d.points;
           ascending = ascending_exchanged key s r d.ascending;
-          rows = All-from_recursion (Contains (rows_in space)) (exchanged_key key s r)
-              (all_from (Contains (rows_in space)) (exchanged_key key s r) new_rows);
+          rows = All-from_recursion (Contains (rows_in space.labels)) (exchanged_key key s r)
+              (all_from (Contains (rows_in space.labels)) (exchanged_key key s r) new_rows);
           dictionary = h;
         },
       )
@@ -61,9 +61,9 @@ abbrev pub gap : List ℕ → Table → ℕ → ℕ → ℕ → Option ℕ → �
 gap key t s r i y = neg_ℤ (t.entry r s) *ℤ level key t i y -ℤ neg_ℤ (t.entry i s) *ℤ level key t r y
 
 pub ratio_gaps_are : (space : Space) (root key : List ℕ) (t : Table) (s r i : ℕ) → (Contains key r → ⊥) →
-    (Contains key i → ⊥) → ratio_gaps space root key t s r i ≡ map (gap key t s r i) (places space root)
+    (Contains key i → ⊥) → ratio_gaps space.labels root key t s r i ≡ map (gap key t s r i) (places space root)
 ratio_gaps_are space root key t s r i n m =
-    ap (λ xs. gaps (neg_ℤ (t.entry r s)) xs (neg_ℤ (t.entry i s)) (list_of space root key t r))
+    ap (λ xs. gaps (neg_ℤ (t.entry r s)) xs (neg_ℤ (t.entry i s)) (list_of space.labels root key t r))
     (list_is_levels space root key t i m)
     ∙ ap (λ xs. gaps (neg_ℤ (t.entry r s)) (level_list space root key t i) (neg_ℤ (t.entry i s)) xs)
     (list_is_levels space root key t r n)
@@ -81,7 +81,7 @@ put_in D E x y u t v r h k =
     simp expand (omega (arith, lin))
 
 module _ (space : Space) (key new : List ℕ) (t u : Table) (d : IsRowDictionary space key t)
-    (e : IsRowDictionary space new u) (s r : ℕ) (c : Contains key s) (o : IsRowOutside space key r)
+    (e : IsRowDictionary space new u) (s r : ℕ) (c : Contains key s) (o : IsRowOutside space.labels key r)
     (x : Exchanges key new r s) where
   -- the entries at the two labels, there and back
   pub back_entry : t.entry r s *ℤ u.entry s r ≡ t.denominator *ℤ u.denominator
@@ -100,7 +100,7 @@ module _ (space : Space) (key new : List ℕ) (t u : Table) (d : IsRowDictionary
       (key_law_but_one space key new t u d e s c x.kept r (row_is_label space r o.row) y)
       (own_level space new u e r x.entering y)
 
-  pub exchanged_level : (i : ℕ) → Contains (rows_in space) i → (y : Option ℕ) →
+  pub exchanged_level : (i : ℕ) → Contains (rows_in space.labels) i → (y : Option ℕ) →
       (neg_ℤ (t.entry r s) *ℤ t.denominator) *ℤ level new u i y
       ≡ u.denominator *ℤ gap key t s r i y
   exchanged_level i l y =
@@ -110,7 +110,7 @@ module _ (space : Space) (key new : List ℕ) (t u : Table) (d : IsRowDictionary
 
   module _ (root : List ℕ) where
     pub leaving_list :
-        scale (neg_ℤ (t.entry r s)) (list_of space root new u s) ≡ scale u.denominator (list_of space root key t r)
+        scale (neg_ℤ (t.entry r s)) (list_of space.labels root new u s) ≡ scale u.denominator (list_of space.labels root key t r)
     leaving_list =
         ap (scale (neg_ℤ (t.entry r s)))
         (list_is_levels space root new u s (leaving_outside key new r s x c o.outside))
@@ -120,9 +120,9 @@ module _ (space : Space) (key new : List ℕ) (t u : Table) (d : IsRowDictionary
         ∙ sym (scale_of_map u.denominator (level key t r) (places space root))
         ∙ ap (scale u.denominator) (sym (list_is_levels space root key t r o.outside))
 
-    pub exchanged_list : (i : ℕ) → IsRowOutside space key i → i ≢ r →
-        scale (neg_ℤ (t.entry r s) *ℤ t.denominator) (list_of space root new u i)
-        ≡ scale u.denominator (ratio_gaps space root key t s r i)
+    pub exchanged_list : (i : ℕ) → IsRowOutside space.labels key i → i ≢ r →
+        scale (neg_ℤ (t.entry r s) *ℤ t.denominator) (list_of space.labels root new u i)
+        ≡ scale u.denominator (ratio_gaps space.labels root key t s r i)
     exchanged_list i q n =
         ap (scale factor) (list_is_levels space root new u i still_outside)
         ∙ scale_of_map factor (level new u i) (places space root)

@@ -90,7 +90,7 @@ module _ (p : Polyhedron) (kind : p.kind ≡ H) (free : List ℕ) (f : AreFreeCo
 
   -- a vector of the space at which no row and nothing at infinity is negative is one of the cone
   pub meets_all : (y : Vector) → IsInside space y → pos 0 ≤ℤ (space.infinity · y) →
-      ((i : ℕ) → Contains (rows_in space) i → pos 0 ≤ℤ (space.form i · y)) → All (Meets y) sys.rows
+      ((i : ℕ) → Contains (rows_in space.labels) i → pos 0 ≤ℤ (space.form i · y)) → All (Meets y) sys.rows
   meets_all y i finite met =
       all_rows (Meets y)
       (λ m l. ⊎_elim
@@ -104,7 +104,7 @@ module _ (p : Polyhedron) (kind : p.kind ≡ H) (free : List ℕ) (f : AreFreeCo
 
   -- where a direction of the space is 0 on all rows, so it is on those of the cone: the rows determine a direction
   all_tight : (z : Vector) → IsInside space z → space.infinity · z ≡ pos 0 →
-      ((i : ℕ) → Contains (rows_in space) i → space.form i · z ≡ pos 0) → All (IsTight z) sys.rows
+      ((i : ℕ) → Contains (rows_in space.labels) i → space.form i · z ≡ pos 0) → All (IsTight z) sys.rows
   all_tight z i top others =
       all_rows (IsTight z)
       (λ m l. ⊎_elim
@@ -117,7 +117,7 @@ module _ (p : Polyhedron) (kind : p.kind ≡ H) (free : List ℕ) (f : AreFreeCo
   pub rows_determine : RowsDetermine space
   rows_determine z d v =
       zero_from_tight sys z (IsInside.width d.inside)
-      (all_tight z d.inside d.level (all_at (λ k. space.form k · z ≡ pos 0) (rows_in space) v))
+      (all_tight z d.inside d.level (all_at (λ k. space.form k · z ≡ pos 0) (rows_in space.labels) v))
       (λ j q. zero_at_fixed free sys z (by_fixed z (IsInside.fixed d.inside)) j ((f.exactly j).0 q))
 
   module _ (y : Vector) (e : IsExtremeIn space y) where
@@ -137,7 +137,7 @@ module _ (p : Polyhedron) (kind : p.kind ≡ H) (free : List ℕ) (f : AreFreeCo
   -- ---- from the cone to the space
   module _ (y : Vector) (e : IsExtreme sys y) where
     on_face : (z : Vector) → IsInside space z → (space.infinity · y ≡ pos 0 → space.infinity · z ≡ pos 0) →
-        ((i : ℕ) → Contains (rows_in space) i → space.form i · y ≡ pos 0 → space.form i · z ≡ pos 0) →
+        ((i : ℕ) → Contains (rows_in space.labels) i → space.form i · y ≡ pos 0 → space.form i · z ≡ pos 0) →
         IsOnFace sys y z
     on_face z i top others = record {
       width = i.width;

@@ -87,7 +87,7 @@ module _ (p : Polyhedron) (free : List ℕ) (f : AreFreeColumns (cone_of p) free
 
   -- values of rows, behind the entry in front
   form_facts : (P : ℤ → Type 0) (x : ℤ) (z : Vector) →
-      ((i : ℕ) → Contains (rows_in space) i → P (space.form i · (x ∷ z))) →
+      ((i : ℕ) → Contains (rows_in space.labels) i → P (space.form i · (x ∷ z))) →
       (m : ℕ) → m < length rows → (get_or rows m no_row).linear ≡ false → P ((get_or rows m no_row).entries · z)
   form_facts P x z h =
       rows_from_forms rows rows (λ m l. refl) few 0 p.n (λ g. P (g · z))
@@ -95,14 +95,14 @@ module _ (p : Polyhedron) (free : List ℕ) (f : AreFreeColumns (cone_of p) free
 
   facts_of_forms : (P : ℤ → Type 0) (x : ℤ) (z : Vector) → ((m : ℕ) → m < length rows →
       (get_or rows m no_row).linear ≡ false → P ((get_or rows m no_row).entries · z)) →
-      (i : ℕ) → Contains (rows_in space) i → P (space.form i · (x ∷ z))
+      (i : ℕ) → Contains (rows_in space.labels) i → P (space.form i · (x ∷ z))
   facts_of_forms P x z h i c =
       subst P (sym (front_value (label_form rows i) x z))
       (forms_from_rows rows rows (λ m l. refl) few 0 p.n (λ g. P (g · z)) h i c)
 
   -- ---- a direction that is 0 on all rows of the space is so on those of the cone: the rows determine a direction
   all_tight : (x : ℤ) (z : Vector) → IsInside space (x ∷ z) →
-      ((i : ℕ) → Contains (rows_in space) i → space.form i · (x ∷ z) ≡ pos 0) → All (IsTight z) rows
+      ((i : ℕ) → Contains (rows_in space.labels) i → space.form i · (x ∷ z) ≡ pos 0) → All (IsTight z) rows
   all_tight x z i others = All-from_get_or (IsTight z) rows no_row (λ m l. ⊎_elim
       (λ (t : (get_or rows m no_row).linear ≡ true).
       linear_from_fixed free sys z (by_fixed x z i.fixed) m no_row l t)
@@ -114,14 +114,14 @@ module _ (p : Polyhedron) (free : List ℕ) (f : AreFreeColumns (cone_of p) free
   rows_determine (x ∷ z) d v = (
     sym (first_value x z) ∙ d.level,
     zero_from_tight sys z (let w = IsInside.width d.inside in omega arith)
-        (all_tight x z d.inside (all_at (λ k. space.form k · (x ∷ z) ≡ pos 0) (rows_in space) v))
+        (all_tight x z d.inside (all_at (λ k. space.form k · (x ∷ z) ≡ pos 0) (rows_in space.labels) v))
         (λ j q. zero_at_fixed free sys z (by_fixed x z (IsInside.fixed d.inside)) j ((f.exactly j).0 q)),
   )
 
   -- ---- from the cone to the space
   module _ (y : Vector) (e : IsExtreme sys y) where
     on_face : (x : ℤ) (z : Vector) → IsInside space (x ∷ z) →
-        ((i : ℕ) → Contains (rows_in space) i → space.form i · (pos 0 ∷ y) ≡ pos 0 → space.form i · (x ∷ z) ≡ pos 0) →
+        ((i : ℕ) → Contains (rows_in space.labels) i → space.form i · (pos 0 ∷ y) ≡ pos 0 → space.form i · (x ∷ z) ≡ pos 0) →
         IsOnFace sys y z
     on_face x z i others = record {
       width = let w = i.width in omega arith;
@@ -139,7 +139,7 @@ module _ (p : Polyhedron) (free : List ℕ) (f : AreFreeColumns (cone_of p) free
 
     alone_behind : (z : Vector) → IsInside space z →
         (space.infinity · (pos 0 ∷ y) ≡ pos 0 → space.infinity · z ≡ pos 0) →
-        ((i : ℕ) → Contains (rows_in space) i → space.form i · (pos 0 ∷ y) ≡ pos 0 → space.form i · z ≡ pos 0) →
+        ((i : ℕ) → Contains (rows_in space.labels) i → space.form i · (pos 0 ∷ y) ≡ pos 0 → space.form i · z ≡ pos 0) →
         IsMultipleOf (pos 0 ∷ y) z
     alone_behind [] i top others = absurd (let w = i.width in omega arith)
     alone_behind (x ∷ z) i top others =

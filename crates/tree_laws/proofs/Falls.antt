@@ -76,7 +76,7 @@ module _ (space : Space) (root key new : List ℕ) (t u : Table) where
     no_gap a b s h z = omega (arith, lin)
 
     same_gaps : ((k : ℕ) → Contains key k → Contains new k) → (qs : List ℕ) →
-        ((q : ℕ) → Contains qs q → Contains (rows_in space) q) → IsZero (level_gaps space root key t new u qs)
+        ((q : ℕ) → Contains qs q → Contains (rows_in space.labels) q) → IsZero (level_gaps space root key t new u qs)
     same_gaps same [] rows = tt
     same_gaps same (q ∷ qs) rows =
         subst IsZero (first_gaps q qs (λ y. pos 0) none)
@@ -92,7 +92,7 @@ module _ (space : Space) (root key new : List ℕ) (t u : Table) where
             (sum_zero key (λ c. t.entry q c *ℤ level new u c y)
             (λ c m. times_zero (t.entry q c) (level new u c y) (own_level space new u e c (same c m) y)))
 
-    pub falls_elsewhere : (qs : List ℕ) → ((q : ℕ) → Contains qs q → Contains (rows_in space) q) →
+    pub falls_elsewhere : (qs : List ℕ) → ((q : ℕ) → Contains qs q → Contains (rows_in space.labels) q) →
         IsPositive (level_gaps space root key t new u qs) → new ≢ key
     falls_elsewhere qs rows p same =
         positive_not_zero (level_gaps space root key t new u qs) p
@@ -110,13 +110,13 @@ module _ (space : Space) (root key new : List ℕ) (t u : Table) where
     fallen : (a b y v : ℤ) → b ≡ a +ℤ y *ℤ v → a -ℤ b ≡ neg_ℤ y *ℤ v
     fallen a b y v h = simp expand (omega (arith, lin))
 
-    fallen_row : (q : ℕ) → Contains (rows_in space) q → (y : Option ℕ) →
+    fallen_row : (q : ℕ) → Contains (rows_in space.labels) q → (y : Option ℕ) →
         u.denominator *ℤ level key t q y -ℤ t.denominator *ℤ level new u q y ≡ neg_ℤ (t.entry q s) *ℤ level new u s y
     fallen_row q l y =
         fallen (u.denominator *ℤ level key t q y) (t.denominator *ℤ level new u q y) (t.entry q s) (level new u s y)
         (key_law_but_one space key new t u d g.dictionary s c x.kept q (row_is_label space q l) y)
 
-    pub falls : (qs : List ℕ) → ((q : ℕ) → Contains qs q → Contains (rows_in space) q) →
+    pub falls : (qs : List ℕ) → ((q : ℕ) → Contains qs q → Contains (rows_in space.labels) q) →
         IsPositive (map (λ q. neg_ℤ (t.entry q s)) qs) → IsPositive (level_gaps space root key t new u qs)
     falls [] rows p = absurd p
     falls (q ∷ qs) rows (inl p) =
@@ -150,10 +150,10 @@ module _ (space : Space) (root key : List ℕ) (t : Table) where
       by true e m = absurd (n (eqb-true k q e))
       by false e m = minus m (t.entry q k)
 
-  root_list : (q : ℕ) → Contains root q → list_of space root key t q ≡ level_list space root key t q
+  root_list : (q : ℕ) → Contains root q → list_of space.labels root key t q ≡ level_list space root key t q
   root_list q m =
       ap (λ xs. t.constant q ∷ xs)
-      (rows (outside space root) (λ k c e. (outside_only space root k c).1 (subst (Contains root) (sym e) m)))
+      (rows (outside space.labels root) (λ k c e. (outside_only space root k c).1 (subst (Contains root) (sym e) m)))
     where
       rows : (ks : List ℕ) → ((k : ℕ) → Contains ks k → k ≢ q) →
           map (listed_at key t q) ks ≡ map (level key t q) (map Some ks)
@@ -173,21 +173,21 @@ module _ (space : Space) (root key : List ℕ) (t : Table) where
 
 -- ---- a parent is below
 module _ (space : Space) (root key parent : List ℕ) (t u : Table) (d : IsRowDictionary space key t)
-    (g : IsLexFeasible space root parent u) (p : IsParent space root key t parent) where
-  pub parent_falls : IsPositive (level_gaps space root key t parent u (backwards (within space root)))
+    (g : IsLexFeasible space root parent u) (p : IsParent space.labels root key t parent) where
+  pub parent_falls : IsPositive (level_gaps space root key t parent u (backwards (within space.labels root)))
   parent_falls =
       falls space root key parent t u d g p.s p.neighbour.r p.enters.column p.neighbour.leaves.row.outside
-      (neighbour_exchanges space root key t p.s parent d p.neighbour) (backwards (within space root))
+      (neighbour_exchanges space root key t p.s parent d p.neighbour) (backwards (within space.labels root))
       (λ q c. (backwards_within_only space root q c).0) p.enters.may
 
   pub parent_is_below : IsBelow space root key t parent u
   parent_is_below =
       subst (λ xs. IsPositive (gaps u.denominator xs t.denominator (lists_of space root parent u
-      (backwards (within space root)))))
-      (sym (root_lists space root key t (backwards (within space root)) rows))
-      (subst (λ xs. IsPositive (gaps u.denominator (levels_of space root key t (backwards (within space root)))
+      (backwards (within space.labels root)))))
+      (sym (root_lists space root key t (backwards (within space.labels root)) rows))
+      (subst (λ xs. IsPositive (gaps u.denominator (levels_of space root key t (backwards (within space.labels root)))
       t.denominator xs))
-      (sym (root_lists space root parent u (backwards (within space root)) rows)) parent_falls)
+      (sym (root_lists space root parent u (backwards (within space.labels root)) rows)) parent_falls)
     where
-      rows : (q : ℕ) → Contains (backwards (within space root)) q → Contains root q
+      rows : (q : ℕ) → Contains (backwards (within space.labels root)) q → Contains root q
       rows q c = (backwards_within_only space root q c).1

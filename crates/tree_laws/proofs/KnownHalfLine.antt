@@ -87,7 +87,7 @@ home_is_solved = record {
 wrong_is_not_feasible : IsFeasibleRoot half_line (1 ∷ []) wrong → ⊥
 wrong_is_not_feasible h = let n = h.constants 2 (1, omega arith, refl) in omega (arith, ints)
 
-list_of_row_two : list_of half_line (2 ∷ []) (1 ∷ []) wrong 2 ≡ negsuc 0 ∷ negsuc 0 ∷ []
+list_of_row_two : list_of half_line.labels (2 ∷ []) (1 ∷ []) wrong 2 ≡ negsuc 0 ∷ negsuc 0 ∷ []
 list_of_row_two = refl
 
 wrong_lists_are_not_positive : (u : Table) → IsLexFeasible half_line (2 ∷ []) (1 ∷ []) u → ⊥
@@ -105,15 +105,15 @@ wrong_lists_are_not_positive u h =
 home_is_feasible : IsFeasibleRoot half_line (2 ∷ []) home
 home_is_feasible = record {
   dictionary = solved half_line (2 ∷ []) home home_is_solved;
-  constants = all_at (λ i. pos 0 ≤ℤ home.constant i) (rows_in half_line)
+  constants = all_at (λ i. pos 0 ≤ℤ home.constant i) (rows_in half_line.labels)
       (omega (arith, ints), (omega (arith, ints), tt));
 }
 
 -- the root is not the first row, and is later than it
-root_is_last : order half_line (2 ∷ []) ≡ 1 ∷ 2 ∷ []
+root_is_last : order half_line.labels (2 ∷ []) ≡ 1 ∷ 2 ∷ []
 root_is_last = refl
 
-list_of_row_one : list_of half_line (2 ∷ []) (2 ∷ []) home 1 ≡ pos 1 ∷ pos 1 ∷ []
+list_of_row_one : list_of half_line.labels (2 ∷ []) (2 ∷ []) home 1 ≡ pos 1 ∷ pos 1 ∷ []
 list_of_row_one = refl
 
 home_lists_are_positive : IsLexFeasible half_line (2 ∷ []) (2 ∷ []) home
@@ -134,7 +134,7 @@ point_is_shown = (
   },
 )
 
-up : ShowsRay half_line (2 ∷ []) (2 ∷ []) home 2
+up : ShowsRay half_line.labels (2 ∷ []) (2 ∷ []) home 2
 up =
     shows_ray half_line (2 ∷ []) (2 ∷ []) home 2 (0, omega arith, refl) (omega (arith, ints), tt)
     (λ n. absurd (n refl), tt)

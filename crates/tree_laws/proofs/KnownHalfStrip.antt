@@ -91,13 +91,13 @@ upper_is_solved = record {
   least = one_is_least half_strip (2 ∷ 3 ∷ []) upper refl;
 }
 
-root_is_last : order half_strip root ≡ 3 ∷ 1 ∷ 2 ∷ []
+root_is_last : order half_strip.labels root ≡ 3 ∷ 1 ∷ 2 ∷ []
 root_is_last = refl
 
 home_is_feasible : IsFeasibleRoot half_strip root home
 home_is_feasible = record {
   dictionary = solved half_strip root home home_is_solved;
-  constants = all_at (λ i. pos 0 ≤ℤ home.constant i) (rows_in half_strip)
+  constants = all_at (λ i. pos 0 ≤ℤ home.constant i) (rows_in half_strip.labels)
       (omega (arith, ints), (omega (arith, ints), (omega (arith, ints), tt)));
 }
 
@@ -107,12 +107,12 @@ upper_is_feasible =
     (inl (omega (arith, ints)), tt)
 
 -- ---- the ray test: rows 1 and 3 are 0 along column 2, and row 1 is the greater of them
-home_shows : ShowsRay half_strip root root home 2
+home_shows : ShowsRay half_strip.labels root root home 2
 home_shows =
     shows_ray half_strip root root home 2 (1, omega arith, refl) (omega (arith, ints), tt)
     (λ n. inl (omega (arith, ints)), (λ n. absurd (n refl), tt))
 
-upper_does_not : ShowsRay half_strip root (2 ∷ 3 ∷ []) upper 2 → ⊥
+upper_does_not : ShowsRay half_strip.labels root (2 ∷ 3 ∷ []) upper 2 → ⊥
 upper_does_not h = by (h.others 3 (1, omega arith, refl) (λ e. omega arith))
   where
     by : IsPositive (negsuc 0 ∷ pos 1 ∷ []) → ⊥
@@ -120,7 +120,7 @@ upper_does_not h = by (h.others 3 (1, omega arith, refl) (λ e. omega arith))
     by (inr (e, h)) = cc
 
 -- and none in the column of 1, along which row 3 comes to its end
-not_up : ShowsRay half_strip root root home 1 → ⊥
+not_up : ShowsRay half_strip.labels root root home 1 → ⊥
 not_up h = let n = h.none 3 (is_row_outside half_strip root 3 (0, omega arith, refl)) in omega (arith, ints)
 
 -- the axis of x is along both columns

@@ -42,16 +42,16 @@ gaps_end = refl
 
 -- ---- the order of rows
 -- coordinates are no rows, and t is the first of them
-t_is_first : rows_in (lifted square (1 ∷ 2 ∷ [])) ≡ 0 ∷ 1 ∷ 2 ∷ 3 ∷ 4 ∷ []
+t_is_first : rows_in (lifted square (1 ∷ 2 ∷ [])).labels ≡ 0 ∷ 1 ∷ 2 ∷ 3 ∷ 4 ∷ []
 t_is_first = refl
 
-rows_outside : outside pyramid (1 ∷ 2 ∷ 4 ∷ []) ≡ 3 ∷ 5 ∷ []
+rows_outside : outside pyramid.labels (1 ∷ 2 ∷ 4 ∷ []) ≡ 3 ∷ 5 ∷ []
 rows_outside = refl
 
-rows_within : within pyramid (1 ∷ 2 ∷ 4 ∷ []) ≡ 1 ∷ 2 ∷ 4 ∷ []
+rows_within : within pyramid.labels (1 ∷ 2 ∷ 4 ∷ []) ≡ 1 ∷ 2 ∷ 4 ∷ []
 rows_within = refl
 
-rows_in_order : order pyramid (2 ∷ 4 ∷ 5 ∷ []) ≡ 1 ∷ 3 ∷ 2 ∷ 4 ∷ 5 ∷ []
+rows_in_order : order pyramid.labels (2 ∷ 4 ∷ 5 ∷ []) ≡ 1 ∷ 3 ∷ 2 ∷ 4 ∷ 5 ∷ []
 rows_in_order = refl
 
 turned : backwards (1 ∷ 3 ∷ 2 ∷ []) ≡ 2 ∷ 3 ∷ 1 ∷ []
@@ -82,12 +82,12 @@ at_another : listed_at (2 ∷ 4 ∷ 5 ∷ []) apex 1 3 ≡ pos 0
 at_another = refl
 
 -- ---- rows outside a key
-coordinate_is_no_row : IsRowOutside square (1 ∷ 2 ∷ []) 8193 → ⊥
+coordinate_is_no_row : IsRowOutside square.labels (1 ∷ 2 ∷ []) 8193 → ⊥
 coordinate_is_no_row o =
-    all_at (λ k. k ≡ 8193 → ⊥) (rows_in square)
+    all_at (λ k. k ≡ 8193 → ⊥) (rows_in square.labels)
     (λ e. omega arith, (λ e. omega arith, (λ e. omega arith, (λ e. omega arith, tt)))) 8193 o.row refl
 
-label_is_not_outside : IsRowOutside square (1 ∷ 2 ∷ []) 1 → ⊥
+label_is_not_outside : IsRowOutside square.labels (1 ∷ 2 ∷ []) 1 → ⊥
 label_is_not_outside o = o.outside (0, omega arith, refl)
 
 -- ---- keys

@@ -26,11 +26,11 @@ use Rattle.tree_laws.proofs.KnownPyramid.{apex_too_is_solved, apex_low_is_solved
 abbrev root : List ℕ
 root = 1 ∷ 2 ∷ 4 ∷ []
 
-order_of_the_pyramid : order pyramid root ≡ 3 ∷ 5 ∷ 1 ∷ 2 ∷ 4 ∷ []
+order_of_the_pyramid : order pyramid.labels root ≡ 3 ∷ 5 ∷ 1 ∷ 2 ∷ 4 ∷ []
 order_of_the_pyramid = refl
 
-rows_are_distinct : AreDistinct (rows_in pyramid)
-rows_are_distinct = ascending_distinct (rows_in pyramid) (one, (two.0, (two.1, ((omega arith, tt), (tt, tt)))))
+rows_are_distinct : AreDistinct (rows_in pyramid.labels)
+rows_are_distinct = ascending_distinct (rows_in pyramid.labels) (one, (two.0, (two.1, ((omega arith, tt), (tt, tt)))))
   where
     one : AllByRecursion (λ y. 1 < y) (2 ∷ 3 ∷ 4 ∷ 5 ∷ [])
     one = (omega arith, (omega arith, (omega arith, (omega arith, tt))))
@@ -42,7 +42,7 @@ rows_are_distinct = ascending_distinct (rows_in pyramid) (one, (two.0, (two.1, (
 home_is_feasible : IsFeasibleRoot pyramid root home
 home_is_feasible = record {
   dictionary = solved pyramid root home home_is_solved;
-  constants = all_at (λ i. pos 0 ≤ℤ home.constant i) (rows_in pyramid) (
+  constants = all_at (λ i. pos 0 ≤ℤ home.constant i) (rows_in pyramid.labels) (
     omega (arith, ints),
     (
       omega (arith, ints),
@@ -57,7 +57,7 @@ home_lists_are_positive =
     (inl (omega (arith, ints)), (inl (omega (arith, ints)), tt))
 
 -- two rows are 0 at the apex and outside the key: its list decides
-list_of_row_three : list_of pyramid root (2 ∷ 4 ∷ 5 ∷ []) apex 3 ≡ pos 0 ∷ pos 2 ∷ negsuc 1 ∷ []
+list_of_row_three : list_of pyramid.labels root (2 ∷ 4 ∷ 5 ∷ []) apex 3 ≡ pos 0 ∷ pos 2 ∷ negsuc 1 ∷ []
 list_of_row_three = refl
 
 apex_is_feasible : IsLexFeasible pyramid root (2 ∷ 4 ∷ 5 ∷ []) apex
@@ -93,15 +93,15 @@ apex_lower_is_not_feasible u h =
     (h.lists 4 (is_row_outside pyramid (2 ∷ 3 ∷ 5 ∷ []) 4 (1, omega arith, refl))))
 
 -- ---- the ratio test at the root, in the column of 1: rows 3 and 5 have the constant 2 and the entry -2, and 5 leaves
-gaps_of_row_three : ratio_gaps pyramid root root home 1 5 3 ≡ pos 0 ∷ pos 2 ∷ negsuc 1 ∷ []
+gaps_of_row_three : ratio_gaps pyramid.labels root root home 1 5 3 ≡ pos 0 ∷ pos 2 ∷ negsuc 1 ∷ []
 gaps_of_row_three = refl
 
-fifth_leaves : Leaves pyramid root root home 1 5
+fifth_leaves : Leaves pyramid.labels root root home 1 5
 fifth_leaves =
     leaves pyramid root root home 1 5 (1, omega arith, refl) (omega (arith, ints))
     (λ h. inr (refl, inl (omega (arith, ints))), (λ h. inr (refl, inr (refl, inr (refl, tt))), tt))
 
-third_does_not_leave : Leaves pyramid root root home 1 3 → ⊥
+third_does_not_leave : Leaves pyramid.labels root root home 1 3 → ⊥
 third_does_not_leave l =
     by (l.least 5 (is_row_outside pyramid root 5 (1, omega arith, refl)) (omega (arith, ints)))
   where
@@ -110,11 +110,11 @@ third_does_not_leave l =
     by (inr (e, inl h)) = omega (arith, ints)
     by (inr (e, inr (f, h))) = cc
 
-apex_is_neighbour : IsNeighbour pyramid root root home 1 (2 ∷ 4 ∷ 5 ∷ [])
+apex_is_neighbour : IsNeighbour pyramid.labels root root home 1 (2 ∷ 4 ∷ 5 ∷ [])
 apex_is_neighbour = record { column = (0, omega arith, refl); r = 5; leaves = fifth_leaves; exchange = refl }
 
 -- ---- parents: of {3, 4, 5} it is {2, 4, 5}, and of that the root
-apex_enters : Enters pyramid root (2 ∷ 4 ∷ 5 ∷ []) apex 5
+apex_enters : Enters pyramid.labels root (2 ∷ 4 ∷ 5 ∷ []) apex 5
 apex_enters =
     enters pyramid root (2 ∷ 4 ∷ 5 ∷ []) apex 5 (2, omega arith, refl)
     (inr (refl, inr (refl, inl (omega (arith, ints))))) (
@@ -122,31 +122,31 @@ apex_enters =
       (λ m. inr (inr (inl (refl, (2, omega arith, refl)))), (λ m. inl refl, tt)),
     )
 
-apex_leaves : Leaves pyramid root (2 ∷ 4 ∷ 5 ∷ []) apex 5 1
+apex_leaves : Leaves pyramid.labels root (2 ∷ 4 ∷ 5 ∷ []) apex 5 1
 apex_leaves =
     leaves pyramid root (2 ∷ 4 ∷ 5 ∷ []) apex 5 1 (0, omega arith, refl) (omega (arith, ints))
     (λ h. inr (refl, inr (refl, inr (refl, tt))), (λ h. absurd (omega (arith, ints)), tt))
 
-apex_parent : IsParent pyramid root (2 ∷ 4 ∷ 5 ∷ []) apex root
+apex_parent : IsParent pyramid.labels root (2 ∷ 4 ∷ 5 ∷ []) apex root
 apex_parent = record {
   s = 5;
   enters = apex_enters;
   neighbour = record { column = (2, omega arith, refl); r = 1; leaves = apex_leaves; exchange = refl };
 }
 
-apex_too_enters : Enters pyramid root (3 ∷ 4 ∷ 5 ∷ []) apex_too 3
+apex_too_enters : Enters pyramid.labels root (3 ∷ 4 ∷ 5 ∷ []) apex_too 3
 apex_too_enters =
     enters pyramid root (3 ∷ 4 ∷ 5 ∷ []) apex_too 3 (0, omega arith, refl) (inr (refl, inl (omega (arith, ints)))) (
       λ m. inl refl,
       (λ m. inr (inl (refl, (3, omega arith, refl))), (λ m. inr (inl (refl, (0, omega arith, refl))), tt)),
     )
 
-apex_too_leaves : Leaves pyramid root (3 ∷ 4 ∷ 5 ∷ []) apex_too 3 2
+apex_too_leaves : Leaves pyramid.labels root (3 ∷ 4 ∷ 5 ∷ []) apex_too 3 2
 apex_too_leaves =
     leaves pyramid root (3 ∷ 4 ∷ 5 ∷ []) apex_too 3 2 (1, omega arith, refl) (omega (arith, ints))
     (λ h. absurd (omega (arith, ints)), (λ h. inr (refl, inr (refl, inr (refl, tt))), tt))
 
-apex_too_parent : IsParent pyramid root (3 ∷ 4 ∷ 5 ∷ []) apex_too (2 ∷ 4 ∷ 5 ∷ [])
+apex_too_parent : IsParent pyramid.labels root (3 ∷ 4 ∷ 5 ∷ []) apex_too (2 ∷ 4 ∷ 5 ∷ [])
 apex_too_parent = record {
   s = 3;
   enters = apex_too_enters;
@@ -167,11 +167,11 @@ apex_shows_its_point = (
   },
 )
   where
-    earliest : (k : ℕ) → IsEarlier pyramid root k 3 → apex.entry 3 k ≡ pos 0
+    earliest : (k : ℕ) → IsEarlier pyramid.labels root k 3 → apex.entry 3 k ≡ pos 0
     earliest k h =
         absurd (none_before 3 (5 ∷ 1 ∷ 2 ∷ 4 ∷ []) k (order_distinct pyramid root rows_are_distinct).0 h)
 
-apex_too_does_not : ShowsPoint pyramid root (3 ∷ 4 ∷ 5 ∷ []) apex_too → ⊥
+apex_too_does_not : ShowsPoint pyramid.labels root (3 ∷ 4 ∷ 5 ∷ []) apex_too → ⊥
 apex_too_does_not h =
     let o = is_row_outside pyramid (3 ∷ 4 ∷ 5 ∷ []) 2 (1, omega arith, refl) in
     let e = h 2 o refl 3 (0, omega arith, refl) (inl (refl, (2, omega arith, refl))) in cc

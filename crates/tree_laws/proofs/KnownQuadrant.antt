@@ -63,17 +63,17 @@ home_is_solved = record {
 home_is_feasible : IsFeasibleRoot quadrant root home
 home_is_feasible = record {
   dictionary = solved quadrant root home home_is_solved;
-  constants = all_at (λ i. pos 0 ≤ℤ home.constant i) (rows_in quadrant)
+  constants = all_at (λ i. pos 0 ≤ℤ home.constant i) (rows_in quadrant.labels)
       (omega (arith, ints), (omega (arith, ints), tt));
 }
 
 -- ---- rays
-first_column : ShowsRay quadrant root root home 1
+first_column : ShowsRay quadrant.labels root root home 1
 first_column =
     shows_ray quadrant root root home 1 (0, omega arith, refl) tt
     (λ n. absurd (n refl), (λ n. inl (omega (arith, ints)), tt))
 
-second_column : ShowsRay quadrant root root home 2
+second_column : ShowsRay quadrant.labels root root home 2
 second_column =
     shows_ray quadrant root root home 2 (1, omega arith, refl) tt
     (λ n. inl (omega (arith, ints)), (λ n. absurd (n refl), tt))
@@ -106,7 +106,7 @@ axis_is_extreme = record {
   primitive = primitive_from_gcd (pos 0 ∷ pos 1 ∷ pos 0 ∷ []) refl;
   inside = record { width = refl; fixed = tt };
   finite = omega (arith, ints);
-  rows = all_at (λ i. pos 0 ≤ℤ (quadrant.form i · (pos 0 ∷ pos 1 ∷ pos 0 ∷ []))) (rows_in quadrant)
+  rows = all_at (λ i. pos 0 ≤ℤ (quadrant.form i · (pos 0 ∷ pos 1 ∷ pos 0 ∷ []))) (rows_in quadrant.labels)
       (omega (arith, ints), (omega (arith, ints), tt));
   alone = λ z i e f.
       each_vector 3
@@ -133,7 +133,7 @@ diagonal_is_not_extreme : IsExtremeIn quadrant (pos 0 ∷ pos 1 ∷ pos 1 ∷ []
 diagonal_is_not_extreme x =
     by (x.alone (pos 0 ∷ pos 1 ∷ pos 0 ∷ []) (record { width = refl; fixed = tt }) (λ e. refl)
     (all_at (λ i. quadrant.form i · (pos 0 ∷ pos 1 ∷ pos 1 ∷ []) ≡ pos 0 →
-    quadrant.form i · (pos 0 ∷ pos 1 ∷ pos 0 ∷ []) ≡ pos 0) (rows_in quadrant) (λ e. cc, (λ e. cc, tt))))
+    quadrant.form i · (pos 0 ∷ pos 1 ∷ pos 0 ∷ []) ≡ pos 0) (rows_in quadrant.labels) (λ e. cc, (λ e. cc, tt))))
   where
     apart : (p q : ℤ) → p *ℤ pos 1 ≡ q *ℤ pos 1 → p *ℤ pos 0 ≡ q *ℤ pos 1 → p ≡ pos 0
     apart p q e f = omega (arith, ints)

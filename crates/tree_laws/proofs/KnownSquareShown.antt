@@ -37,7 +37,7 @@ home_shows_the_corner = (
   },
 )
 
-home_shows_no_ray : ShowsRay square root root home 1 → ⊥
+home_shows_no_ray : ShowsRay square.labels root root home 1 → ⊥
 home_shows_no_ray h = let n = h.none 3 (is_row_outside square root 3 (0, omega arith, refl)) in omega (arith, ints)
 
 opposite_shows_the_far_corner : IsShownAt square root (3 ∷ 4 ∷ []) opposite None far_corner
@@ -73,7 +73,7 @@ corner_is_extreme = record {
   primitive = primitive_from_gcd corner refl;
   inside = record { width = refl; fixed = tt };
   finite = omega (arith, ints);
-  rows = all_at (λ i. pos 0 ≤ℤ (square.form i · corner)) (rows_in square)
+  rows = all_at (λ i. pos 0 ≤ℤ (square.form i · corner)) (rows_in square.labels)
       (omega (arith, ints), (omega (arith, ints), (omega (arith, ints), (omega (arith, ints), tt))));
   alone = λ z i e f.
       each_vector 3 (λ z. square.form 1 · z ≡ pos 0 → square.form 2 · z ≡ pos 0 → IsMultipleOf corner z)
@@ -104,7 +104,7 @@ edge_is_not_extreme x =
     by
     (x.alone corner (record { width = refl; fixed = tt }) (λ e. cc)
     (all_at (λ i. square.form i · (pos 2 ∷ pos 1 ∷ pos 0 ∷ []) ≡ pos 0 → square.form i · corner ≡ pos 0)
-    (rows_in square) (λ e. cc, (λ e. refl, (λ e. cc, (λ e. cc, tt))))))
+    (rows_in square.labels) (λ e. cc, (λ e. refl, (λ e. cc, (λ e. cc, tt))))))
   where
     apart : (p q : ℤ) → p *ℤ pos 1 ≡ q *ℤ pos 2 → p *ℤ pos 0 ≡ q *ℤ pos 1 → p ≡ pos 0
     apart p q e f = omega (arith, ints)

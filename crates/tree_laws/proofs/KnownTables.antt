@@ -139,7 +139,7 @@ module _ (space : Space) (key : List ℕ) (t : Table) where
   pub record IsSolved : Type 0 where
     pub points : HasPoints space
     pub ascending : IsAscending key
-    pub rows : AllByRecursion (Contains (rows_in space)) key
+    pub rows : AllByRecursion (Contains (rows_in space.labels)) key
     pub directions : List Vector
     pub flat : AllByRecursion IsFlat directions
     pub independent : AreApart [] key directions
@@ -152,11 +152,11 @@ module _ (space : Space) (key : List ℕ) (t : Table) where
   solved h = record {
     points = h.points;
     ascending = h.ascending;
-    rows = All-from_recursion (Contains (rows_in space)) key h.rows;
+    rows = All-from_recursion (Contains (rows_in space.labels)) key h.rows;
     dictionary = record {
       cobasis = record {
         labels = λ k d l. row_is_label space (slice_index_or key k d)
-            (All-from_recursion (Contains (rows_in space)) key h.rows k d l);
+            (All-from_recursion (Contains (rows_in space.labels)) key h.rows k d l);
         independent = apart [] key h.directions h.flat h.independent;
         enough = λ z d v. each_vector space.n IsNothingAt h.enough z d.inside.width d.level v;
       };

@@ -89,14 +89,14 @@ foot_is_solved = record {
   least = one_is_least triangle (1 ∷ 3 ∷ []) foot refl;
 }
 
-rows_are_distinct : AreDistinct (rows_in triangle)
+rows_are_distinct : AreDistinct (rows_in triangle.labels)
 rows_are_distinct =
-    ascending_distinct (rows_in triangle) ((omega arith, (omega arith, tt)), ((omega arith, tt), (tt, tt)))
+    ascending_distinct (rows_in triangle.labels) ((omega arith, (omega arith, tt)), ((omega arith, tt), (tt, tt)))
 
 home_is_feasible : IsFeasibleRoot triangle root home
 home_is_feasible = record {
   dictionary = solved triangle root home home_is_solved;
-  constants = all_at (λ i. pos 0 ≤ℤ home.constant i) (rows_in triangle)
+  constants = all_at (λ i. pos 0 ≤ℤ home.constant i) (rows_in triangle.labels)
       (omega (arith, ints), (omega (arith, ints), (omega (arith, ints), tt)));
 }
 
@@ -106,41 +106,41 @@ foot_is_feasible =
     (inl (omega (arith, ints)), tt)
 
 -- ---- the order
-rows_outside_the_root : outside triangle root ≡ 3 ∷ []
+rows_outside_the_root : outside triangle.labels root ≡ 3 ∷ []
 rows_outside_the_root = refl
 
-root_is_last : order triangle root ≡ 3 ∷ 1 ∷ 2 ∷ []
+root_is_last : order triangle.labels root ≡ 3 ∷ 1 ∷ 2 ∷ []
 root_is_last = refl
 
-third_is_earlier : IsEarlier triangle root 3 1
+third_is_earlier : IsEarlier triangle.labels root 3 1
 third_is_earlier = inl (refl, (0, omega arith, refl))
 
-list_of_row_two : list_of triangle root (1 ∷ 3 ∷ []) foot 2 ≡ pos 1 ∷ pos 1 ∷ []
+list_of_row_two : list_of triangle.labels root (1 ∷ 3 ∷ []) foot 2 ≡ pos 1 ∷ pos 1 ∷ []
 list_of_row_two = refl
 
 -- ---- both columns of {1, 3} may enter, as row 2 is negative there: in column 1 row 1 is positive, but row 2 decides
-first_may_enter : MayEnter triangle root foot 1
+first_may_enter : MayEnter triangle.labels root foot 1
 first_may_enter = inl (omega (arith, ints))
 
-third_may_enter : MayEnter triangle root foot 3
+third_may_enter : MayEnter triangle.labels root foot 3
 third_may_enter = inl (omega (arith, ints))
 
 -- column 3 enters, as it is no row of the root
-third_enters : Enters triangle root (1 ∷ 3 ∷ []) foot 3
+third_enters : Enters triangle.labels root (1 ∷ 3 ∷ []) foot 3
 third_enters =
     enters triangle root (1 ∷ 3 ∷ []) foot 3 (1, omega arith, refl) third_may_enter
     (λ m. inr third_is_earlier, (λ m. inl refl, tt))
 
-first_does_not_enter : Enters triangle root (1 ∷ 3 ∷ []) foot 1 → ⊥
+first_does_not_enter : Enters triangle.labels root (1 ∷ 3 ∷ []) foot 1 → ⊥
 first_does_not_enter x =
     let e = enters_is_one triangle root foot (1 ∷ 3 ∷ []) rows_are_distinct 3 1 third_enters x in omega arith
 
-second_leaves : Leaves triangle root (1 ∷ 3 ∷ []) foot 3 2
+second_leaves : Leaves triangle.labels root (1 ∷ 3 ∷ []) foot 3 2
 second_leaves =
     leaves triangle root (1 ∷ 3 ∷ []) foot 3 2 (0, omega arith, refl) (omega (arith, ints))
     (λ h. inr (refl, inr (refl, tt)), tt)
 
-foot_parent : IsParent triangle root (1 ∷ 3 ∷ []) foot root
+foot_parent : IsParent triangle.labels root (1 ∷ 3 ∷ []) foot root
 foot_parent = record {
   s = 3;
   enters = third_enters;

@@ -89,7 +89,7 @@ foot_is_solved = record {
 home_is_feasible : IsFeasibleRoot turned_triangle root home
 home_is_feasible = record {
   dictionary = solved turned_triangle root home home_is_solved;
-  constants = all_at (λ i. pos 0 ≤ℤ home.constant i) (rows_in turned_triangle)
+  constants = all_at (λ i. pos 0 ≤ℤ home.constant i) (rows_in turned_triangle.labels)
       (omega (arith, ints), (omega (arith, ints), (omega (arith, ints), tt)));
 }
 
@@ -100,24 +100,24 @@ foot_is_feasible =
     (inl (omega (arith, ints)), tt)
 
 -- ---- in column 2 row 1 is negative, but row 2 is greater and positive; in column 3 row 2 is 0
-second_may_not_enter : MayEnter turned_triangle root foot 2 → ⊥
+second_may_not_enter : MayEnter turned_triangle.labels root foot 2 → ⊥
 second_may_not_enter (inl h) = omega (arith, ints)
 second_may_not_enter (inr (e, h)) = cc
 
-third_may_enter : MayEnter turned_triangle root foot 3
+third_may_enter : MayEnter turned_triangle.labels root foot 3
 third_may_enter = inr (refl, inl (omega (arith, ints)))
 
-third_enters : Enters turned_triangle root (2 ∷ 3 ∷ []) foot 3
+third_enters : Enters turned_triangle.labels root (2 ∷ 3 ∷ []) foot 3
 third_enters =
     enters turned_triangle root (2 ∷ 3 ∷ []) foot 3 (1, omega arith, refl) third_may_enter
     (λ m. absurd (second_may_not_enter m), (λ m. inl refl, tt))
 
-first_leaves : Leaves turned_triangle root (2 ∷ 3 ∷ []) foot 3 1
+first_leaves : Leaves turned_triangle.labels root (2 ∷ 3 ∷ []) foot 3 1
 first_leaves =
     leaves turned_triangle root (2 ∷ 3 ∷ []) foot 3 1 (0, omega arith, refl) (omega (arith, ints))
     (λ h. inr (refl, inr (refl, tt)), tt)
 
-foot_parent : IsParent turned_triangle root (2 ∷ 3 ∷ []) foot root
+foot_parent : IsParent turned_triangle.labels root (2 ∷ 3 ∷ []) foot root
 foot_parent = record {
   s = 3;
   enters = third_enters;

@@ -110,15 +110,15 @@ module _ {X : Type 0} (p : X → ℤ) (l : X → List ℤ) (same : (x y : X) →
 
 -- ---- the ratio test
 module _ (space : Space) (root key : List ℕ) (t : Table) where
-  pub length_lists : (i j : ℕ) → length (list_of space root key t i) ≡ length (list_of space root key t j)
-  length_lists i j = ap suc (length_values (listed_at key t i) (listed_at key t j) (outside space root))
+  pub length_lists : (i j : ℕ) → length (list_of space.labels root key t i) ≡ length (list_of space.labels root key t j)
+  length_lists i j = ap suc (length_values (listed_at key t i) (listed_at key t j) (outside space.labels root))
 
   module _ (s : ℕ) where
     abbrev IsLeaving : ℕ → Type 0
     IsLeaving r =
-        IsLeastOf (λ i. neg_ℤ (t.entry i s)) (λ i. list_of space root key t i) length_lists (outside space key) r
+        IsLeastOf (λ i. neg_ℤ (t.entry i s)) (λ i. list_of space.labels root key t i) length_lists (outside space.labels key) r
 
-    leaves_if_least : (r : ℕ) → IsLeaving r → Leaves space root key t s r
+    leaves_if_least : (r : ℕ) → IsLeaving r → Leaves space.labels root key t s r
     leaves_if_least r h = record {
       row = is_row_outside space key r h.member;
       negative = let d = h.positive in omega (arith, lin);
@@ -127,26 +127,26 @@ module _ (space : Space) (root key : List ℕ) (t : Table) where
 
     -- no row outside the key is negative in the column of s, or some row leaves
     pub none_or_leaves :
-        ((i : ℕ) → IsRowOutside space key i → pos 0 ≤ℤ t.entry i s) ⊎ ((r : ℕ) × Leaves space root key t s r)
+        ((i : ℕ) → IsRowOutside space.labels key i → pos 0 ≤ℤ t.entry i s) ⊎ ((r : ℕ) × Leaves space.labels root key t s r)
     none_or_leaves =
         ⊎_elim
-        (λ (none : (i : ℕ) → Contains (outside space key) i → neg_ℤ (t.entry i s) ≤ℤ pos 0).
+        (λ (none : (i : ℕ) → Contains (outside space.labels key) i → neg_ℤ (t.entry i s) ≤ℤ pos 0).
         inl (λ i o. let n = none i (row_outside space key i o) in omega (arith, lin)))
         (λ (w : (r : ℕ) × IsLeaving r). inr (w.0, leaves_if_least w.0 w.1))
-        (none_or_least (λ i. neg_ℤ (t.entry i s)) (λ i. list_of space root key t i) length_lists (outside space key))
+        (none_or_least (λ i. neg_ℤ (t.entry i s)) (λ i. list_of space.labels root key t i) length_lists (outside space.labels key))
 
-    pub some_leaves : (i : ℕ) → IsRowOutside space key i → t.entry i s <ℤ pos 0 →
-        (r : ℕ) × Leaves space root key t s r
+    pub some_leaves : (i : ℕ) → IsRowOutside space.labels key i → t.entry i s <ℤ pos 0 →
+        (r : ℕ) × Leaves space.labels root key t s r
     some_leaves i o n =
         ⊎_elim
-        (λ (none : (i : ℕ) → IsRowOutside space key i → pos 0 ≤ℤ t.entry i s).
+        (λ (none : (i : ℕ) → IsRowOutside space.labels key i → pos 0 ≤ℤ t.entry i s).
         let m = none i o in absurd (omega (arith, lin)))
-        (λ (w : (r : ℕ) × Leaves space root key t s r). w)
+        (λ (w : (r : ℕ) × Leaves space.labels root key t s r). w)
         none_or_leaves
 
     -- of two rows that leave, the one over its factor is the other over its own
-    pub leaving_rows_tie : (r q : ℕ) → Leaves space root key t s r → Leaves space root key t s q →
-        IsZero (ratio_gaps space root key t s r q)
+    pub leaving_rows_tie : (r q : ℕ) → Leaves space.labels root key t s r → Leaves space.labels root key t s q →
+        IsZero (ratio_gaps space.labels root key t s r q)
     leaving_rows_tie r q h k =
-        gaps_antisymmetric (neg_ℤ (t.entry r s)) (list_of space root key t q) (neg_ℤ (t.entry q s))
-        (list_of space root key t r) (h.least q k.row k.negative) (k.least r h.row h.negative)
+        gaps_antisymmetric (neg_ℤ (t.entry r s)) (list_of space.labels root key t q) (neg_ℤ (t.entry q s))
+        (list_of space.labels root key t r) (h.least q k.row k.negative) (k.least r h.row h.negative)

@@ -33,7 +33,7 @@ level key t i (Some k) = itself k i t.denominator -ℤ number_at key t i k
 
 -- the places of a list
 abbrev pub places : Space → List ℕ → List (Option ℕ)
-places space root = None ∷ map Some (outside space root)
+places space root = None ∷ map Some (outside space.labels root)
 
 abbrev pub level_list : Space → List ℕ → List ℕ → Table → ℕ → List ℤ
 level_list space root key t i = map (level key t i) (places space root)
@@ -44,10 +44,10 @@ some_place (x ∷ ks) k c =
     by_cases (λ (j : ℕ). Contains (map Some (x ∷ ks)) (Some j)) x ks (Contains-first (Some x) (map Some ks))
     (λ j d. Contains-later (Some j) (Some x) (map Some ks) (some_place ks j d)) k c
 
-pub row_place : (space : Space) (root : List ℕ) (k : ℕ) → Contains (outside space root) k →
+pub row_place : (space : Space) (root : List ℕ) (k : ℕ) → Contains (outside space.labels root) k →
     Contains (places space root) (Some k)
 row_place space root k c =
-    Contains-later (Some k) None (map Some (outside space root)) (some_place (outside space root) k c)
+    Contains-later (Some k) None (map Some (outside space.labels root)) (some_place (outside space.labels root) k c)
 
 same_parts : (a b d : ℤ) → a ≡ d → b ≡ d → a -ℤ b ≡ pos 0
 same_parts a b d e f = omega (arith, lin)
@@ -71,8 +71,8 @@ listed key t i k n = by (k == i) refl (is_member k key) refl
     by false e m f = minus m (t.entry i k)
 
 pub list_is_levels : (space : Space) (root key : List ℕ) (t : Table) (i : ℕ) → (Contains key i → ⊥) →
-    list_of space root key t i ≡ level_list space root key t i
-list_is_levels space root key t i n = ap (λ xs. t.constant i ∷ xs) (rows (outside space root))
+    list_of space.labels root key t i ≡ level_list space root key t i
+list_is_levels space root key t i n = ap (λ xs. t.constant i ∷ xs) (rows (outside space.labels root))
   where
     rows : (ks : List ℕ) → map (listed_at key t i) ks ≡ map (level key t i) (map Some ks)
     rows [] = refl

@@ -8,7 +8,8 @@ use Rattle.poly_model.specs.Systems.{Polyhedron, file_rows, cone_of, added_row}
 use Rattle.poly_model.specs.FreeColumns.{AreFreeColumns}
 use Rattle.poly_model.specs.Extreme.{IsShown, IsExtreme}
 use Rattle.poly_model.specs.Tree.{IsExtremeIn}
-use Rattle.tree_laws.specs.Extremes.{in_main, ExtremesOfMain}
+use Rattle.poly_model.specs.Spaces.{in_main}
+use Rattle.tree_laws.specs.Extremes.{ExtremesOfMain}
 use Rattle.tree_laws.proofs.MainLabels.{main_in}
 use Rattle.tree_laws.proofs.ExtremesOfInequalities as inequalities
 use Rattle.tree_laws.proofs.ExtremesOfPoints as points

@@ -29,14 +29,14 @@ minus_positive x h = omega (arith, lin)
 
 -- ---- the lists of all rows
 module _ (space : Space) (root key : List ℕ) (t : Table) (f : IsLexFeasible space root key t) where
-  pub levels_nonnegative : (i : ℕ) → Contains (rows_in space) i → IsNonnegative (level_list space root key t i)
+  pub levels_nonnegative : (i : ℕ) → Contains (rows_in space.labels) i → IsNonnegative (level_list space root key t i)
   levels_nonnegative i l =
       ⊎_elim
       (λ (c : Contains key i).
       nonnegative_zero (level key t i) (own_level space key t f.dictionary i c) (places space root))
       (λ (n : Contains key i → ⊥).
       subst IsNonnegative (list_is_levels space root key t i n)
-      (positive_is_nonnegative (list_of space root key t i) (f.lists i (record { row = l; outside = n }))))
+      (positive_is_nonnegative (list_of space.labels root key t i) (f.lists i (record { row = l; outside = n }))))
       (contains_or key i)
 
 -- in a column, a row of the key is not negative
@@ -61,8 +61,8 @@ key_entry space key t d i s c m l =
 -- ---- the lists of a neighbour
 module _ (space : Space) (root key new : List ℕ) (t u : Table) (f : IsLexFeasible space root key t)
     (e : IsRowDictionary space new u) (s r : ℕ) (c : Contains key s) (x : Exchanges key new r s)
-    (l : Leaves space root key t s r) where
-  gaps_nonnegative : (i : ℕ) → Contains (rows_in space) i → IsNonnegative (map (gap key t s r i) (places space root))
+    (l : Leaves space.labels root key t s r) where
+  gaps_nonnegative : (i : ℕ) → Contains (rows_in space.labels) i → IsNonnegative (map (gap key t s r i) (places space root))
   gaps_nonnegative i row =
       by_sign (IsNonnegative (map (gap key t s r i) (places space root))) (t.entry i s) more none less
     where
@@ -96,7 +96,7 @@ module _ (space : Space) (root key new : List ℕ) (t u : Table) (f : IsLexFeasi
           plus : (a y v : ℤ) → a +ℤ y *ℤ v ≡ a -ℤ neg_ℤ y *ℤ v
           plus a y v = simp expand (omega (arith, lin))
 
-  new_nonnegative : (i : ℕ) → Contains (rows_in space) i → IsNonnegative (level_list space root new u i)
+  new_nonnegative : (i : ℕ) → Contains (rows_in space.labels) i → IsNonnegative (level_list space root new u i)
   new_nonnegative i row =
       nonnegative_along u.denominator (neg_ℤ (t.entry r s) *ℤ t.denominator) e.dictionary.writes.positive
       (positive_product (neg_ℤ (t.entry r s)) t.denominator (minus_positive (t.entry r s) l.negative)
@@ -108,7 +108,7 @@ module _ (space : Space) (root key new : List ℕ) (t u : Table) (f : IsLexFeasi
   new_feasible : (home : Table) → IsRowDictionary space root home → IsLexFeasible space root new u
   new_feasible home h = record {
     dictionary = e;
-    lists = λ i o. positive_unless_zero (list_of space root new u i)
+    lists = λ i o. positive_unless_zero (list_of space.labels root new u i)
         (subst IsNonnegative (sym (list_is_levels space root new u i o.outside)) (new_nonnegative i o.row))
         (list_is_nonzero space root new home u h e i o);
   }
@@ -116,11 +116,11 @@ module _ (space : Space) (root key new : List ℕ) (t u : Table) (f : IsLexFeasi
 module _ (space : Space) (root key : List ℕ) (t : Table) where
   -- the keys of a neighbour
   pub neighbour_exchanges : (s : ℕ) (new : List ℕ) → IsRowDictionary space key t →
-      (n : IsNeighbour space root key t s new) → Exchanges key new n.r s
+      (n : IsNeighbour space.labels root key t s new) → Exchanges key new n.r s
   neighbour_exchanges s new d n =
       subst (λ l. Exchanges key l n.r s) (sym n.exchange) (exchanges key s n.r d.ascending n.leaves.row.outside)
 
-  pub neighbour_dictionary : (s : ℕ) (new : List ℕ) → IsRowDictionary space key t → IsNeighbour space root key t s new →
+  pub neighbour_dictionary : (s : ℕ) (new : List ℕ) → IsRowDictionary space key t → IsNeighbour space.labels root key t s new →
       (u : Table) × IsRowDictionary space new u
   neighbour_dictionary s new d n =
       subst (λ l. (u : Table) × IsRowDictionary space l u) (sym n.exchange)
@@ -130,27 +130,27 @@ module _ (space : Space) (root key : List ℕ) (t : Table) where
       less_nonzero y h z = omega (arith, lin)
 
   pub neighbour_feasible : (s : ℕ) (new : List ℕ) (home u : Table) → IsRowDictionary space root home →
-      IsLexFeasible space root key t → IsNeighbour space root key t s new → IsRowDictionary space new u →
+      IsLexFeasible space root key t → IsNeighbour space.labels root key t s new → IsRowDictionary space new u →
       IsLexFeasible space root new u
   neighbour_feasible s new home u h f n e =
       new_feasible space root key new t u f e s n.r n.column (neighbour_exchanges s new f.dictionary n) n.leaves home h
 
   -- ---- one neighbour
   pub one_row : (home : Table) → IsRowDictionary space root home → IsRowDictionary space key t → (s r q : ℕ) →
-      Leaves space root key t s r → Leaves space root key t s q → r ≡ q
+      Leaves space.labels root key t s r → Leaves space.labels root key t s q → r ≡ q
   one_row home h d s r q l m =
       ⊎_elim
       (λ (e : r ≡ q). e)
       (λ (n : r ≡ q → ⊥). absurd (less_zero (t.entry r s) l.negative (
       no_ties space root key home t h d q r m.row l.row (λ e. n (sym e)) (neg_ℤ (t.entry r s)) (neg_ℤ (t.entry q s))
-      (gaps_antisymmetric (neg_ℤ (t.entry r s)) (list_of space root key t q) (neg_ℤ (t.entry q s))
-      (list_of space root key t r) (l.least q m.row m.negative) (m.least r l.row l.negative))).0))
+      (gaps_antisymmetric (neg_ℤ (t.entry r s)) (list_of space.labels root key t q) (neg_ℤ (t.entry q s))
+      (list_of space.labels root key t r) (l.least q m.row m.negative) (m.least r l.row l.negative))).0))
       (cases_eq r q)
     where
       less_zero : (y : ℤ) → y <ℤ pos 0 → neg_ℤ y ≡ pos 0 → ⊥
       less_zero y h z = omega (arith, lin)
 
   pub one_neighbour : (home : Table) → IsRowDictionary space root home → IsRowDictionary space key t → (s : ℕ)
-      (new other : List ℕ) → IsNeighbour space root key t s new → IsNeighbour space root key t s other → new ≡ other
+      (new other : List ℕ) → IsNeighbour space.labels root key t s new → IsNeighbour space.labels root key t s other → new ≡ other
   one_neighbour home h d s new other n m =
       n.exchange ∙ ap (exchanged_key key s) (one_row home h d s n.r m.r n.leaves m.leaves) ∙ sym m.exchange

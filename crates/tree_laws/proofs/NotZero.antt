@@ -43,7 +43,7 @@ module _ (space : Space) (root key : List ℕ) (home t : Table) (h : IsRowDictio
   key_place c m o = row_place space root c (outside_has space root c (key_row space key t d c m) o)
 
   -- one row
-  pub level_is_nonzero : (i : ℕ) → IsRowOutside space key i →
+  pub level_is_nonzero : (i : ℕ) → IsRowOutside space.labels key i →
       ((x : Option ℕ) → Contains (places space root) x → level key t i x ≡ pos 0) → ⊥
   level_is_nonzero i o z = ⊎_elim inside apart (contains_or root i)
     where
@@ -61,7 +61,7 @@ module _ (space : Space) (root key : List ℕ) (home t : Table) (h : IsRowDictio
           ∙ root_sum i r o.outside (t.entry i) (λ c m q. minus_zero (t.entry i c)
           (sym (level_inside key t i c o.outside m) ∙ z (Some c) (key_place c m q))))
 
-  pub list_is_nonzero : (i : ℕ) → IsRowOutside space key i → IsZero (list_of space root key t i) → ⊥
+  pub list_is_nonzero : (i : ℕ) → IsRowOutside space.labels key i → IsZero (list_of space.labels root key t i) → ⊥
   list_is_nonzero i o z =
       level_is_nonzero i o (zero_at (level key t i) (places space root)
       (subst IsZero (list_is_levels space root key t i o.outside) z))

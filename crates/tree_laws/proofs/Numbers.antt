@@ -32,7 +32,7 @@ number_outside key t i k n = by (is_member k key) refl
     by true e = absurd (n (member_only k key e))
     by false e = refl
 
-pub row_is_label : (space : Space) (i : ℕ) → Contains (rows_in space) i → Contains space.labels i
+pub row_is_label : (space : Space) (i : ℕ) → Contains (rows_in space.labels) i → Contains space.labels i
 row_is_label space i c = (filter_only is_row space.labels i c).0
 
 -- a term over another denominator
@@ -59,8 +59,8 @@ module _ (space : Space) (key : List ℕ) (t : Table) (d : IsRowDictionary space
   pub key_label : (k : ℕ) → Contains key k → Contains space.labels k
   key_label = is_label space key d.dictionary.cobasis
 
-  pub key_row : (k : ℕ) → Contains key k → Contains (rows_in space) k
-  key_row k c = All-contains (Contains (rows_in space)) key k d.rows c
+  pub key_row : (k : ℕ) → Contains key k → Contains (rows_in space.labels) k
+  key_row k c = All-contains (Contains (rows_in space.labels)) key k d.rows c
 
   -- the value of a label at a point at which the labels of the key are 0
   origin_value : (o : Origin space key) (i : ℕ) → Contains space.labels i →

@@ -19,13 +19,13 @@ use Rattle.tree_laws.proofs.PointValues.{row_at_direction, is_key_point, zero_co
 module _ (space : Space) (root : List ℕ) (y : Vector) where
   -- a row of the key is one of the other key, if those after it that are in the other are in the key
   module _ (key other : List ℕ) (t u : Table) (d : IsRowDictionary space key t) (e : IsRowDictionary space other u)
-      (shown : ShowsPoint space root other u) (at : IsAtPoint space key y) (there : IsAtPoint space other y) where
-    one_way : (pre xs : List ℕ) (x : ℕ) → order space root ≡ pre ++ x ∷ xs →
+      (shown : ShowsPoint space.labels root other u) (at : IsAtPoint space key y) (there : IsAtPoint space other y) where
+    one_way : (pre xs : List ℕ) (x : ℕ) → order space.labels root ≡ pre ++ x ∷ xs →
         ((k : ℕ) → Contains xs k → Contains other k → Contains key k) → Contains key x → Contains other x
     one_way pre xs x is later c =
         ⊎_elim (λ (m : Contains other x). m) (λ (n : Contains other x → ⊥). absurd (outside n)) (contains_or other x)
       where
-        row : Contains (rows_in space) x
+        row : Contains (rows_in space.labels) x
         row = key_row space key t d x c
 
         outside : (Contains other x → ⊥) → ⊥
@@ -54,10 +54,10 @@ module _ (space : Space) (root : List ℕ) (y : Vector) where
                     (subst (λ (l : List ℕ). Contains l k) is (order_has space root k (key_row space other u e k m))))
 
   module _ (key other : List ℕ) (t u : Table) (d : IsRowDictionary space key t) (e : IsRowDictionary space other u)
-      (shown : ShowsPoint space root key t) (shows : ShowsPoint space root other u)
+      (shown : ShowsPoint space.labels root key t) (shows : ShowsPoint space.labels root other u)
       (at : IsAtPoint space key y) (there : IsAtPoint space other y) where
     -- the two keys have the same rows of each end of the order
-    agree : (pre xs : List ℕ) → order space root ≡ pre ++ xs → (k : ℕ) → Contains xs k →
+    agree : (pre xs : List ℕ) → order space.labels root ≡ pre ++ xs → (k : ℕ) → Contains xs k →
         (Contains key k → Contains other k) × (Contains other k → Contains key k)
     agree pre [] is k m = absurd (Contains-nil k m)
     agree pre (x ∷ xs) is k m =
@@ -74,5 +74,5 @@ module _ (space : Space) (root : List ℕ) (y : Vector) where
     pub one_key : key ≡ other
     one_key =
         ascending_is_one key other d.ascending e.ascending
-        (λ k m. (agree [] (order space root) refl k (order_has space root k (key_row space key t d k m))).0 m)
-        (λ k m. (agree [] (order space root) refl k (order_has space root k (key_row space other u e k m))).1 m)
+        (λ k m. (agree [] (order space.labels root) refl k (order_has space root k (key_row space key t d k m))).0 m)
+        (λ k m. (agree [] (order space.labels root) refl k (order_has space root k (key_row space other u e k m))).1 m)

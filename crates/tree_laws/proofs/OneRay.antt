@@ -27,8 +27,8 @@ opposite p e x v w h z = simp expand (omega (arith, lin))
 
 module _ (space : Space) (root : List ℕ) (home : Table) (h : IsRowDictionary space root home) (y : Vector) where
   module _ (key other : List ℕ) (t u : Table) (s r : ℕ) (f : IsLexFeasible space root key t)
-      (g : IsLexFeasible space root other u) (shown : ShowsRay space root key t s)
-      (shows : ShowsRay space root other u r) (along : IsAlongColumn space key s y)
+      (g : IsLexFeasible space root other u) (shown : ShowsRay space.labels root key t s)
+      (shows : ShowsRay space.labels root other u r) (along : IsAlongColumn space key s y)
       (there : IsAlongColumn space other r y) where
     -- the other labels are 0 at y, so they are in both keys
     others_in : (k : ℕ) → Contains key k → k ≢ s → Contains other k
@@ -43,7 +43,7 @@ module _ (space : Space) (root : List ℕ) (home : Table) (h : IsRowDictionary s
     not_in : s ≢ r → Contains key r → ⊥
     not_in n c = positive_nonzero (space.form r · y) there.here (along.nothing r c (λ e. n (sym e)))
 
-    r_row : Contains (rows_in space) r
+    r_row : Contains (rows_in space.labels) r
     r_row = key_row space other u g.dictionary r shows.column
 
     opposite_lists : (x : Option ℕ) →
@@ -66,8 +66,8 @@ module _ (space : Space) (root : List ℕ) (home : Table) (h : IsRowDictionary s
         (g.lists s (record { row = key_row space key t f.dictionary s shown.column; outside = o }))))
 
   module _ (key other : List ℕ) (t u : Table) (s r : ℕ) (f : IsLexFeasible space root key t)
-      (g : IsLexFeasible space root other u) (shown : ShowsRay space root key t s)
-      (shows : ShowsRay space root other u r) (along : IsAlongColumn space key s y)
+      (g : IsLexFeasible space root other u) (shown : ShowsRay space.labels root key t s)
+      (shows : ShowsRay space.labels root other u r) (along : IsAlongColumn space key s y)
       (there : IsAlongColumn space other r y) where
     pub one_column : s ≡ r
     one_column =

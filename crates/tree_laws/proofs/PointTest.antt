@@ -49,24 +49,24 @@ module _ (key : List ℕ) (t : Table) (i : ℕ) (n : Contains key i → ⊥) whe
   zeros_at (x ∷ xs) h = (h x (Contains-first x xs), zeros_at xs (λ k c. h k (Contains-later k x xs c)))
 
 module _ (space : Space) (root key : List ℕ) (home t : Table) (h : IsRowDictionary space root home)
-    (f : IsFeasibleRoot space key t) (shown : ShowsPoint space root key t) where
+    (f : IsFeasibleRoot space key t) (shown : ShowsPoint space.labels root key t) where
   -- a row of the root is not 0 at the point
-  not_of_root : (i : ℕ) → IsRowOutside space key i → t.constant i ≡ pos 0 → Contains root i → ⊥
+  not_of_root : (i : ℕ) → IsRowOutside space.labels key i → t.constant i ≡ pos 0 → Contains root i → ⊥
   not_of_root i o z r =
       list_is_nonzero space root key home t h f.dictionary i o
       (subst IsZero (sym (list_is_levels space root key t i o.outside)) (
         z,
-        zeros_at key t i o.outside (outside space root) (λ k c.
+        zeros_at key t i o.outside (outside space.labels root) (λ k c.
             number_elsewhere key t i o.outside k
             (λ e. (outside_only space root k c).1 (subst (Contains root) (sym e) r))
             (λ m. shown i o z k m (outside_is_earlier space root k i c (within_has space root i o.row r)))),
       ))
 
-  list_at_zero : (i : ℕ) → IsRowOutside space key i → t.constant i ≡ pos 0 → IsPositive (list_of space root key t i)
+  list_at_zero : (i : ℕ) → IsRowOutside space.labels key i → t.constant i ≡ pos 0 → IsPositive (list_of space.labels root key t i)
   list_at_zero i o z =
       subst IsPositive (sym (list_is_levels space root key t i o.outside)) (inr (
         z,
-        positive_from key t i o.outside (outside space root) f.dictionary.dictionary.writes.positive
+        positive_from key t i o.outside (outside space.labels root) f.dictionary.dictionary.writes.positive
             (outside_has space root i o.row (not_of_root i o z))
             (λ k m p. shown i o z k m (earlier_outside space root k i p)),
       ))
@@ -74,7 +74,7 @@ module _ (space : Space) (root key : List ℕ) (home t : Table) (h : IsRowDictio
   pub shown_point_is_feasible : IsLexFeasible space root key t
   shown_point_is_feasible = record {
     dictionary = f.dictionary;
-    lists = λ i o. by_sign (IsPositive (list_of space root key t i)) (t.constant i)
+    lists = λ i o. by_sign (IsPositive (list_of space.labels root key t i)) (t.constant i)
         (λ p. inl p) (list_at_zero i o) (λ l. absurd (below (t.constant i) l (f.constants i o.row)));
   }
     where
@@ -97,7 +97,7 @@ module _ (space : Space) (root key : List ℕ) (t : Table) (f : IsLexFeasible sp
         ⊎_elim
         (λ (c : Contains key i). no_less (t.constant i) (own_level space key t f.dictionary i c None))
         (λ (n : Contains key i → ⊥).
-        first_number (t.constant i) (map (listed_at key t i) (outside space root))
+        first_number (t.constant i) (map (listed_at key t i) (outside space.labels root))
         (f.lists i (record { row = l; outside = n })))
         (contains_or key i);
   }

@@ -39,7 +39,7 @@ is_key_point space key y at = record { inside = at.inside; finite = at.finite; n
 
 module _ (space : Space) (key : List ℕ) (t : Table) (d : IsRowDictionary space key t) where
   -- a row is 0 at a direction where each of its terms is
-  pub row_at_direction : (i : ℕ) → Contains (rows_in space) i → (z : Vector) → IsDirection space z →
+  pub row_at_direction : (i : ℕ) → Contains (rows_in space.labels) i → (z : Vector) → IsDirection space z →
       ((c : ℕ) → Contains key c → (t.entry i c ≡ pos 0) ⊎ (space.form c · z ≡ pos 0)) → space.form i · z ≡ pos 0
   row_at_direction i l z direction h =
       zero_factor t.denominator (space.form i · z)
@@ -54,7 +54,7 @@ module _ (space : Space) (key : List ℕ) (t : Table) (d : IsRowDictionary space
       (positive_nonzero t.denominator d.dictionary.writes.positive)
 
   -- where the labels of the key are 0, the value of a row is its constant, up to the value at infinity
-  pub row_at_point : (i : ℕ) → Contains (rows_in space) i → (y : Vector) → IsInside space y →
+  pub row_at_point : (i : ℕ) → Contains (rows_in space.labels) i → (y : Vector) → IsInside space y →
       ((c : ℕ) → Contains key c → space.form c · y ≡ pos 0) →
       t.denominator *ℤ (space.form i · y) ≡ t.constant i *ℤ (space.infinity · y)
   row_at_point i l y inside h =
@@ -64,7 +64,7 @@ module _ (space : Space) (key : List ℕ) (t : Table) (d : IsRowDictionary space
       (sum_zero key (terms space t i y) (λ c m. times_zero (t.entry i c) (space.form c · y) (h c m)))
 
   module _ (y : Vector) (at : IsKeyPoint space key y) where
-    pub zero_constant : (i : ℕ) → Contains (rows_in space) i → space.form i · y ≡ pos 0 → t.constant i ≡ pos 0
+    pub zero_constant : (i : ℕ) → Contains (rows_in space.labels) i → space.form i · y ≡ pos 0 → t.constant i ≡ pos 0
     zero_constant i l e =
         zero_factor (space.infinity · y) (t.constant i)
         (mul_comm (space.infinity · y) (t.constant i)
@@ -72,13 +72,13 @@ module _ (space : Space) (key : List ℕ) (t : Table) (d : IsRowDictionary space
         ∙ times_zero t.denominator (space.form i · y) e)
         (positive_nonzero (space.infinity · y) at.finite)
 
-    pub zero_value : (i : ℕ) → Contains (rows_in space) i → t.constant i ≡ pos 0 → space.form i · y ≡ pos 0
+    pub zero_value : (i : ℕ) → Contains (rows_in space.labels) i → t.constant i ≡ pos 0 → space.form i · y ≡ pos 0
     zero_value i l e =
         zero_factor t.denominator (space.form i · y)
         (row_at_point i l y at.inside at.nothing ∙ zero_times (t.constant i) (space.infinity · y) e)
         (positive_nonzero t.denominator d.dictionary.writes.positive)
 
-    pub nonnegative_constant : (i : ℕ) → Contains (rows_in space) i → pos 0 ≤ℤ (space.form i · y) →
+    pub nonnegative_constant : (i : ℕ) → Contains (rows_in space.labels) i → pos 0 ≤ℤ (space.form i · y) →
         pos 0 ≤ℤ t.constant i
     nonnegative_constant i l g =
         nonnegative_factor (space.infinity · y) (t.constant i) at.finite
@@ -86,7 +86,7 @@ module _ (space : Space) (key : List ℕ) (t : Table) (d : IsRowDictionary space
         (row_at_point i l y at.inside at.nothing ∙ mul_comm (t.constant i) (space.infinity · y))
         (nonnegative_product t.denominator (space.form i · y) d.dictionary.writes.positive g))
 
-    pub nonnegative_value : (i : ℕ) → Contains (rows_in space) i → pos 0 ≤ℤ t.constant i →
+    pub nonnegative_value : (i : ℕ) → Contains (rows_in space.labels) i → pos 0 ≤ℤ t.constant i →
         pos 0 ≤ℤ (space.form i · y)
     nonnegative_value i l g =
         nonnegative_factor t.denominator (space.form i · y) d.dictionary.writes.positive

@@ -32,41 +32,41 @@ module _ (space : Space) (key : List ℕ) (t : Table) (d : IsRowDictionary space
   direction = record { inside = along.inside; level = along.level }
 
   -- the value of a row is its entry, up to the value of s
-  pub along_value : (i : ℕ) → Contains (rows_in space) i →
+  pub along_value : (i : ℕ) → Contains (rows_in space.labels) i →
       t.denominator *ℤ (space.form i · y) ≡ t.entry i s *ℤ (space.form s · y)
   along_value i l =
       value_along space key d.dictionary.cobasis t d.dictionary.writes i (row_is_label space i l) s m y direction
       along.nothing
 
-  turned : (i : ℕ) → Contains (rows_in space) i →
+  turned : (i : ℕ) → Contains (rows_in space.labels) i →
       (space.form s · y) *ℤ t.entry i s ≡ t.denominator *ℤ (space.form i · y)
   turned i l = mul_comm (space.form s · y) (t.entry i s) ∙ sym (along_value i l)
 
-  pub zero_entry : (i : ℕ) → Contains (rows_in space) i → space.form i · y ≡ pos 0 → t.entry i s ≡ pos 0
+  pub zero_entry : (i : ℕ) → Contains (rows_in space.labels) i → space.form i · y ≡ pos 0 → t.entry i s ≡ pos 0
   zero_entry i l e =
       zero_factor (space.form s · y) (t.entry i s)
       (turned i l ∙ times_zero t.denominator (space.form i · y) e)
       (positive_nonzero (space.form s · y) along.here)
 
-  pub zero_along : (i : ℕ) → Contains (rows_in space) i → t.entry i s ≡ pos 0 → space.form i · y ≡ pos 0
+  pub zero_along : (i : ℕ) → Contains (rows_in space.labels) i → t.entry i s ≡ pos 0 → space.form i · y ≡ pos 0
   zero_along i l e =
       zero_factor t.denominator (space.form i · y)
       (along_value i l ∙ zero_times (t.entry i s) (space.form s · y) e)
       (positive_nonzero t.denominator d.dictionary.writes.positive)
 
-  pub nonnegative_entry : (i : ℕ) → Contains (rows_in space) i → pos 0 ≤ℤ (space.form i · y) → pos 0 ≤ℤ t.entry i s
+  pub nonnegative_entry : (i : ℕ) → Contains (rows_in space.labels) i → pos 0 ≤ℤ (space.form i · y) → pos 0 ≤ℤ t.entry i s
   nonnegative_entry i l g =
       nonnegative_factor (space.form s · y) (t.entry i s) along.here
       (subst (λ (v : ℤ). pos 0 ≤ℤ v) (sym (turned i l))
       (nonnegative_product t.denominator (space.form i · y) d.dictionary.writes.positive g))
 
-  pub nonnegative_along : (i : ℕ) → Contains (rows_in space) i → pos 0 ≤ℤ t.entry i s → pos 0 ≤ℤ (space.form i · y)
+  pub nonnegative_along : (i : ℕ) → Contains (rows_in space.labels) i → pos 0 ≤ℤ t.entry i s → pos 0 ≤ℤ (space.form i · y)
   nonnegative_along i l g =
       nonnegative_factor t.denominator (space.form i · y) d.dictionary.writes.positive
       (subst (λ (v : ℤ). pos 0 ≤ℤ v) (turned i l)
       (nonnegative_product (space.form s · y) (t.entry i s) along.here g))
 
-  pub positive_entry : (i : ℕ) → Contains (rows_in space) i → pos 0 <ℤ (space.form i · y) → pos 0 <ℤ t.entry i s
+  pub positive_entry : (i : ℕ) → Contains (rows_in space.labels) i → pos 0 <ℤ (space.form i · y) → pos 0 <ℤ t.entry i s
   positive_entry i l g =
       positive_factor (space.form s · y) (t.entry i s) along.here
       (subst (λ (v : ℤ). pos 0 <ℤ v) (sym (turned i l))
@@ -103,7 +103,7 @@ module _ (space : Space) (key : List ℕ) (t : Table) (d : IsRowDictionary space
 
 -- where no row outside the key is negative in the column, what is along it is extreme
 pub ray_is_extreme : (space : Space) (root key : List ℕ) (t : Table) (s : ℕ) (y : Vector) →
-    IsRowDictionary space key t → ShowsRay space root key t s → IsAlongColumn space key s y → IsExtremeIn space y
+    IsRowDictionary space key t → ShowsRay space.labels root key t s → IsAlongColumn space key s y → IsExtremeIn space y
 ray_is_extreme space root key t s y d shown along = record {
   primitive = along.primitive;
   inside = along.inside;

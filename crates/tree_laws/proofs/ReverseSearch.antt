@@ -15,7 +15,7 @@ use Rattle.tree_laws.proofs.Back.{child_is_neighbour}
 use Rattle.tree_laws.proofs.ShownOnce.{shown_once, only_extreme}
 use Rattle.tree_laws.proofs.AscendingRows.{main_rows_ascend, first_rows_ascend}
 
-pub reverse_search : (space : Space) (root : List ℕ) (home : Table) → AreDistinct (rows_in space) →
+pub reverse_search : (space : Space) (root : List ℕ) (home : Table) → AreDistinct (rows_in space.labels) →
     IsFeasibleRoot space root home → IsSearched space root home
 reverse_search space root home distinct h = record {
   root_feasible = root_is_feasible space root home h;

@@ -26,7 +26,7 @@ none_negative f (k ∷ ks) h =
 
 module _ (space : Space) (root : List ℕ) (home : Table) (h : IsFeasibleRoot space root home) where
   -- no row outside the root is in the key: the list has the constant, the denominator once, and 0
-  root_number : (i k : ℕ) → Contains (outside space root) k → pos 0 ≤ℤ listed_at root home i k
+  root_number : (i k : ℕ) → Contains (outside space.labels root) k → pos 0 ≤ℤ listed_at root home i k
   root_number i k c = by (k == i) (is_member k root) refl
     where
       by : (b m : Bool) → is_member k root ≡ m →
@@ -38,8 +38,8 @@ module _ (space : Space) (root : List ℕ) (home : Table) (h : IsFeasibleRoot sp
   pub root_is_feasible : IsLexFeasible space root root home
   root_is_feasible = record {
     dictionary = h.dictionary;
-    lists = λ i o. positive_unless_zero (list_of space root root home i)
-        (first_nonnegative (home.constant i) (map (listed_at root home i) (outside space root)) (h.constants i o.row)
-        (none_negative (listed_at root home i) (outside space root) (root_number i)))
+    lists = λ i o. positive_unless_zero (list_of space.labels root root home i)
+        (first_nonnegative (home.constant i) (map (listed_at root home i) (outside space.labels root)) (h.constants i o.row)
+        (none_negative (listed_at root home i) (outside space.labels root) (root_number i)))
         (list_is_nonzero space root root home home h.dictionary h.dictionary i o);
   }

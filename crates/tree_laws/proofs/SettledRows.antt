@@ -63,7 +63,7 @@ module _ (space : Space) (y : Vector) where
     pub settled : Settled key xs
 
   -- ---- one row more
-  module _ (x : ℕ) (xs : List ℕ) (row : Contains (rows_in space) x) (b : Settles xs) where
+  module _ (x : ℕ) (xs : List ℕ) (row : Contains (rows_in space.labels) x) (b : Settles xs) where
     -- label c may go out for row x: it is not one of the list that is 0 at y, and the row is not 0 in its column
     abbrev MayGo : ℕ → Type 0
     MayGo c = (Contains xs c → IsTight c → ⊥) × (b.table.entry x c ≢ pos 0)
@@ -131,7 +131,7 @@ module _ (space : Space) (y : Vector) where
 
   -- every list of rows is settled at some key
   pub settle : (root : List ℕ) (home : Table) → IsRowDictionary space root home → (xs : List ℕ) →
-      ((k : ℕ) → Contains xs k → Contains (rows_in space) k) → Settles xs
+      ((k : ℕ) → Contains xs k → Contains (rows_in space.labels) k) → Settles xs
   settle root home h [] rows = record { key = root; table = home; dictionary = h; settled = tt }
   settle root home h (x ∷ xs) rows =
       one_more x xs (rows x (Contains-first x xs)) (settle root home h xs (λ k c. rows k (Contains-later k x xs c)))

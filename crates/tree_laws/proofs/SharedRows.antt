@@ -72,7 +72,7 @@ module _ (space : Space) (root key other : List ℕ) (home t u : Table) (h : IsR
       by c m false e = refl
 
   -- the key law both ways
-  sums_vanish : (q : ℕ) → Contains (rows_in space) q → (x : Option ℕ) →
+  sums_vanish : (q : ℕ) → Contains (rows_in space.labels) q → (x : Option ℕ) →
       sum_over (key ++ other) (λ c. value q c *ℤ weight c x) ≡ pos 0
   sums_vanish q l x =
       sum-append key other (λ c. value q c *ℤ weight c x)
@@ -83,23 +83,23 @@ module _ (space : Space) (root key other : List ℕ) (home t u : Table) (h : IsR
       (key_law space key other t u f.dictionary g.dictionary q (row_is_label space q l) x)
       (key_law space other key u t g.dictionary f.dictionary q (row_is_label space q l) x)
 
-  weights_up : (c : ℕ) → Contains (rows_in space) c →
-      IsNonnegative (weight c None ∷ map (λ k. weight c (Some k)) (outside space root))
+  weights_up : (c : ℕ) → Contains (rows_in space.labels) c →
+      IsNonnegative (weight c None ∷ map (λ k. weight c (Some k)) (outside space.labels root))
   weights_up c l =
-      subst (λ xs. IsNonnegative (weight c None ∷ xs)) (same_places (weight c) (outside space root))
+      subst (λ xs. IsNonnegative (weight c None ∷ xs)) (same_places (weight c) (outside space.labels root))
       (by (is_member c key))
     where
       by : (b : Bool) → IsNonnegative (map (λ x. cond b (level other u c x) (level key t c x)) (places space root))
       by true = levels_nonnegative space root other u g c l
       by false = levels_nonnegative space root key t f c l
 
-  of_one : (c : ℕ) → Contains (key ++ other) c → Contains (rows_in space) c
+  of_one : (c : ℕ) → Contains (key ++ other) c → Contains (rows_in space.labels) c
   of_one c m =
       ⊎_elim (λ (i : Contains key c). key_row space key t f.dictionary c i)
       (λ (i : Contains other c). key_row space other u g.dictionary c i)
       (Contains-append_cases key other c m)
 
-  module _ (qs : List ℕ) (rows : (q : ℕ) → Contains qs q → Contains (rows_in space) q)
+  module _ (qs : List ℕ) (rows : (q : ℕ) → Contains qs q → Contains (rows_in space.labels) q)
       (up : (c : ℕ) → Contains key c → IsNonnegative (map (λ q. t.entry q c) qs))
       (there : (c : ℕ) → Contains other c → IsNonnegative (map (λ q. u.entry q c) qs)) where
     columns_up : (c : ℕ) → Contains (key ++ other) c → IsNonnegative (map (λ q. value q c) qs)
@@ -112,12 +112,12 @@ module _ (space : Space) (root key other : List ℕ) (home t u : Table) (h : IsR
         by false e (inr i) = there c i
 
     gone : (k : ℕ) → Contains qs k → Contains key k →
-        IsGone (value k) (λ c. weight c None ∷ map (λ j. weight c (Some j)) (outside space root)) k
+        IsGone (value k) (λ c. weight c None ∷ map (λ j. weight c (Some j)) (outside space.labels root)) k
     gone k q m =
-        (ends_of_lists t.denominator qs (key ++ other) (outside space root) value (λ c. weight c None)
+        (ends_of_lists t.denominator qs (key ++ other) (outside space.labels root) value (λ c. weight c None)
         (λ c j. weight c (Some j)) (λ q. pos 0) (λ q j. pos 0) f.dictionary.dictionary.writes.positive
         (λ c i. weights_up c (of_one c i))
-        (λ q i. inr (refl, nonnegative_zero (λ j. pos 0) (λ j. refl) (outside space root)))
+        (λ q i. inr (refl, nonnegative_zero (λ j. pos 0) (λ j. refl) (outside space.labels root)))
         (λ c i. inr (columns_up c i))
         (λ q i. beside_none t.denominator (sum_over (key ++ other) (λ c. value q c *ℤ weight c None))
         (sums_vanish q (rows q i) None))
@@ -134,13 +134,13 @@ module _ (space : Space) (root key other : List ℕ) (home t u : Table) (h : IsR
       where
         by : (Contains other k → ⊥) → (b : Bool) → b ≡ true →
             IsZero (cond b (level other u k None) (level key t k None)
-            ∷ map (λ j. cond b (level other u k (Some j)) (level key t k (Some j))) (outside space root))
+            ∷ map (λ j. cond b (level other u k (Some j)) (level key t k (Some j))) (outside space.labels root))
             ⊎ (cond b (t.entry k k) (u.entry k k) ≡ pos 0) → ⊥
         by n false e w = true≢false (sym e)
         by n true e (inl z) =
             level_is_nonzero space root other home u h g.dictionary k (record { row = rows k q; outside = n })
             (zero_at (level other u k) (places space root)
-            (subst (λ xs. IsZero (level other u k None ∷ xs)) (sym (same_places (level other u k) (outside space root)))
+            (subst (λ xs. IsZero (level other u k None ∷ xs)) (sym (same_places (level other u k) (outside space.labels root)))
             z))
         by n true e (inr z) =
             positive_nonzero t.denominator f.dictionary.dictionary.writes.positive

@@ -22,7 +22,7 @@ use Rattle.tree_laws.proofs.OneRay as ray
 use Rattle.tree_laws.proofs.SomeRay.{some_ray_key}
 
 module _ (space : Space) (root : List ℕ) (home : Table) (y : Vector) (extreme : IsExtremeIn space y) where
-  pub point_once : IsRowDictionary space root home → AreDistinct (rows_in space) → pos 0 <ℤ (space.infinity · y) →
+  pub point_once : IsRowDictionary space root home → AreDistinct (rows_in space.labels) → pos 0 <ℤ (space.infinity · y) →
       IsPointOnce space root y
   point_once h distinct up =
       let k = some_key space root home h distinct y extreme up in
@@ -83,7 +83,7 @@ module _ (space : Space) (root : List ℕ) (home : Table) (y : Vector) (extreme 
       only other u None f s = absurd (positive_nonzero (space.infinity · y) s.1.finite level)
       only other u (Some r) f s = let e = k.only other u r f s in (e.0, ap Some e.1)
 
-  pub shown_once : IsFeasibleRoot space root home → AreDistinct (rows_in space) → IsShownOnce space root y
+  pub shown_once : IsFeasibleRoot space root home → AreDistinct (rows_in space.labels) → IsShownOnce space root y
   shown_once h distinct =
       by_lt_z (pos 0) (space.infinity · y)
       (λ up. as_point up (point_once h.dictionary distinct up))

@@ -42,7 +42,7 @@ module _ (space : Space) (y : Vector) (key : List ℕ) (t : Table) (d : IsRowDic
 
   -- a row outside the key is 0 in the column of a label that does not stand after it
   zero_behind : (xs : List ℕ) → Settled space y key xs → (k : ℕ) → Contains key k → (Contains xs k → ⊥) →
-      (i : ℕ) → Contains xs i → IsRowOutside space key i → IsTight space y i → t.entry i k ≡ pos 0
+      (i : ℕ) → Contains xs i → IsRowOutside space.labels key i → IsTight space y i → t.entry i k ≡ pos 0
   zero_behind [] s k m n i c o e = absurd (Contains-nil i c)
   zero_behind (x ∷ xs) s k m n i c o e =
       ⊎_elim here
@@ -65,13 +65,13 @@ module _ (space : Space) (y : Vector) (key : List ℕ) (t : Table) (d : IsRowDic
               z.here
 
   zero_before : (xs : List ℕ) → AreDistinct xs → Settled space y key xs → (k : ℕ) → Contains key k →
-      (i : ℕ) → Precedes xs k i → IsRowOutside space key i → IsTight space y i → t.entry i k ≡ pos 0
+      (i : ℕ) → Precedes xs k i → IsRowOutside space.labels key i → IsTight space y i → t.entry i k ≡ pos 0
   zero_before [] u s k m i p o e = absurd p
   zero_before (x ∷ xs) u s k m i (inl p) o e =
       zero_behind xs s.1 k m (λ c. u.0 (subst (λ (l : ℕ). Contains xs l) p.0 c)) i p.1 o e
   zero_before (x ∷ xs) u s k m i (inr p) o e = zero_before xs u.1 s.1 k m i p o e
 
-  module _ (root : List ℕ) (s : Settled space y key (order space root)) (extreme : IsExtremeIn space y)
+  module _ (root : List ℕ) (s : Settled space y key (order space.labels root)) (extreme : IsExtremeIn space y)
       (up : pos 0 <ℤ (space.infinity · y)) where
     -- so y is 0 at the whole key: the dual direction of another label would be along y
     key_is_tight : (k : ℕ) → Contains key k → IsTight space y k
@@ -94,7 +94,7 @@ module _ (space : Space) (y : Vector) (key : List ℕ) (t : Table) (d : IsRowDic
         by (inl e) z = e
         by (inr n) z =
             absurd (clash z (extreme.alone z.vector z.direction.inside (λ _. z.direction.level)
-            (λ i r e. all_vanish (order space root) s z.vector z.direction
+            (λ i r e. all_vanish (order space.labels root) s z.vector z.direction
             (λ j g w. z.elsewhere j w (λ q. n (subst (IsTight space y) q g)))
             i (order_has space root i r) e)))
 
@@ -108,9 +108,9 @@ module _ (space : Space) (y : Vector) (key : List ℕ) (t : Table) (d : IsRowDic
           nonnegative_constant space key t d y (is_key_point space key y at_point) i l (extreme.rows i l);
     }
 
-    pub shows_point : AreDistinct (rows_in space) → ShowsPoint space root key t
+    pub shows_point : AreDistinct (rows_in space.labels) → ShowsPoint space.labels root key t
     shows_point u i o z k m p =
-        zero_before (order space root) (order_distinct space root u) s k m i p o
+        zero_before (order space.labels root) (order_distinct space root u) s k m i p o
         (zero_value space key t d y (is_key_point space key y at_point) i o.row z)
 
 -- a key at which y is shown
@@ -118,15 +118,15 @@ pub record HasPointKey (space : Space) (root : List ℕ) (y : Vector) : Type 0 w
   pub key : List ℕ
   pub table : Table
   pub feasible : IsFeasibleRoot space key table
-  pub shown : ShowsPoint space root key table
+  pub shown : ShowsPoint space.labels root key table
   pub point : IsAtPoint space key y
 
 pub some_key : (space : Space) (root : List ℕ) (home : Table) → IsRowDictionary space root home →
-    AreDistinct (rows_in space) → (y : Vector) → IsExtremeIn space y → pos 0 <ℤ (space.infinity · y) →
+    AreDistinct (rows_in space.labels) → (y : Vector) → IsExtremeIn space y → pos 0 <ℤ (space.infinity · y) →
     HasPointKey space root y
-some_key space root home h u y extreme up = by (settle space y root home h (order space root) (order_only space root))
+some_key space root home h u y extreme up = by (settle space y root home h (order space.labels root) (order_only space root))
   where
-    by : Settles space y (order space root) → HasPointKey space root y
+    by : Settles space y (order space.labels root) → HasPointKey space root y
     by b = record {
       key = b.key;
       table = b.table;

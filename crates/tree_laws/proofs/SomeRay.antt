@@ -63,7 +63,7 @@ module _ (space : Space) (root : List ℕ) (y : Vector) (extreme : IsExtremeIn s
         ∙ times_zero t.denominator (space.form q · y) w.1
 
     -- a column whose label is not 0 at y is 0 on the rows that are
-    zero_in_column : (c : ℕ) → Contains key c → space.form c · y ≢ pos 0 → (i : ℕ) → Contains (rows_in space) i →
+    zero_in_column : (c : ℕ) → Contains key c → space.form c · y ≢ pos 0 → (i : ℕ) → Contains (rows_in space.labels) i →
         space.form i · y ≡ pos 0 → t.entry i c ≡ pos 0
     zero_in_column c m n i l e =
         ⊎_elim
@@ -111,7 +111,7 @@ module _ (space : Space) (root : List ℕ) (y : Vector) (extreme : IsExtremeIn s
         nothing = others_vanish;
       }
 
-      shows : ShowsRay space root key t s
+      shows : ShowsRay space.labels root key t s
       shows = record {
         column = m;
         none = λ i o.

@@ -44,7 +44,7 @@ module _ (space : Space) (root key : List ℕ) (home t : Table) (h : IsRowDictio
   AreOpposite a b i j =
       (x : Option ℕ) → Contains (places space root) x → a *ℤ level key t i x +ℤ b *ℤ level key t j x ≡ pos 0
 
-  module _ (a b : ℤ) (i j : ℕ) (o : IsRowOutside space key i) (q : IsRowOutside space key j) (n : i ≢ j)
+  module _ (a b : ℤ) (i j : ℕ) (o : IsRowOutside space.labels key i) (q : IsRowOutside space.labels key j) (n : i ≢ j)
       (z : AreOpposite a b i j) where
     -- a row outside the root stands in its own list alone
     first_outside : (Contains root i → ⊥) → a ≡ pos 0
@@ -108,7 +108,7 @@ module _ (space : Space) (root key : List ℕ) (home t : Table) (h : IsRowDictio
       swap : (u v : ℤ) → u +ℤ v ≡ pos 0 → v +ℤ u ≡ pos 0
       swap u v e = omega (arith, lin)
 
-  pub no_combination : (a b : ℤ) (i j : ℕ) → IsRowOutside space key i → IsRowOutside space key j → i ≢ j →
+  pub no_combination : (a b : ℤ) (i j : ℕ) → IsRowOutside space.labels key i → IsRowOutside space.labels key j → i ≢ j →
       AreOpposite a b i j → a ≡ pos 0
   no_combination a b i j o q n z =
       ⊎_elim
@@ -118,8 +118,8 @@ module _ (space : Space) (root key : List ℕ) (home t : Table) (h : IsRowDictio
       (contains_or root i)
 
   -- so the ratio test has no ties
-  pub no_ties : (i j : ℕ) → IsRowOutside space key i → IsRowOutside space key j → i ≢ j → (p q : ℤ) →
-      IsZero (gaps p (list_of space root key t i) q (list_of space root key t j)) → (p ≡ pos 0) × (q ≡ pos 0)
+  pub no_ties : (i j : ℕ) → IsRowOutside space.labels key i → IsRowOutside space.labels key j → i ≢ j → (p q : ℤ) →
+      IsZero (gaps p (list_of space.labels root key t i) q (list_of space.labels root key t j)) → (p ≡ pos 0) × (q ≡ pos 0)
   unfolding AreOpposite
   no_ties i j o r n p q z = (
     no_combination p (neg_ℤ q) i j o r n opposite,
@@ -139,5 +139,5 @@ module _ (space : Space) (root key : List ℕ) (home t : Table) (h : IsRowDictio
           (subst IsZero (gaps_of_maps p (level key t i) q (level key t j) (places space root))
           (subst (λ xs. IsZero (gaps p xs q (level_list space root key t j)))
           (list_is_levels space root key t i o.outside)
-          (subst (λ ys. IsZero (gaps p (list_of space root key t i) q ys))
+          (subst (λ ys. IsZero (gaps p (list_of space.labels root key t i) q ys))
           (list_is_levels space root key t j r.outside) z))) x c)

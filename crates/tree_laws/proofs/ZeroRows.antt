@@ -35,33 +35,33 @@ filter_same test other (x ∷ xs) h =
 
 module _ (space : Space) (root : List ℕ) where
   abbrev pub zero_rows : Vector → List ℕ
-  zero_rows y = filter (λ q. int_eq (space.form q · y) (pos 0)) (backwards (order space root))
+  zero_rows y = filter (λ q. int_eq (space.form q · y) (pos 0)) (backwards (order space.labels root))
 
   pub zero_rows_only : (y : Vector) (q : ℕ) → Contains (zero_rows y) q →
-      Contains (rows_in space) q × (space.form q · y ≡ pos 0)
+      Contains (rows_in space.labels) q × (space.form q · y ≡ pos 0)
   zero_rows_only y q c =
-      let w = filter_only (λ q. int_eq (space.form q · y) (pos 0)) (backwards (order space root)) q c in
-      (order_only space root q (backwards_only (order space root) q w.0), passed (space.form q · y) w.1)
+      let w = filter_only (λ q. int_eq (space.form q · y) (pos 0)) (backwards (order space.labels root)) q c in
+      (order_only space root q (backwards_only (order space.labels root) q w.0), passed (space.form q · y) w.1)
 
-  pub zero_rows_has : (y : Vector) (q : ℕ) → Contains (rows_in space) q → space.form q · y ≡ pos 0 →
+  pub zero_rows_has : (y : Vector) (q : ℕ) → Contains (rows_in space.labels) q → space.form q · y ≡ pos 0 →
       Contains (zero_rows y) q
   zero_rows_has y q l e =
-      filter_kept (λ q. int_eq (space.form q · y) (pos 0)) (backwards (order space root)) q
-      (backwards_has (order space root) q (order_has space root q l)) (passes (space.form q · y) e)
+      filter_kept (λ q. int_eq (space.form q · y) (pos 0)) (backwards (order space.labels root)) q
+      (backwards_has (order space.labels root) q (order_has space root q l)) (passes (space.form q · y) e)
 
   module _ (key : List ℕ) (t : Table) (d : IsRowDictionary space key t) (s : ℕ) (m : Contains key s) (y : Vector)
       (along : IsAlongColumn space key s y) where
     -- the rows that are 0 in the column are those that are 0 at y
     pub zeros_in_column :
-        filter (λ q. int_eq (t.entry q s) (pos 0)) (backwards (order space root)) ≡ zero_rows y
+        filter (λ q. int_eq (t.entry q s) (pos 0)) (backwards (order space.labels root)) ≡ zero_rows y
     zeros_in_column =
         filter_same (λ q. int_eq (t.entry q s) (pos 0)) (λ q. int_eq (space.form q · y) (pos 0))
-        (backwards (order space root))
-        (λ q c. let l = order_only space root q (backwards_only (order space root) q c) in
+        (backwards (order space.labels root))
+        (λ q c. let l = order_only space root q (backwards_only (order space.labels root) q c) in
         same_tests (t.entry q s) (space.form q · y) (zero_along space key t d s m y along q l)
         (zero_entry space key t d s m y along q l))
 
-    pub columns_up : ShowsRay space root key t s → (j : ℕ) → Contains key j →
+    pub columns_up : ShowsRay space.labels root key t s → (j : ℕ) → Contains key j →
         IsNonnegative (map (λ q. t.entry q j) (zero_rows y))
     columns_up shown j c =
         ⊎_elim

@@ -12,11 +12,6 @@ use Rattle.poly_model.specs.LexOrder.{rows_in}
 use Rattle.poly_model.specs.Tree.{IsExtremeIn}
 use Rattle.dictionary_laws.specs.Keys.{AreDistinct}
 
--- a vector of the cone in the main space: of V an entry for constants stands in front, and is 0
-abbrev pub in_main : Kind → Vector → Vector
-in_main H y = y
-in_main V y = pos 0 ∷ y
-
 -- a vector of the cone is extreme exactly where it is extreme in the main space, and shown. No label of a row may be that
 -- of a coordinate
 abbrev pub ExtremesOfMain : Type 0
@@ -26,8 +21,8 @@ ExtremesOfMain =
 
 -- the rows stand in ascending order, each once
 pub record HasAscendingRows (space : Space) : Type 0 where
-  pub ascending : IsAscending (rows_in space)
-  pub distinct : AreDistinct (rows_in space)
+  pub ascending : IsAscending (rows_in space.labels)
+  pub distinct : AreDistinct (rows_in space.labels)
 
 abbrev pub RowsAscend : Type 0
 RowsAscend =

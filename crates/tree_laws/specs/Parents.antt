@@ -15,8 +15,8 @@ RootIsFeasible =
 -- the key is the root and has no parent, or it is another and has one
 abbrev pub IsRootOrChild : Space → List ℕ → List ℕ → Table → Type 0
 IsRootOrChild space root key t =
-    ((key ≡ root) × ((parent : List ℕ) → IsParent space root key t parent → ⊥))
-    ⊎ ((key ≢ root) × (parent : List ℕ) × IsParent space root key t parent)
+    ((key ≡ root) × ((parent : List ℕ) → IsParent space.labels root key t parent → ⊥))
+    ⊎ ((key ≢ root) × (parent : List ℕ) × IsParent space.labels root key t parent)
 
 abbrev pub OnlyRootHasNoParent : Type 0
 OnlyRootHasNoParent =
@@ -26,26 +26,26 @@ OnlyRootHasNoParent =
 -- a key has one parent at most, by whichever tables, where each row stands once
 abbrev pub OneParent : Type 0
 OneParent =
-    (space : Space) (root key parent other : List ℕ) (home t u : Table) → AreDistinct (rows_in space) →
+    (space : Space) (root key parent other : List ℕ) (home t u : Table) → AreDistinct (rows_in space.labels) →
     IsRowDictionary space root home → IsRowDictionary space key t → IsRowDictionary space key u →
-    IsParent space root key t parent → IsParent space root key u other → parent ≡ other
+    IsParent space.labels root key t parent → IsParent space.labels root key u other → parent ≡ other
 
 -- the lists of these rows, one after the other
 abbrev pub lists_of : Space → List ℕ → List ℕ → Table → List ℕ → List ℤ
 lists_of space root key t [] = []
-lists_of space root key t (q ∷ qs) = list_of space root key t q ++ lists_of space root key t qs
+lists_of space root key t (q ∷ qs) = list_of space.labels root key t q ++ lists_of space root key t qs
 
 -- the lists of the rows of the root, the greatest first, over the denominator: less at u than at t
 abbrev pub IsBelow : Space → List ℕ → List ℕ → Table → List ℕ → Table → Type 0
 IsBelow space root key t new u =
-    IsPositive (gaps u.denominator (lists_of space root key t (backwards (within space root)))
-    t.denominator (lists_of space root new u (backwards (within space root))))
+    IsPositive (gaps u.denominator (lists_of space root key t (backwards (within space.labels root)))
+    t.denominator (lists_of space root new u (backwards (within space.labels root))))
 
 -- a parent is below its child
 abbrev pub ParentIsBelow : Type 0
 ParentIsBelow =
     (space : Space) (root key parent : List ℕ) (t u : Table) → IsRowDictionary space key t →
-    IsLexFeasible space root parent u → IsParent space root key t parent → IsBelow space root key t parent u
+    IsLexFeasible space root parent u → IsParent space.labels root key t parent → IsBelow space root key t parent u
 
 -- parents lead from each feasible cobasis to the root
 abbrev pub UnderTheRoot : Type 0
@@ -56,6 +56,6 @@ UnderTheRoot =
 -- and always by as many steps, where each row stands once
 abbrev pub OneDepth : Type 0
 OneDepth =
-    (space : Space) (root key : List ℕ) (home t : Table) → AreDistinct (rows_in space) →
+    (space : Space) (root key : List ℕ) (home t : Table) → AreDistinct (rows_in space.labels) →
     IsRowDictionary space root home → IsLexFeasible space root key t → (m n : ℕ) → IsAbove space root m key root →
     IsAbove space root n key root → m ≡ n

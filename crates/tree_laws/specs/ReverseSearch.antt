@@ -18,13 +18,13 @@ pub record IsSearched (space : Space) (root : List ℕ) (home : Table) : Type 0 
   pub root_or_child : (key : List ℕ) (t : Table) → IsLexFeasible space root key t → IsRootOrChild space root key t
   -- a parent is one of them again, there is one, and it has the child as its neighbour
   pub parent_feasible : (key parent : List ℕ) (t : Table) → IsLexFeasible space root key t →
-      IsParent space root key t parent → IsFeasibleNeighbour space root parent
+      IsParent space.labels root key t parent → IsFeasibleNeighbour space root parent
   pub one_parent : (key parent other : List ℕ) (t u : Table) → IsLexFeasible space root key t →
-      IsLexFeasible space root key u → IsParent space root key t parent → IsParent space root key u other →
+      IsLexFeasible space root key u → IsParent space.labels root key t parent → IsParent space.labels root key u other →
       parent ≡ other
   pub child_is_neighbour : (key parent : List ℕ) (t u : Table) → IsLexFeasible space root key t →
-      IsLexFeasible space root parent u → (p : IsParent space root key t parent) →
-      (back : IsNeighbour space root parent u p.neighbour.r key) × (back.r ≡ p.s)
+      IsLexFeasible space root parent u → (p : IsParent space.labels root key t parent) →
+      (back : IsNeighbour space.labels root parent u p.neighbour.r key) × (back.r ≡ p.s)
   -- each of them is under the root, at one depth
   pub under_the_root : (key : List ℕ) (t : Table) → IsLexFeasible space root key t → IsUnder space root key root
   pub one_depth : (key : List ℕ) (t : Table) → IsLexFeasible space root key t → (m n : ℕ) →
@@ -37,7 +37,7 @@ pub record IsSearched (space : Space) (root : List ℕ) (home : Table) : Type 0 
 -- under every feasible root, in a space where each row stands once
 abbrev pub ReverseSearch : Type 0
 ReverseSearch =
-    (space : Space) (root : List ℕ) (home : Table) → AreDistinct (rows_in space) → IsFeasibleRoot space root home →
+    (space : Space) (root : List ℕ) (home : Table) → AreDistinct (rows_in space.labels) → IsFeasibleRoot space root home →
     IsSearched space root home
 
 -- so it is in the spaces in which a polyhedron is searched, of the phases main and first

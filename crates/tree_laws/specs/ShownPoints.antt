@@ -16,7 +16,7 @@ ConstantsAreNotNegative =
 abbrev pub ShownPointIsFeasible : Type 0
 ShownPointIsFeasible =
     (space : Space) (root key : List ℕ) (home t : Table) → IsRowDictionary space root home →
-    IsFeasibleRoot space key t → ShowsPoint space root key t → IsLexFeasible space root key t
+    IsFeasibleRoot space key t → ShowsPoint space.labels root key t → IsLexFeasible space root key t
 
 -- the labels of a cobasis are 0 at one point of the space, which is written by one primitive vector
 pub record HasOnePoint (space : Space) (key : List ℕ) : Type 0 where
@@ -47,5 +47,5 @@ pub record IsPointOnce (space : Space) (root : List ℕ) (y : Vector) : Type 0 w
 -- after it, and the point test could fail at every cobasis
 abbrev pub ExtremePointIsShownOnce : Type 0
 ExtremePointIsShownOnce =
-    (space : Space) (root : List ℕ) (home : Table) → IsRowDictionary space root home → AreDistinct (rows_in space) →
+    (space : Space) (root : List ℕ) (home : Table) → IsRowDictionary space root home → AreDistinct (rows_in space.labels) →
     (y : Vector) → IsExtremeIn space y → pos 0 <ℤ (space.infinity · y) → IsPointOnce space root y

@@ -11,7 +11,7 @@ use Rattle.poly_model.specs.Tree.{IsRowDictionary, IsFeasibleRoot, IsLexFeasible
 abbrev pub ShownRayIsExtreme : Type 0
 ShownRayIsExtreme =
     (space : Space) (root key : List ℕ) (t : Table) (s : ℕ) (y : Vector) → IsRowDictionary space key t →
-    ShowsRay space root key t s → IsAlongColumn space key s y → IsExtremeIn space y
+    ShowsRay space.labels root key t s → IsAlongColumn space key s y → IsExtremeIn space y
 
 -- along a column of a cobasis there is one primitive vector at which its label is positive
 pub record HasOneRay (space : Space) (key : List ℕ) (s : ℕ) : Type 0 where
@@ -43,7 +43,7 @@ pub record HasEndAlong (space : Space) (root qs : List ℕ) : Type 0 where
 abbrev pub DescendsAlongRows : Type 0
 DescendsAlongRows =
     (space : Space) (root key : List ℕ) (home t : Table) → IsRowDictionary space root home →
-    IsLexFeasible space root key t → (qs : List ℕ) → ((q : ℕ) → Contains qs q → Contains (rows_in space) q) →
+    IsLexFeasible space root key t → (qs : List ℕ) → ((q : ℕ) → Contains qs q → Contains (rows_in space.labels) q) →
     HasEndAlong space root qs
 
 -- y is shown along a column of a lexicographically feasible cobasis, and along no other column of any

@@ -1,4 +1,5 @@
 use Rattle.std.proofs.Common.{◌≡◌, ◌≢◌, ◌<◌, length, get_or, sym, ap, ◌∙◌}
+use Rattle.poly_model.specs.Limits.{most_labels}
 use Rattle.poly_model.specs.Keys.{lower_of, with_label}
 use Rattle.poly_model.proofs.KeyLemmas.{key_take, key_with_below, key_with_new, with_old, with_new}
 use Rattle.poly_model.proofs.key.Key.with.Goals as goal
@@ -19,7 +20,7 @@ followed_by-requires c =
     let ls = c.labels-labels.result.now in
     let at = c.lower-at.ensures.value in
     let new : lower_of c.args.label ls < length ls → get_or ls (lower_of c.args.label ls) 0 ≢ c.args.label = rw at at (c.stands_at.ensures.no c.if-stands_at.false) in
-    let room : length ls < 256 = rw c.labels-labels.ensures.value c.requires in
+    let room : length ls < most_labels = rw c.labels-labels.ensures.value c.requires in
     rw (c.of.ensures, c.split_at.ensures.front, at) (key_with_below c.args.label ls c.labels-labels.ensures.key room new)
 
 pub followed_by-requires-2 : goal.followed_by-requires-2
@@ -27,7 +28,7 @@ followed_by-requires-2 c =
     let ls = c.labels-labels.result.now in
     let at = c.lower-at.ensures.value in
     let new : lower_of c.args.label ls < length ls → get_or ls (lower_of c.args.label ls) 0 ≢ c.args.label = rw at at (c.stands_at.ensures.no c.if-stands_at.false) in
-    let room : length ls < 256 = rw c.labels-labels.ensures.value c.requires in
+    let room : length ls < most_labels = rw c.labels-labels.ensures.value c.requires in
     rw (c.followed_by.ensures, c.of.ensures, c.split_at.ensures.front, c.split_at.ensures.back, at) (key_with_new c.args.label ls c.labels-labels.ensures.key room new)
 
 pub returns-clause-value : goal.returns-clause-value
