@@ -1,10 +1,12 @@
--- Values of the definition that are known from the rules of the format: the texts that it refuses, one for each kind of
--- fault, and a few that it accepts. `/` stands for LF and `;` for `/`.
+-- Values of the definition that are known from the rules of the format: its limits, the texts that it refuses, one for
+-- each kind of fault, and a few that it accepts. `/` stands for LF and `;` for `/`.
 use Rattle.std.proofs.Common.{◌≡◌, ℕ, ◌==◌, if◌then◌else◌, List, [], ◌∷◌, map, Ok, refl, codes, true, false, pos, negsuc}
 use Rattle.poly_num.specs.Divisors.{gcd_in, gcd_of}
 use Rattle.poly_num.specs.Fractions.{lowest}
 use Rattle.poly_model.specs.declared.kind.Kind.TheVariants.{H, V}
+use Rattle.poly_model.specs.Limits.{most_columns, most_file_rows}
 use Rattle.poly_reader.specs.declared.bad.BadKind.TheVariants.{BadFirst, BadHeader, BadLinearity, BadNumber, BadWidth, LinearPoint, LongData, MisplacedLinearity, NoBegin, NoEnd, NoRows, Nonnegative, ShortData, TooManyRows, UnsupportedType, WideNumber, WideRow, ZeroDenominator}
+use Rattle.poly_reader.specs.Limits.{most_file_bytes}
 use Rattle.poly_reader.specs.Lines.{pieces, lines_from, firsts}
 use Rattle.poly_reader.specs.Grammar.{value_of, count_of}
 use Rattle.poly_reader.specs.FirstFault.{bad, each}
@@ -18,6 +20,15 @@ use Rattle.poly_reader.specs.Reading.{reading}
 
 abbrev file : List ℕ → List ℕ
 file text = map (λ (b : ℕ). if b == 47 then 10 else (if b == 59 then 47 else b)) text
+
+bytes_of_a_file : most_file_bytes ≡ 67108864
+bytes_of_a_file = refl
+
+rows_of_a_file : most_file_rows ≡ 4096
+rows_of_a_file = refl
+
+numbers_of_a_row : most_columns ≡ 256
+numbers_of_a_row = refl
 
 no_begin : reading (file (codes "")) ≡ bad NoBegin 1
 unfolding reading checked_marks lines_from pieces firsts each head_of body_of are_counts line_fault names_on opening_of rows_of width_of type_fault size_of matrix_of late_fault number_of name_fault with_names value_of count_of numbers_in first_fault row_fault row_of rows_from gcd_in gcd_of lcm_of lowest common_den scaled is_wide_row

@@ -6,6 +6,7 @@ use Rattle.std.proofs.lemmas.Bool.{eqb-true, eqb-false, lt-ltb}
 use Rattle.std.proofs.lemmas.Bool.Decides.{nat_tests}
 use Rattle.std.proofs.lemmas.List.Sums.{fold-append}
 use Rattle.std.proofs.lemmas.List.FromFn.{length-map-range_with_len, get_or-map-range_with_len}
+use Rattle.poly_model.specs.Limits.{most_file_rows}
 use Rattle.poly_reader.specs.declared.bad.BadFile.{BadFile}
 use Rattle.poly_reader.specs.declared.bad.BadKind.TheVariants.{BadLinearity}
 use Rattle.poly_reader.specs.Lines.{Line}
@@ -71,13 +72,13 @@ no_row_from_more m row lt = rw (lt-ltb m row lt) (either (row == 0))
 row_from_within : (m row : ℕ) → row ≢ 0 → row ≤ m → (row == 0 || nat_lt m row) ≡ false
 row_from_within m row n le = grind (arith, nat_tests)
 
-pub refused : (m : ℕ) (name : Name) → (capped name.row ≡ 0) ⊎ (m < capped name.row) → m ≤ 4096
+pub refused : (m : ℕ) (name : Name) → (capped name.row ≡ 0) ⊎ (m < capped name.row) → m ≤ most_file_rows
     → each (name_fault m) (name ∷ []) ≡ bad BadLinearity name.line
 unfolding each name_fault
 refused m name (inl e) le = rw (no_row_from_zero m name.row (omega arith)) refl
 refused m name (inr lt) le = rw (no_row_from_more m name.row (omega arith)) refl
 
-pub marked : (marks : List Bool) (name : Name) → capped name.row ≢ 0 → capped name.row ≤ length marks → length marks ≤ 4096
+pub marked : (marks : List Bool) (name : Name) → capped name.row ≢ 0 → capped name.row ≤ length marks → length marks ≤ most_file_rows
     → Marks (Ok tt) marks (slice_set marks (capped name.row - 1) true) (name ∷ [])
 unfolding each name_fault with_names
 marked marks name n le few =

@@ -2,8 +2,8 @@
 use Rattle.std.proofs.Common.{◌≡◌, ◌⊎◌, ℕ, List, Result, Ok, Err, refl, inl, inr}
 use Rattle.poly_model.specs.Systems.{Polyhedron}
 use Rattle.poly_reader.specs.declared.bad.BadFile.{BadFile}
-use Rattle.poly_reader.specs.Reading.{reading}
-use Rattle.poly_reader.specs.Laws.{IsFileOf, IsFirstFault, HasOneReading}
+use Rattle.poly_reader.specs.Reading.{reading, IsFileOf, IsFirstFault}
+use Rattle.poly_reader.specs.Laws.{HasOneReading}
 
 some_reading : (text : List ℕ) (r : Result Polyhedron BadFile) → reading text ≡ r
     → ((p : Polyhedron) × IsFileOf text p) ⊎ ((f : BadFile) × IsFirstFault text f)

@@ -1,5 +1,6 @@
 -- The header: how many rows, how wide, and the type.
 use Rattle.std.specs.Prelude.{ℕ, not, ◌==◌, ◌||◌, nat_lt, if◌then◌else◌, List, [], ◌∷◌, Option, Some, None, Result, Ok, codes}
+use Rattle.poly_model.specs.Limits.{most_columns, most_file_rows}
 use Rattle.poly_reader.specs.declared.bad.BadFile.{BadFile}
 use Rattle.poly_reader.specs.declared.bad.BadKind.TheVariants.{BadHeader, TooManyRows, BadWidth, UnsupportedType}
 use Rattle.poly_reader.specs.declared.header.Header.{Header}
@@ -15,7 +16,7 @@ pub record Size : Type 0 where
 
 -- so many rows, if they are not too many
 abbrev pub rows_within : ℕ → ℕ → Result (Option ℕ) BadFile
-rows_within line m = if nat_lt 4096 m then bad TooManyRows line else Ok (Some m)
+rows_within line m = if nat_lt most_file_rows m then bad TooManyRows line else Ok (Some m)
 
 -- the first word: `*****`, or how many rows there are
 unfoldable pub rows_of : Word → Result (Option ℕ) BadFile
@@ -25,7 +26,7 @@ rows_of w =
 
 -- so many numbers in a row, if it is a width
 abbrev pub width_within : ℕ → ℕ → Result ℕ BadFile
-width_within line n = if n == 0 || nat_lt 256 n then bad BadWidth line else Ok n
+width_within line n = if n == 0 || nat_lt most_columns n then bad BadWidth line else Ok n
 
 -- the second word: how many numbers a row has
 unfoldable pub width_of : Word → Result ℕ BadFile

@@ -1,5 +1,5 @@
 -- What follows from the definitions: one reading for each text, and what scaling keeps.
-use Rattle.std.specs.Prelude.{◌≡◌, ◌⊎◌, ℕ, ◌<◌, length, List, [], ◌∷◌, Ok, Err, pos, ◌*ℤ◌}
+use Rattle.std.specs.Prelude.{◌≡◌, ◌⊎◌, ℕ, ◌<◌, length, List, [], ◌∷◌, Ok, pos, ◌*ℤ◌}
 use Rattle.std.specs.List.{AllByRecursion}
 use Rattle.poly_num.specs.Vectors.{Vector, IsZero, IsPrimitive}
 use Rattle.poly_num.specs.Fractions.{Fraction, IsReduced}
@@ -7,15 +7,7 @@ use Rattle.poly_model.specs.Systems.{Polyhedron}
 use Rattle.poly_reader.specs.declared.bad.BadFile.{BadFile}
 use Rattle.poly_reader.specs.Lines.{Word}
 use Rattle.poly_reader.specs.Rows.{numbers_in}
-use Rattle.poly_reader.specs.Reading.{reading}
-
--- the text describes this polyhedron
-abbrev pub IsFileOf : List ℕ → Polyhedron → Type 0
-IsFileOf text p = reading text ≡ Ok p
-
--- this is the first thing that is wrong with the text
-abbrev pub IsFirstFault : List ℕ → BadFile → Type 0
-IsFirstFault text f = reading text ≡ Err f
+use Rattle.poly_reader.specs.Reading.{IsFileOf, IsFirstFault}
 
 -- a text has exactly one of a polyhedron and a first fault
 pub record HasOneReading (text : List ℕ) : Type 0 where

@@ -1,6 +1,7 @@
 -- The numbers up to `end`: how many there are, and what is wrong first.
 use Rattle.std.specs.Prelude.{◌<◌, ◌^◌, ℕ, ◌+◌, ◌*◌, ◌%◌, Bool, ◌==◌, ◌||◌, if◌then◌else◌, List, [], ◌∷◌, Option, Some, None, Result, Ok, Err, pos, codes}
 use Rattle.poly_num.specs.Fractions.{Fraction, lowest}
+use Rattle.poly_model.specs.Limits.{most_file_rows}
 use Rattle.poly_reader.specs.declared.bad.BadKind.{BadKind}
 use Rattle.poly_reader.specs.declared.bad.BadFile.{BadFile}
 use Rattle.poly_reader.specs.declared.bad.BadKind.TheVariants.{TooManyRows, ShortData, LongData, BadNumber, ZeroDenominator, WideNumber, NoEnd, MisplacedLinearity, Nonnegative}
@@ -36,7 +37,7 @@ number_on line (Err kind) = bad kind line
 
 -- the most numbers that there may be
 abbrev pub most : Option ℕ → ℕ → ℕ
-most None n = 4096 * n
+most None n = most_file_rows * n
 most (Some m) n = m * n
 
 -- what one more number is

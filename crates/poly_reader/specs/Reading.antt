@@ -1,5 +1,5 @@
 -- What a text is: its polyhedron, or else the first thing that is wrong with it.
-use Rattle.std.specs.Prelude.{ℕ, ◌/◌, Bool, true, false, ◌==◌, ◌&&◌, nat_lt, List, length, Result, Ok}
+use Rattle.std.specs.Prelude.{◌≡◌, ℕ, ◌/◌, Bool, true, false, ◌==◌, ◌&&◌, nat_lt, List, length, Result, Ok, Err}
 use Rattle.poly_model.specs.declared.kind.Kind.{Kind}
 use Rattle.poly_model.specs.declared.kind.Kind.TheVariants.{H, V}
 use Rattle.poly_model.specs.Systems.{Polyhedron}
@@ -7,6 +7,7 @@ use Rattle.poly_model.specs.Tables.{file_rows_in}
 use Rattle.poly_reader.specs.declared.poly.Parts.{Parts}
 use Rattle.poly_reader.specs.declared.bad.BadFile.{BadFile}
 use Rattle.poly_reader.specs.declared.bad.BadKind.TheVariants.{TooLong, NoRows}
+use Rattle.poly_reader.specs.Limits.{most_file_bytes}
 use Rattle.poly_reader.specs.Lines.{lines_of, last_line, firsts}
 use Rattle.poly_reader.specs.FirstFault.{◌>>=◌, Check, unless, each}
 use Rattle.poly_reader.specs.Head.{head_of, names_of, opening_of}
@@ -22,7 +23,7 @@ is_v V = true
 
 -- so many bytes are no more than a file may have
 abbrev pub length_fault : ℕ → Check
-length_fault bytes = unless (nat_lt 67108864 bytes) TooLong 0
+length_fault bytes = unless (nat_lt most_file_bytes bytes) TooLong 0
 
 -- a V file has a row
 abbrev pub empty_fault : Kind → ℕ → ℕ → Check
@@ -51,3 +52,15 @@ reading text = do
   some ← empty_fault opening.kind m matrix.end_line
   rows ← rows_from last opening.kind size.width marks size.words
   Ok (record { kind = opening.kind; n = size.width; rows = rows; text = text })
+
+-- the text describes this polyhedron
+abbrev pub IsFileOf : List ℕ → Polyhedron → Type 0
+IsFileOf text p = reading text ≡ Ok p
+
+-- this is the first thing that is wrong with the text
+abbrev pub IsFirstFault : List ℕ → BadFile → Type 0
+IsFirstFault text f = reading text ≡ Err f
+
+-- the polyhedron is the one that its own text describes
+abbrev pub IsOfItsText : Polyhedron → Type 0
+IsOfItsText p = IsFileOf p.text p

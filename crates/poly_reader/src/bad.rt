@@ -6,7 +6,7 @@ use std::alloc::{AllocError, AllocFailed};
 /// A rule that a file breaks.
 #[derive(Clone, Copy, Debug, PartialEq, Eq)]
 pub enum BadKind {
-    /// More than 67,108,864 bytes.
+    /// More than `MOST_FILE_BYTES` bytes.
     TooLong,
     /// A line that begins with `nonnegative`.
     Nonnegative,
@@ -16,9 +16,9 @@ pub enum BadKind {
     NoBegin,
     /// A word of the header is missing, or is no number where one is wanted.
     BadHeader,
-    /// More than 4096 rows.
+    /// More than `MOST_FILE_ROWS` rows.
     TooManyRows,
-    /// A width of 0 or of more than 256.
+    /// A width of 0 or of more than `MOST_COLUMNS`.
     BadWidth,
     /// A type other than `integer` and `rational`.
     UnsupportedType,

@@ -1,5 +1,6 @@
 //! The header: the number of rows, the width and the type.
 ghost use Rattle.std.specs.Prelude.{◌≡◌, ◌≤◌, ◌<◌, IfOk, IfSome};
+ghost use Rattle.poly_model.specs.Limits.{most_columns, most_file_rows};
 ghost use Rattle.poly_reader.specs.Lines.{word};
 ghost use Rattle.poly_reader.specs.FirstFault.{Gives};
 ghost use Rattle.poly_reader.specs.Header.{rows_of, rows_within, width_of, width_within, type_fault, size_of, size};
@@ -9,6 +10,7 @@ use crate::lines::{Token, is};
 use crate::number::count;
 use crate::words::Words;
 use crate::{BadFile, BadKind};
+use poly_model::{MOST_COLUMNS, MOST_FILE_ROWS};
 
 /// The announced number of rows, where there is one, how many numbers a row has, and the words
 /// behind the header.
@@ -21,9 +23,9 @@ pub struct Header<'a> {
 
 fn rows_within(m: u128, line: u64) -> Result<Option<usize>, BadFile>
     ensures gives { Gives (λ x. x) result (rows_within line m) }
-    ensures few { IfOk result (λ rows. IfSome rows (λ m. m ≤ 4096)) }
+    ensures few { IfOk result (λ rows. IfSome rows (λ m. m ≤ most_file_rows)) }
 {
-    if m > 4096 {
+    if m > MOST_FILE_ROWS as u128 {
         Err(bad(BadKind::TooManyRows, line))
     } else {
         Ok(Some(m as usize))
@@ -33,7 +35,7 @@ fn rows_within(m: u128, line: u64) -> Result<Option<usize>, BadFile>
 #[tactic(auto, unfolding(crate::specs::Header::rows_of), using(crate::proofs::HeaderLemmas::rows_capped))]
 fn rows(w: Token) -> Result<Option<usize>, BadFile>
     ensures gives { Gives (λ x. x) result (rows_of (word w.entry)) }
-    ensures few { IfOk result (λ rows. IfSome rows (λ m. m ≤ 4096)) }
+    ensures few { IfOk result (λ rows. IfSome rows (λ m. m ≤ most_file_rows)) }
 {
     if is(w.text, b"*****") {
         return Ok(None);
@@ -47,9 +49,9 @@ fn rows(w: Token) -> Result<Option<usize>, BadFile>
 fn width_within(n: u128, line: u64) -> Result<usize, BadFile>
     ensures gives { Gives (λ x. x) result (width_within line n) }
     ensures some { IfOk result (λ n. 0 < n) }
-    ensures narrow { IfOk result (λ n. n ≤ 256) }
+    ensures narrow { IfOk result (λ n. n ≤ most_columns) }
 {
-    if n == 0 || n > 256 {
+    if n == 0 || n > MOST_COLUMNS as u128 {
         Err(bad(BadKind::BadWidth, line))
     } else {
         Ok(n as usize)
@@ -60,7 +62,7 @@ fn width_within(n: u128, line: u64) -> Result<usize, BadFile>
 fn width(w: Token) -> Result<usize, BadFile>
     ensures gives { Gives (λ x. x) result (width_of (word w.entry)) }
     ensures some { IfOk result (λ n. 0 < n) }
-    ensures narrow { IfOk result (λ n. n ≤ 256) }
+    ensures narrow { IfOk result (λ n. n ≤ most_columns) }
 {
     match count(w.text) {
         Some(n) => width_within(n, w.line),
@@ -83,9 +85,9 @@ fn check_type(w: Token) -> Result<(), BadFile>
 #[tactic(auto, unfolding(crate::specs::Header::size_of))]
 pub fn header_of<'a>(words: Words<'a>, last: u64) -> Result<Header<'a>, BadFile>
     ensures gives { Gives size result (size_of last words.entry) }
-    ensures few { IfOk result (λ h. IfSome h.rows (λ m. m ≤ 4096)) }
+    ensures few { IfOk result (λ h. IfSome h.rows (λ m. m ≤ most_file_rows)) }
     ensures some { IfOk result (λ h. 0 < h.width) }
-    ensures narrow { IfOk result (λ h. h.width ≤ 256) }
+    ensures narrow { IfOk result (λ h. h.width ≤ most_columns) }
 {
     let Some((m, words)) = words.next() else {
         return Err(bad(BadKind::BadHeader, last));

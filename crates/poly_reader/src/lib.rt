@@ -9,6 +9,7 @@ mod bad;
 mod head;
 mod header;
 mod late;
+mod limits;
 mod lines;
 mod marks;
 mod matrix;
@@ -22,5 +23,6 @@ mod tests;
 mod words;
 
 pub use bad::{BadFile, BadKind, ParseStop, ReadStop};
+pub use limits::MOST_FILE_BYTES;
 pub use poly::poly_of;
 pub use read::read_poly;

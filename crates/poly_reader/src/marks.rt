@@ -1,5 +1,6 @@
 //! The rows that lines `linearity` name: a mark for each row of the file.
 ghost use Rattle.std.specs.Prelude.{◌≡◌, ◌≤◌, [], ◌∷◌, length, map, take, replicate, false, Ok, IfOk};
+ghost use Rattle.poly_model.specs.Limits.{most_file_rows};
 ghost use Rattle.poly_reader.specs.Lines.{Word, word};
 ghost use Rattle.poly_reader.specs.Grammar.{value_of};
 ghost use Rattle.poly_reader.specs.FirstFault.{Parses};
@@ -15,7 +16,7 @@ use std::alloc::{AllocError, Global};
 
 // Marks the row that a word names.
 fn mark_row(marks: &mut [bool], w: Token, line: u64) -> Result<(), BadFile>
-    requires { length marks.old ≤ 4096 }
+    requires { length marks.old ≤ most_file_rows }
     ensures { Marks result marks.old marks.new (name_at line (word w.entry) ∷ []) }
 {
     let row = value(w.text);
@@ -28,7 +29,7 @@ fn mark_row(marks: &mut [bool], w: Token, line: u64) -> Result<(), BadFile>
 
 // Marks the rows that the first so many of these words name.
 fn mark_words(marks: &mut [bool], words: LineWords, count: u128, line: u64) -> Result<(), BadFile>
-    requires { length marks.old ≤ 4096 }
+    requires { length marks.old ≤ most_file_rows }
     ensures { Marks result marks.old marks.new (map (name_at line) (take count words.entry)) }
 {
     let mut words = words;
@@ -47,7 +48,7 @@ fn mark_words(marks: &mut [bool], words: LineWords, count: u128, line: u64) -> R
 
 // Marks the rows that are named behind a word `linearity` on this line.
 fn mark_behind(marks: &mut [bool], words: &LineWords, line: u64) -> Result<(), BadFile>
-    requires { length marks.old ≤ 4096 }
+    requires { length marks.old ≤ most_file_rows }
     ensures { Marks result marks.old marks.new (names_behind line words.now) }
 {
     match words.next() {
@@ -58,7 +59,7 @@ fn mark_behind(marks: &mut [bool], words: &LineWords, line: u64) -> Result<(), B
 
 // Marks the rows that a line names.
 fn mark_line(marks: &mut [bool], line: &LineWords) -> Result<(), BadFile>
-    requires { length marks.old ≤ 4096 }
+    requires { length marks.old ≤ most_file_rows }
     ensures { Marks result marks.old marks.new (names_on line.now) }
 {
     match line.next() {
@@ -75,7 +76,7 @@ fn mark_line(marks: &mut [bool], line: &LineWords) -> Result<(), BadFile>
 
 // Marks the rows that the lines before `begin` name.
 fn mark_lines(marks: &mut [bool], lines: Lines) -> Result<(), BadFile>
-    requires { length marks.old ≤ 4096 }
+    requires { length marks.old ≤ most_file_rows }
     ensures { Marks result marks.old marks.new (names_of (head_of lines.entry)) }
 {
     let mut lines = lines;
@@ -102,7 +103,7 @@ fn no_marks(alloc: Global, m: usize) -> Result<Vec<bool>, AllocError>
 
 /// For each of m rows whether a line before `begin` names it; a fault where one names no row.
 pub fn linear_marks(alloc: Global, m: usize, lines: Lines) -> Result<Vec<bool>, ParseStop>
-    requires { m ≤ 4096 }
+    requires { m ≤ most_file_rows }
     ensures marks { Parses (λ v. v.items) result (checked_marks m (names_of (head_of lines.entry))) }
     ensures full { IfOk result (λ v. length v.items ≡ m) }
 {

@@ -1,5 +1,6 @@
 //! The numbers up to `end`: how many there are, and what is wrong first. Nothing is kept of them.
 ghost use Rattle.std.specs.Prelude.{◌≡◌, ◌≤◌, ◌<◌, ◌*◌, IfOk, IfSome};
+ghost use Rattle.poly_model.specs.Limits.{most_columns, most_file_rows};
 ghost use Rattle.poly_reader.specs.Lines.{word};
 ghost use Rattle.poly_reader.specs.FirstFault.{Gives, Checks};
 ghost use Rattle.poly_reader.specs.Matrix.{number_of, number_on, most, excess, is_enough, ended, matrix_of, matrix};
@@ -9,6 +10,7 @@ use crate::lines::{Token, is};
 use crate::number::{check_number, number};
 use crate::words::Words;
 use crate::{BadFile, BadKind};
+use poly_model::MOST_FILE_ROWS;
 use poly_num::Frac;
 
 /// How many numbers there are, the line of `end`, and the words behind it.
@@ -40,12 +42,12 @@ fn check_number_at(w: Token) -> Result<(), BadFile>
 
 // The most numbers that there may be.
 fn most_numbers(rows: Option<usize>, width: usize) -> usize
-    requires few { IfSome rows (λ m. m ≤ 4096) }
-    requires narrow { width ≤ 256 }
+    requires few { IfSome rows (λ m. m ≤ most_file_rows) }
+    requires narrow { width ≤ most_columns }
     ensures value { result ≡ most rows width }
-    ensures bounded { result ≤ 4096 * width }
+    ensures bounded { result ≤ most_file_rows * width }
 {
-    rows.unwrap_or(4096) * width
+    rows.unwrap_or(MOST_FILE_ROWS as usize) * width
 }
 
 // What one more number is.
@@ -59,8 +61,8 @@ fn excess_of(rows: Option<usize>) -> BadKind
 }
 
 fn is_enough(rows: Option<usize>, width: usize, count: usize) -> bool
-    requires few { IfSome rows (λ m. m ≤ 4096) }
-    requires narrow { width ≤ 256 }
+    requires few { IfSome rows (λ m. m ≤ most_file_rows) }
+    requires narrow { width ≤ most_columns }
     requires some { 0 < width }
     ensures { result ≡ is_enough rows width count }
 {
@@ -77,11 +79,11 @@ pub fn extent_of<'a>(
     words: Words<'a>,
     last: u64,
 ) -> Result<Extent<'a>, BadFile>
-    requires few { IfSome rows (λ m. m ≤ 4096) }
-    requires narrow { width ≤ 256 }
+    requires few { IfSome rows (λ m. m ≤ most_file_rows) }
+    requires narrow { width ≤ most_columns }
     requires some { 0 < width }
     ensures gives { Gives matrix result (matrix_of last rows width 0 words.entry) }
-    ensures within { IfOk result (λ e. e.count ≤ 4096 * width) }
+    ensures within { IfOk result (λ e. e.count ≤ most_file_rows * width) }
 {
     let most = most_numbers(rows, width);
     let mut words = words;
@@ -111,8 +113,8 @@ fn end_at<'a>(
     line: u64,
     words: Words<'a>,
 ) -> Result<Extent<'a>, BadFile>
-    requires few { IfSome rows (λ m. m ≤ 4096) }
-    requires narrow { width ≤ 256 }
+    requires few { IfSome rows (λ m. m ≤ most_file_rows) }
+    requires narrow { width ≤ most_columns }
     requires some { 0 < width }
     ensures gives { Gives matrix result (ended rows width count line words.entry) }
     ensures count { IfOk result (λ e. e.count ≡ count) }

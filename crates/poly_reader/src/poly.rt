@@ -1,8 +1,10 @@
 //! The whole reader.
 ghost use Rattle.std.specs.Prelude.{◌≡◌, ◌≤◌, ◌<◌, length, IfOk, IsOk};
+ghost use Rattle.poly_model.specs.Limits.{most_file_rows};
 ghost use Rattle.poly_model.specs.Tables.{IsShaped};
 ghost use Rattle.poly_reader.specs.FirstFault.{Gives, Parses};
-ghost use Rattle.poly_reader.specs.Reading.{length_fault, empty_fault, polyhedron, reading};
+ghost use Rattle.poly_reader.specs.Limits.{most_file_bytes};
+ghost use Rattle.poly_reader.specs.Reading.{length_fault, empty_fault, polyhedron, reading, IsOfItsText};
 
 use crate::bad::bad;
 use crate::head::head_of;
@@ -12,7 +14,7 @@ use crate::lines::{Lines, last_line_of};
 use crate::marks::linear_marks;
 use crate::matrix::extent_of;
 use crate::rows::table;
-use crate::{BadFile, BadKind, ParseStop};
+use crate::{BadFile, BadKind, MOST_FILE_BYTES, ParseStop};
 use poly_model::{Kind, Poly};
 use poly_num::Num;
 use std::alloc::Global;
@@ -28,9 +30,9 @@ struct Parts {
 
 fn check_length(bytes: usize) -> Result<(), BadFile>
     ensures gives { Gives (λ x. x) result (length_fault bytes) }
-    ensures within { IsOk result → bytes ≤ 67108864 }
+    ensures within { IsOk result → bytes ≤ most_file_bytes }
 {
-    if bytes > 67_108_864 {
+    if bytes > MOST_FILE_BYTES {
         return Err(bad(BadKind::TooLong, 0));
     }
     Ok(())
@@ -48,7 +50,7 @@ fn check_some_row(kind: Kind, rows: usize, line: u64) -> Result<(), BadFile>
 #[tactic(auto, unfolding(crate::specs::Reading::reading))]
 fn parts_of(alloc: Global, text: &[u8]) -> Result<Parts, ParseStop>
     ensures reads { Parses (polyhedron text.now) result (reading text.now) }
-    ensures shaped { IfOk result (λ p. IsShaped 4096 (length p.linear.items) p.width p.cells.items) }
+    ensures shaped { IfOk result (λ p. IsShaped most_file_rows (length p.linear.items) p.width p.cells.items) }
 {
     check_length(text.len())?;
     let last = last_line_of(text);
@@ -72,7 +74,8 @@ fn parts_of(alloc: Global, text: &[u8]) -> Result<Parts, ParseStop>
 /// The polyhedron of a text, or the first thing that is wrong with it. Besides the polyhedron, with
 /// its text, no more memory is taken than for one row.
 pub fn poly_of(alloc: Global, text: &[u8]) -> Result<Poly, ParseStop>
-    ensures { Parses (λ p. p) result (reading text.now) }
+    ensures reads { Parses (λ p. p) result (reading text.now) }
+    ensures own_text { IfOk result IsOfItsText }
 {
     let parts = parts_of(alloc, text)?;
     let copy = Vec::from_slice(alloc, text)?;
@@ -89,6 +92,7 @@ pub fn poly_of(alloc: Global, text: &[u8]) -> Result<Poly, ParseStop>
 pub fn poly_with(alloc: Global, text: Vec<u8>) -> Result<Poly, ParseStop>
     ensures reads { Parses (λ p. p) result (reading text.items) }
     ensures text { IfOk result (λ p. p.text ≡ text.items) }
+    ensures own_text { IfOk result IsOfItsText }
 {
     let parts = parts_of(alloc, &text)?;
     Ok(Poly::new(

@@ -1,5 +1,6 @@
 //! The rows: what is wrong with one, and the table of their entries.
 ghost use Rattle.std.specs.Prelude.{◌≡◌, ◌≤◌, ◌<◌, ◌*◌, length, drop, IfOk};
+ghost use Rattle.poly_model.specs.Limits.{most_columns, most_file_rows};
 ghost use Rattle.poly_model.specs.Tables.{file_rows_in};
 ghost use Rattle.poly_reader.specs.FirstFault.{Gives, Parses};
 ghost use Rattle.poly_reader.specs.Scaling.{scaled};
@@ -118,8 +119,8 @@ pub fn table(
     last: u64,
 ) -> Result<Vec<Num>, ParseStop>
     requires some { 0 < width }
-    requires narrow { width ≤ 256 }
-    requires few { length marks.now ≤ 4096 }
+    requires narrow { width ≤ most_columns }
+    requires few { length marks.now ≤ most_file_rows }
     ensures rows { Parses (λ v. file_rows_in width v.items marks.now) result
         (rows_from last kind width marks.now words.entry) }
     ensures full { IfOk result (λ v. length v.items ≡ length marks.now * width) }

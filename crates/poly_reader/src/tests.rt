@@ -1,7 +1,7 @@
 //! Texts whose answer is known from the rules of the format.
 ghost use Rattle.std.specs.Prelude.{◌≡◌, ◌<◌};
 
-use crate::{BadFile, BadKind, ParseStop, ReadStop, poly_of, read_poly};
+use crate::{BadFile, BadKind, MOST_FILE_BYTES, ParseStop, ReadStop, poly_of, read_poly};
 use poly_io::{Call, MemSource};
 use poly_model::{Kind, Poly};
 use std::alloc::{AllocFailed, Global};
@@ -207,7 +207,7 @@ fn reads_a_source_in_pieces(rt: HostRuntime) -> Result<(), Fail> {
 
 #[test]
 fn takes_one_byte_past_the_longest_file(rt: HostRuntime) -> Result<(), Fail> {
-    let text: Vec<u8> = Vec::from_elem(rt.alloc(), b'\n', 67_108_867)?;
+    let text: Vec<u8> = Vec::from_elem(rt.alloc(), b'\n', MOST_FILE_BYTES + 3)?;
     let mut source = MemSource::new(&text, &[]);
     let want = BadFile {
         kind: BadKind::TooLong,

@@ -1,9 +1,7 @@
-use Rattle.std.proofs.Common.{◌≡◌, arith, refl, sym, inr, ap, subst, ◌∙◌, Result, Err}
-use Rattle.std.specs.Prelude.{List, ℕ, Ok}
+use Rattle.std.proofs.Common.{◌≡◌, arith, refl, inr, ap, ◌∙◌, Result, Err}
 use Rattle.poly_model.specs.Systems.{Polyhedron}
 use Rattle.poly_reader.specs.declared.bad.BadFile.{BadFile}
 use Rattle.poly_reader.specs.declared.bad.BadKind.TheVariants.{TooLong}
-use Rattle.poly_reader.specs.Reading.{reading}
 use Rattle.poly_reader.proofs.LongTexts.{too_long}
 use Rattle.poly_reader.proofs.read.read_poly.Goals as goal
 
@@ -27,7 +25,5 @@ returns-in-Ok-poly_with-clause-ok g c =
     record {
       taken = rw same c.in-Ok.ensures.bytes;
       ends = c.in-Ok.ensures.end;
-      read =
-          subst (λ (t : List ℕ). reading t ≡ Ok c.in-Ok-poly_with.poly) (sym c.in-Ok-poly_with.ensures.text)
-          c.in-Ok-poly_with.ensures.reads;
+      read = c.in-Ok-poly_with.ensures.own_text;
     }
