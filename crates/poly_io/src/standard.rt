@@ -1,37 +1,31 @@
-//! Sources and sinks over the readers and writers of std, which tell no content.
-ghost use Rattle.std.specs.Prelude.{◌≡◌, None};
+//! Sources and sinks over the readers and writers of std. They tell the bytes that std tells.
+ghost use Rattle.std.specs.Prelude.{◌≡◌};
 
 use crate::{Failed, Sink, Source};
 use std::io::{Read, Write};
-use std::marker::Model;
 
-/// A source over any reader, as standard input. Contracts see its count of faults.
+/// A source over any reader, as standard input. An error of the reader is a fault, also a call that was
+/// interrupted.
 #[derive(Drop)]
 pub struct StdinSource<R: Read> {
     inner: R,
     faults: u64,
 }
 
-impl<R: Read> Model for StdinSource<R> {
-    ghost use Rattle.std.specs.Prelude.{ℕ};
-
-    ghost Value = { ℕ };
-
-    ghost view = { λ s. s.faults };
-}
-
 impl<R: Read> StdinSource<R> {
     pub fn new(inner: R) -> StdinSource<R>
-        ensures { result ≡ 0 }
+        ensures inner { result.inner ≡ inner }
+        ensures faults { result.faults ≡ 0 }
     {
         StdinSource { inner, faults: 0 }
     }
 }
 
 impl<R: Read> Source for StdinSource<R> {
-    ghost left = { λ _. None };
+    // What the reader will give, where std tells it: of standard input and of a file it tells nothing.
+    ghost left = { λ s. R.remaining s.inner };
 
-    ghost faults = { λ s. s };
+    ghost faults = { λ s. s.faults };
 
     fn read(&mut self, buf: &mut [u8]) -> Result<usize, Failed> {
         match self.inner.read(buf) {
@@ -44,33 +38,28 @@ impl<R: Read> Source for StdinSource<R> {
     }
 }
 
-/// A sink over any writer, as standard output. Contracts see its count of faults.
+/// A sink over any writer, as standard output. An error of the writer is a fault, and a call that
+/// takes nothing of a nonempty piece.
 #[derive(Drop)]
 pub struct StdoutSink<W: Write> {
     inner: W,
     faults: u64,
 }
 
-impl<W: Write> Model for StdoutSink<W> {
-    ghost use Rattle.std.specs.Prelude.{ℕ};
-
-    ghost Value = { ℕ };
-
-    ghost view = { λ s. s.faults };
-}
-
 impl<W: Write> StdoutSink<W> {
     pub fn new(inner: W) -> StdoutSink<W>
-        ensures { result ≡ 0 }
+        ensures inner { result.inner ≡ inner }
+        ensures faults { result.faults ≡ 0 }
     {
         StdoutSink { inner, faults: 0 }
     }
 }
 
 impl<W: Write> Sink for StdoutSink<W> {
-    ghost written = { λ _. None };
+    // What the writer holds, where std tells it: of standard output and of a file it tells nothing.
+    ghost written = { λ s. W.contents s.inner };
 
-    ghost faults = { λ s. s };
+    ghost faults = { λ s. s.faults };
 
     fn write(&mut self, bytes: &[u8]) -> Result<usize, Failed> {
         match self.inner.write(bytes) {

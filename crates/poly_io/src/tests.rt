@@ -1,5 +1,6 @@
 use super::*;
 use poly_num::Num;
+use std::io::{self, ErrorKind, Read, Write};
 use std::test::Fail;
 
 /// What a run is to read, the calls of its source, the limit, and what it is to answer: the bytes,
@@ -132,5 +133,35 @@ fn goes_over_the_readers_and_writers_of_std(rt: HostRuntime) -> Result<(), Fail>
     assert_eq!(rt; write_all(&mut out, b"abcd"), Err(WriteFault));
     drop(out);
     assert_eq!(rt; room.as_slice(), b"abc".as_slice());
+    Ok(())
+}
+
+/// A reader and a writer that fail at every call.
+#[derive(Drop)]
+struct Broken;
+
+impl Read for Broken {
+    fn read(&mut self, _: &mut [u8]) -> io::Result<usize> {
+        Err(io::Error::from(ErrorKind::BrokenPipe))
+    }
+}
+
+impl Write for Broken {
+    fn write(&mut self, _: &[u8]) -> io::Result<usize> {
+        Err(io::Error::from(ErrorKind::BrokenPipe))
+    }
+
+    fn flush(&mut self) -> io::Result<()> {
+        Ok(())
+    }
+}
+
+#[test]
+fn takes_errors_of_std_for_faults(rt: HostRuntime) -> Result<(), Fail> {
+    let mut source = StdinSource::new(b"ab".as_slice().chain(Broken));
+    let stop = read_whole(rt.alloc(), &mut source, 9).err();
+    assert_eq!(rt; stop, Some(WholeStop::Fault));
+    let mut out = StdoutSink::new(Broken);
+    assert_eq!(rt; write_all(&mut out, b"a"), Err(WriteFault));
     Ok(())
 }

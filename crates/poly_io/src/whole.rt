@@ -1,5 +1,5 @@
 //! A source read to its end, under a limit.
-ghost use Rattle.std.specs.Prelude.{◌≤◌, ◌+◌, length, IfOk, OnOk, IsErrOf};
+ghost use Rattle.std.specs.Prelude.{◌≡◌, ◌≤◌, ◌+◌, length, IfOk, OnOk, IsErrOf};
 ghost use Rattle.std.specs.Io.KnownBytes.{Consumes, IsAtEnd};
 ghost use Rattle.poly_io.specs.Causes.{Rose};
 ghost use Rattle.poly_io.specs.Taken.{Takes, TakesAtMost};
@@ -32,6 +32,8 @@ pub fn read_whole<S: Source>(
         → Takes (S.left source.old) (S.left source.new) (limit + 1) }
     ensures fault { IsErrOf result WholeStop.Fault
         → Rose (S.faults source.old) (S.faults source.new) }
+    ensures same { ¬ (IsErrOf result WholeStop.Fault)
+        → S.faults source.new ≡ S.faults source.old }
     // Whatever the answer is.
     ensures taken { TakesAtMost (S.left source.old) (S.left source.new) (limit + 1) }
     ensures later { S.faults source.old ≤ S.faults source.new }

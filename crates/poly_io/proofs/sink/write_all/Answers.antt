@@ -1,4 +1,4 @@
-use Rattle.std.proofs.Common.{arith}
+use Rattle.std.proofs.Common.{◌∙◌}
 use Rattle.poly_io.proofs.Parts.{owes_less, split_at}
 use Rattle.poly_io.proofs.sink.write_all.Goals as goal
 
@@ -8,5 +8,5 @@ loop-rest-preserved g c =
     let taken = c.in_ok-count in
     record {
       owes = owes_less _ _ _ _ _ _ _ before.owes (split_at c.loop-rest.rest.now taken.count) taken.ensures.bytes;
-      later = omega (arith, before.later, taken.ensures.cause.later);
+      same = taken.ensures.cause.same ∙ before.same;
     }
