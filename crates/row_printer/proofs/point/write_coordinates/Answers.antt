@@ -1,4 +1,4 @@
-use Rattle.std.proofs.Common.{arith}
+use Rattle.std.proofs.Common.{arith, ◌∙◌}
 use Rattle.poly_io.proofs.Parts.{owes_cut, owes_less, owes_none}
 use Rattle.row_printer.proofs.ListingTextLemmas.{coordinates_text-next, coordinates_text-none}
 use Rattle.row_printer.proofs.point.write_coordinates.Goals as goal
@@ -12,7 +12,7 @@ pub loop-y-preserved : goal.loop-y-preserved
 loop-y-preserved g c = record {
   owes = owes_less _ _ _ _ _ _ _ c.loop-y.invariant.owes (coordinates_text-next c.args.first c.args.rest.now c.loop-y.y-index _ (omega arith) c.y-item.is)
       c.in_ok-write_coordinate.ensures.text.whole;
-  later = omega (arith, c.loop-y.invariant.later, c.in_ok-write_coordinate.ensures.cause.later);
+  same = c.in_ok-write_coordinate.ensures.cause.same ∙ c.loop-y.invariant.same;
 }
 
 pub returns-clause-text : goal.returns-clause-text

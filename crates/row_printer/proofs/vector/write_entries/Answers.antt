@@ -1,4 +1,4 @@
-use Rattle.std.proofs.Common.{arith}
+use Rattle.std.proofs.Common.{arith, ◌∙◌}
 use Rattle.poly_io.proofs.Parts.{owes_cut, owes_less, owes_none}
 use Rattle.row_printer.proofs.ListingTextLemmas.{entries_text-next, entries_text-none}
 use Rattle.row_printer.proofs.vector.write_entries.Goals as goal
@@ -10,7 +10,7 @@ returns-in_err-write_entry-clause-text g c =
 pub loop-y-preserved : goal.loop-y-preserved
 loop-y-preserved g c = record {
   owes = owes_less _ _ _ _ _ _ _ c.loop-y.invariant.owes (entries_text-next c.args.v.now c.loop-y.y-index _ (omega arith) c.y-item.is) c.in_ok-write_entry.ensures.text.whole;
-  later = omega (arith, c.loop-y.invariant.later, c.in_ok-write_entry.ensures.cause.later);
+  same = c.in_ok-write_entry.ensures.cause.same ∙ c.loop-y.invariant.same;
 }
 
 pub returns-clause-text : goal.returns-clause-text
