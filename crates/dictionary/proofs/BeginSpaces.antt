@@ -1,13 +1,14 @@
 -- The table of the coordinates is their dictionary in the spaces of the first two phases.
 use Rattle.std.proofs.Common.{◌≡◌, ℕ, suc, ◌-◌, ◌<◌, ◌≤◌, ◌++◌, Bool, true, false, ℤ, pos, cond, List, [], ◌⊎◌, ⊎_elim, length, arith, refl, sym, ap, subst, ◌∙◌}
 use Rattle.std.specs.List.{flat_map, range_with_len}
-use Rattle.std.proofs.lemmas.List.{get_or_append_left, length-append}
+use Rattle.std.proofs.lemmas.List.{length-append}
 use Rattle.std.proofs.lemmas.Bool.{lt-ltb}
+use Rattle.poly_model.specs.Limits.{most_columns, most_cone_rows}
 use Rattle.poly_model.specs.declared.kind.Kind.{Kind}
 use Rattle.poly_model.specs.declared.kind.Kind.TheVariants.{H, V}
 use Rattle.poly_model.specs.declared.overflow.Phase.{Phase}
 use Rattle.poly_model.specs.declared.overflow.Phase.TheVariants.{Cone, Prepare}
-use Rattle.poly_model.specs.Systems.{System, Polyhedron, Row, row_of, no_row, file_rows, added_row, cone_of}
+use Rattle.poly_model.specs.Systems.{System, Polyhedron, Row, row_of, file_rows, added_row, cone_of}
 use Rattle.poly_model.specs.Keys.{IsKey}
 use Rattle.poly_model.specs.Cones.{at, coordinate}
 use Rattle.poly_model.specs.Spaces.{Space, IsSpaceOf, label_form, with_constants, without_constants, cut_space, in_front}
@@ -15,13 +16,14 @@ use Rattle.dictionary_laws.specs.Coordinates.{coordinate_key, first_coordinate, 
 use Rattle.dictionary_laws.proofs.CoordinateSpaces.{phase_coordinates}
 use Rattle.dictionary.specs.Views.{Dictionary, IsDictionaryIn, IsWhole}
 use Rattle.dictionary.specs.New.{first_label, unit_row, has_constants, row_count, HasWidths, IsNew}
+use Rattle.dictionary.proofs.ConeRows.{row_in_cone}
 use Rattle.dictionary.proofs.Beginnings.{first, first_whole, cells_of, first_is_dictionary}
 
 -- the form of a row's label is the row
 row_form : (rows : List Row) (i : ℕ) → i < 8192 → label_form rows i ≡ (row_of rows i).entries
 row_form rows i l = ap (λ b. cond b (row_of rows i).entries (coordinate (i - 8192))) (lt-ltb i 8192 l)
 
-module _ (phase : Phase) (n : ℕ) (some : 0 < n) (narrow : n ≤ 256) (m : ℕ) (few : m ≤ 4097) (rows : List Row)
+module _ (phase : Phase) (n : ℕ) (some : 0 < n) (narrow : n ≤ most_columns) (m : ℕ) (few : m ≤ most_cone_rows) (rows : List Row)
     (widths : (i : ℕ) → 0 < i → i ≤ m → length (row_of rows i).entries ≡ n) where
   -- all rows, without constants
   without_is : m ≡ length rows → HasCoordinates (without_constants n [] rows) (coordinate_key 0 n) →
@@ -45,7 +47,7 @@ module _ (phase : Phase) (n : ℕ) (some : 0 < n) (narrow : n ≤ 256) (m : ℕ)
 abbrev pub Begins : Polyhedron → Phase → Space → System → Type 0
 Begins p phase space sys =
     IsSpaceOf p phase space → (m : ℕ) → m ≡ row_count (has_constants phase sys.kind) (length sys.rows) →
-    (some : 0 < sys.n) (narrow : sys.n ≤ 256) (few : m ≤ 4097) (widths : HasWidths sys m) →
+    (some : 0 < sys.n) (narrow : sys.n ≤ most_columns) (few : m ≤ most_cone_rows) (widths : HasWidths sys m) →
     IsDictionaryIn space (first phase sys.rows (has_constants phase sys.kind) sys.n m some narrow few widths)
 
 begins_cone : (p : Polyhedron) (space : Space) → Begins p Cone space (cone_of p)
@@ -56,7 +58,7 @@ begins_cone p space is m e some narrow few widths =
 begins_rows : (p : Polyhedron) (kind : Kind) → p.kind ≡ kind →
     HasCoordinates (cut_space kind p []) (coordinate_key (first_coordinate kind) p.n) →
     (m : ℕ) → m ≡ row_count (has_constants Prepare kind) (length (cone_of p).rows) →
-    (some : 0 < p.n) (narrow : p.n ≤ 256) (few : m ≤ 4097) (widths : HasWidths (cone_of p) m) →
+    (some : 0 < p.n) (narrow : p.n ≤ most_columns) (few : m ≤ most_cone_rows) (widths : HasWidths (cone_of p) m) →
     IsDictionaryIn (cut_space kind p [])
     (first Prepare (cone_of p).rows (has_constants Prepare kind) p.n m some narrow few widths)
 begins_rows p H is h m e some narrow few widths =
@@ -66,7 +68,7 @@ begins_rows p H is h m e some narrow few widths =
     ∙ ap (λ k. k - 1) (length-append (file_rows p) (added_row H p.n (file_rows p)))
     ∙ omega arith in
     with_is Prepare p.n some narrow m few (cone_of p).rows widths (file_rows p) count
-    (λ i l g. get_or_append_left (file_rows p) (added_row p.kind p.n (file_rows p)) no_row (i - 1) (omega (arith, count)))
+    (λ i l g. row_in_cone p i l (omega (arith, count)))
     h
 begins_rows p V is h m e some narrow few widths =
     without_is Prepare p.n some narrow m few (cone_of p).rows widths e h
@@ -86,7 +88,7 @@ begins p phase space sys early is =
     early)
 
 -- what the fields of a new `Dict` hold is that table
-pub same_view : (phase : Phase) (rows : List Row) (b : Bool) (n m : ℕ) (some : 0 < n) (narrow : n ≤ 256) (few : m ≤ 4097)
+pub same_view : (phase : Phase) (rows : List Row) (b : Bool) (n m : ℕ) (some : 0 < n) (narrow : n ≤ most_columns) (few : m ≤ most_cone_rows)
     (widths : (i : ℕ) → 0 < i → i ≤ m → length (row_of rows i).entries ≡ n)
     (labels key columns : List ℕ) (cells : List ℤ) → columns ≡ coordinate_key (first_label b) n →
     labels ≡ range_with_len 1 m ++ columns → key ≡ columns →
@@ -97,8 +99,8 @@ same_view phase rows b n m some narrow few widths labels key columns cells e f g
 
 -- what the fields of a new `Dict` hold is whole, and is what is promised of a new one
 module _ (sys : System) (phase : Phase) (early : (phase ≡ Cone) ⊎ (phase ≡ Prepare)) (m : ℕ)
-    (em : m ≡ row_count (has_constants phase sys.kind) (length sys.rows)) (few : m ≤ 4097) (some : 0 < sys.n)
-    (narrow : sys.n ≤ 256) (widths : HasWidths sys m) where
+    (em : m ≡ row_count (has_constants phase sys.kind) (length sys.rows)) (few : m ≤ most_cone_rows) (some : 0 < sys.n)
+    (narrow : sys.n ≤ most_columns) (widths : HasWidths sys m) where
   abbrev pub new_columns : List ℕ
   new_columns = coordinate_key (first_label (has_constants phase sys.kind)) sys.n
 

@@ -7,6 +7,7 @@ use Rattle.std.proofs.lemmas.Int.{ints}
 use Rattle.std.proofs.lemmas.List.FromFn.{length-map-range_with_len}
 use Rattle.linear_laws.proofs.Members.{Contains-first, Contains-later, Contains-nil, all_at}
 use Rattle.std.proofs.lemmas.List.Elements.{Contains-append_right}
+use Rattle.poly_model.specs.Limits.{most_columns, most_cone_rows}
 use Rattle.poly_model.specs.declared.overflow.Phase.{Phase}
 use Rattle.poly_model.specs.Keys.{IsAscending, IsKey}
 use Rattle.poly_model.specs.Systems.{Row, row_of}
@@ -90,13 +91,13 @@ upper_of_key : (b : Bool) (n k : ℕ) → 0 < n → Contains (coordinate_key (fi
 upper_of_key true n k h c = let l = key_upper 1 (n - 1) k c in omega (arith, l)
 upper_of_key false n k h c = let l = key_upper 0 (n - 0) k c in omega (arith, l)
 
-pub coordinates_are_key : (j n : ℕ) → n ≤ 256 → IsKey (coordinate_key j n)
+pub coordinates_are_key : (j n : ℕ) → n ≤ most_columns → IsKey (coordinate_key j n)
 coordinates_are_key j n h = record {
   room = let l = length-map-range_with_len coordinate_label j (n - j) in omega (arith, l);
   ascending = (coordinate_keys j n).ascending;
 }
 
-module _ (phase : Phase) (rows : List Row) (b : Bool) (n m : ℕ) (some : 0 < n) (narrow : n ≤ 256) (few : m ≤ 4097)
+module _ (phase : Phase) (rows : List Row) (b : Bool) (n m : ℕ) (some : 0 < n) (narrow : n ≤ most_columns) (few : m ≤ most_cone_rows)
     (widths : (i : ℕ) → 0 < i → i ≤ m → length (row_of rows i).entries ≡ n) where
   abbrev pub columns : List ℕ
   columns = coordinate_key (first_label b) n

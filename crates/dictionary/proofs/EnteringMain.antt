@@ -9,6 +9,7 @@ use Rattle.std.proofs.Math.Nat.{pos_of_dvd_of_pos}
 use Rattle.poly_num.proofs.Order.{positive_nonzero}
 use Rattle.poly_num.proofs.FractionLemmas.{size_positive}
 use Rattle.linear_laws.proofs.AllLemmas.{all_both}
+use Rattle.poly_model.specs.Limits.{most_cone_rows}
 use Rattle.poly_model.specs.declared.kind.Kind.{Kind}
 use Rattle.poly_model.specs.declared.kind.Kind.TheVariants.{H, V}
 use Rattle.poly_model.specs.declared.overflow.Phase.TheVariants.{Main}
@@ -48,7 +49,7 @@ main_labels p free = ap (λ ls. filter (is_left (cone_of p).rows) ls) (by p.kind
     by H = refl
     by V = refl
 
-few_rows : (p : Polyhedron) (sys : System) → sys ≡ cone_of p → length sys.rows ≤ 4097 → length p.rows < 8192
+few_rows : (p : Polyhedron) (sys : System) → sys ≡ cone_of p → length sys.rows ≤ most_cone_rows → length p.rows < 8192
 few_rows p sys e l =
     let same : length sys.rows ≡ length (cone_of p).rows = ap (λ (s : System). length s.rows) e in
     omega (arith, length-append (file_rows p) (added_row p.kind p.n (file_rows p)), count_of_rows p)
@@ -133,7 +134,7 @@ module _ (old : Dictionary) (whole : IsWhole old) (rows : List Row) (free : List
             };
           }
 
-    pub enters_main : (sys : System) → rows ≡ sys.rows → length sys.rows ≤ 4097 → EntersMainPhase old sys free new
+    pub enters_main : (sys : System) → rows ≡ sys.rows → length sys.rows ≤ most_cone_rows → EntersMainPhase old sys free new
     enters_main sys e l = record {
       phase = refl;
       enters = λ p is d can.
@@ -142,7 +143,7 @@ module _ (old : Dictionary) (whole : IsWhole old) (rows : List Row) (free : List
 
 -- the same of what the code has
 pub made_main : (old : Dictionary) (sys : System) (free labels key columns : List ℕ) (denominator least : ℤ)
-    (mid cells : List ℤ) → IsWhole old → length sys.rows ≤ 4097 → labels ≡ (staying old sys.rows free).labels →
+    (mid cells : List ℤ) → IsWhole old → length sys.rows ≤ most_cone_rows → labels ≡ (staying old sys.rows free).labels →
     key ≡ (staying old sys.rows free).key → columns ≡ (staying old sys.rows free).columns →
     denominator ≡ old.denominator → mid ≡ (staying old sys.rows free).cells → IsDividedOut mid denominator cells least →
     IsWhole (record { phase = Main; labels = labels; key = key; columns = columns; denominator = least; cells = cells })

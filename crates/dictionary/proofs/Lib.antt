@@ -11,6 +11,7 @@ pub mod CarriedOut
 pub mod OverflowLemmas
 pub mod RangeLemmas
 pub mod FirstNumbers
+pub mod ConeRows
 pub mod Beginnings
 pub mod BeginSpaces
 pub mod CommonLemmas

@@ -8,9 +8,8 @@ ghost use Rattle.dictionary.specs.Views.{table_of};
 
 use crate::cells::cell_at;
 use crate::places::{has, place_of};
-use poly_model::{Key, Label, Phase};
+use poly_model::{Key, Label, OutOfMemory, Phase};
 use poly_num::Num;
-use std::alloc::AllocError;
 use std::marker::Model;
 
 /// The dictionary of a cobasis in its phase: over a common denominator, each label of the phase (its
@@ -108,7 +107,7 @@ impl Dict {
     }
 
     /// A dictionary that is equal.
-    pub fn copy(&self) -> Result<Dict, AllocError>
+    pub fn copy(&self) -> Result<Dict, OutOfMemory>
         ensures { IfOk result (λ d. d ≡ self.now) }
     {
         Ok(Dict {

@@ -9,17 +9,16 @@ ghost use Rattle.dictionary.specs.MainPhase.{stays_in, places_from, kept_row, ke
 use crate::Dict;
 use crate::cells::{at_place, cell_at};
 use crate::places::key_of;
-use poly_model::{Phase, System};
+use poly_model::{OutOfMemory, Phase, System};
 use poly_num::{Num, primitive};
-use std::alloc::{AllocError, Global};
+use std::alloc::Global;
 
-// Whether row i of the cone, counted from 1, is linear. A row that is not there is not, and 0 stands
-// for the first.
+// Whether row i of the cone, counted from 1, is linear. A row that is not there is not.
 fn is_linear(sys: &System, i: u16) -> bool
     ensures { result ≡ (row_of sys.now.rows i).linear }
 {
-    let row = if i == 0 { 1 } else { u32::from(i) };
-    row <= sys.rows() && sys.is_linear(row)
+    let row = u32::from(i);
+    row > 0 && row <= sys.rows() && sys.is_linear(row)
 }
 
 // Whether column j is free.
@@ -46,7 +45,7 @@ fn kept_places(
     sys: &System,
     free: &[u32],
     labels: &[u16],
-) -> Result<Vec<usize>, AllocError>
+) -> Result<Vec<usize>, OutOfMemory>
     ensures { IfOk result (λ v. v.items ≡ places_from 0 (stays_in sys.now.rows free.now) labels.now) }
 {
     let mut places = Vec::new(alloc);
@@ -64,7 +63,7 @@ fn kept_labels(
     sys: &System,
     free: &[u32],
     labels: &[u16],
-) -> Result<Vec<u16>, AllocError>
+) -> Result<Vec<u16>, OutOfMemory>
     ensures { IfOk result (λ v. v.items ≡ filter (stays_in sys.now.rows free.now) labels.now) }
 {
     let mut kept = Vec::new(alloc);
@@ -84,7 +83,7 @@ fn keep_row(
     width: usize,
     columns: &[usize],
     i: usize,
-) -> Result<(), AllocError>
+) -> Result<(), OutOfMemory>
     requires size { length cells.now ≡ height * width }
     requires some { 0 < width }
     requires row { i < height }
@@ -99,7 +98,7 @@ fn keep_row(
 }
 
 // Divides what is common out of the cells and the denominator. The new denominator.
-fn divide_out(cells: &mut Vec<Num>, denominator: Num) -> Result<Num, AllocError>
+fn divide_out(cells: &mut Vec<Num>, denominator: Num) -> Result<Num, OutOfMemory>
     requires { pos 0 <ℤ denominator }
     ensures { IfOk result (λ d. IsDividedOut cells.old.items denominator cells.new.items d) }
 {
@@ -113,7 +112,7 @@ fn divide_out(cells: &mut Vec<Num>, denominator: Num) -> Result<Num, AllocError>
 
 impl Dict {
     // The cells in these rows, the constants and those at these places of columns.
-    fn kept_cells(&self, rows: &[usize], columns: &[usize]) -> Result<Vec<Num>, AllocError>
+    fn kept_cells(&self, rows: &[usize], columns: &[usize]) -> Result<Vec<Num>, OutOfMemory>
         requires rows { All (λ i. i < length self.now.labels) rows.now }
         requires columns { All (λ j. j < length self.now.columns) columns.now }
         ensures { IfOk result (λ v. v.items ≡ kept_cells (suc (length self.now.columns)) self.now.cells rows.now columns.now) }
@@ -136,11 +135,11 @@ impl Dict {
     /// the free coordinates, over its own least denominator; the rows of the equations go. `free` are
     /// the free columns of the cone, ascending. Takes memory for the new table; where there is none the
     /// dictionary is given up.
-    pub fn to_main(self, sys: &System, free: &[u32]) -> Result<Dict, AllocError>
+    pub fn to_main(self, sys: &System, free: &[u32]) -> Result<Dict, OutOfMemory>
         ensures { IfOk result (λ d. EntersMainPhase self sys.now free.now d) }
     {
         let alloc = *self.cells.allocator();
-        // at most 4097 rows: no label of a row is that of a coordinate
+        // at most `MOST_CONE_ROWS` rows: no label of a row is that of a coordinate
         let _rows = sys.rows();
         let rows = kept_places(alloc, sys, &[], &self.labels)?;
         let places = kept_places(alloc, sys, free, &self.columns)?;

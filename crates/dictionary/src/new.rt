@@ -1,6 +1,7 @@
 //! The dictionary of the coordinates, with which a phase begins.
 ghost use Rattle.std.specs.Prelude.{◌≡◌, ◌⊎◌, ◌≤◌, ◌<◌, ◌+◌, ◌-◌, ◌++◌, ◌==◌, if◌then◌else◌, pos, length, vec_len, IfOk, OnOk};
 ghost use Rattle.std.specs.List.{flat_map, range_with_len};
+ghost use Rattle.poly_model.specs.Limits.{most_columns, most_cone_rows};
 ghost use Rattle.poly_model.specs.Keys.{IsKey};
 ghost use Rattle.poly_model.specs.Systems.{row_of};
 ghost use Rattle.poly_model.specs.declared.overflow.Phase.TheVariants.{Cone, Prepare};
@@ -9,14 +10,14 @@ ghost use Rattle.dictionary.specs.New.{first_label, has_constants, row_count, ro
 
 use crate::Dict;
 use crate::places::key_of;
-use poly_model::{Kind, Phase, System};
+use poly_model::{Kind, OutOfMemory, Phase, System};
 use poly_num::Num;
-use std::alloc::{AllocError, Global};
+use std::alloc::Global;
 
 impl Dict {
     /// The dictionary of the coordinates, over the denominator 1, in the phase `Cone` or `Prepare` of a
     /// system: its entries are those of the rows. Takes memory for the table.
-    pub fn new(alloc: Global, sys: &System, phase: Phase) -> Result<Dict, AllocError>
+    pub fn new(alloc: Global, sys: &System, phase: Phase) -> Result<Dict, OutOfMemory>
         requires { (phase ≡ Cone) ⊎ (phase ≡ Prepare) }
         ensures { IfOk result (λ d. IsNew sys.now phase d) }
     {
@@ -53,7 +54,7 @@ fn has_constants(kind: Kind, phase: Phase) -> bool
 fn row_count(sys: &System, constants: bool) -> u32
     ensures value { result ≡ row_count constants (length sys.now.rows) }
     ensures within { result ≤ length sys.now.rows }
-    ensures few { result ≤ 4097 }
+    ensures few { result ≤ most_cone_rows }
 {
     if constants {
         sys.rows().saturating_sub(1)
@@ -63,11 +64,11 @@ fn row_count(sys: &System, constants: bool) -> u32
 }
 
 // The labels of the coordinates, without the one at infinity where that reads constants.
-fn coordinate_labels(alloc: Global, constants: bool, n: u32) -> Result<Vec<u16>, AllocError>
+fn coordinate_labels(alloc: Global, constants: bool, n: u32) -> Result<Vec<u16>, OutOfMemory>
     requires some { 0 < n }
-    requires narrow { n ≤ 256 }
+    requires narrow { n ≤ most_columns }
     ensures value { IfOk result (λ v. v.items ≡ coordinate_key (first_label constants) n) }
-    ensures narrow { IfOk result (λ v. vec_len v ≤ 256) }
+    ensures narrow { IfOk result (λ v. vec_len v ≤ most_columns) }
     ensures key { IfOk result (λ v. IsKey v.items) }
 {
     let first: u16 = if constants { 1 } else { 0 };
@@ -79,8 +80,8 @@ fn coordinate_labels(alloc: Global, constants: bool, n: u32) -> Result<Vec<u16>,
 }
 
 // The labels of the rows, and then those.
-fn all_labels(alloc: Global, rows: u32, columns: &[u16]) -> Result<Vec<u16>, AllocError>
-    requires { rows ≤ 4097 }
+fn all_labels(alloc: Global, rows: u32, columns: &[u16]) -> Result<Vec<u16>, OutOfMemory>
+    requires { rows ≤ most_cone_rows }
     ensures { IfOk result (λ v. v.items ≡ range_with_len 1 rows ++ columns.now) }
 {
     let mut labels = Vec::with_capacity(alloc, rows as usize + columns.len())?;
@@ -98,11 +99,11 @@ fn all_cells(
     rows: u32,
     constants: bool,
     width: usize,
-) -> Result<Vec<Num>, AllocError>
+) -> Result<Vec<Num>, OutOfMemory>
     requires rows { rows ≤ length sys.now.rows }
-    requires few { rows ≤ 4097 }
+    requires few { rows ≤ most_cone_rows }
     requires some { 0 < width }
-    requires narrow { width ≤ 257 }
+    requires narrow { width ≤ most_columns + 1 }
     ensures value { IfOk result (λ v. v.items ≡
         flat_map (λ i. row_cells constants (row_of sys.now.rows i).entries) (range_with_len 1 rows) ++
         flat_map (unit_row width) (range_with_len 1 (width - 1))) }
@@ -120,7 +121,7 @@ fn push_rows(
     sys: &System,
     rows: u32,
     constants: bool,
-) -> Result<(), AllocError>
+) -> Result<(), OutOfMemory>
     requires { rows ≤ length sys.now.rows }
     ensures value { OnOk result (cells.new.items ≡ cells.old.items ++
         flat_map (λ i. row_cells constants (row_of sys.now.rows i).entries) (range_with_len 1 rows)) }
@@ -133,7 +134,7 @@ fn push_rows(
 }
 
 // The cells of a row: without constants there is a 0 in front.
-fn push_row(cells: &mut Vec<Num>, row: &[Num], constants: bool) -> Result<(), AllocError>
+fn push_row(cells: &mut Vec<Num>, row: &[Num], constants: bool) -> Result<(), OutOfMemory>
     ensures { OnOk result (cells.new.items ≡ cells.old.items ++ row_cells constants row.now) }
 {
     if !constants {
@@ -143,7 +144,7 @@ fn push_row(cells: &mut Vec<Num>, row: &[Num], constants: bool) -> Result<(), Al
 }
 
 // The rows of the coordinates: each is 1 in its own column.
-fn push_units(cells: &mut Vec<Num>, width: usize) -> Result<(), AllocError>
+fn push_units(cells: &mut Vec<Num>, width: usize) -> Result<(), OutOfMemory>
     requires { 0 < width }
     ensures { OnOk result (cells.new.items ≡ cells.old.items ++
         flat_map (unit_row width) (range_with_len 1 (width - 1))) }
@@ -154,7 +155,7 @@ fn push_units(cells: &mut Vec<Num>, width: usize) -> Result<(), AllocError>
     Ok(())
 }
 
-fn push_unit(cells: &mut Vec<Num>, width: usize, c: usize) -> Result<(), AllocError>
+fn push_unit(cells: &mut Vec<Num>, width: usize, c: usize) -> Result<(), OutOfMemory>
     ensures { OnOk result (cells.new.items ≡ cells.old.items ++ unit_row width c) }
 {
     for j in 0..width {

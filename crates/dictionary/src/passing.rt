@@ -41,7 +41,7 @@ fn inside(cells: &[Num], x: &Exchange, i: usize, j: usize) -> Option<Num>
     )
 }
 
-// The first column of row i at which the exchange passes.
+// A column of row i at which the exchange passes, if there is one.
 fn passing_in_row(cells: &[Num], x: &Exchange, i: usize) -> Option<usize>
     requires size { length cells.now ≡ x.now.height * x.now.width }
     requires row { x.now.row < x.now.height }
@@ -65,7 +65,7 @@ fn passing_in_row(cells: &[Num], x: &Exchange, i: usize) -> Option<usize>
     None
 }
 
-/// The first place at which the exchange passes.
+/// A place at which the exchange passes, if there is one.
 pub fn passing(cells: &[Num], x: &Exchange) -> Option<Spot>
     requires size { length cells.now ≡ x.now.height * x.now.width }
     requires row { x.now.row < x.now.height }

@@ -2,9 +2,9 @@
 ghost use Rattle.std.specs.Prelude.{◌≡◌, IfOk, length};
 
 use crate::Dict;
-use poly_model::{Key, Kind, Label, Overflow, Phase, Place, RowKind, System};
+use poly_model::{Key, Kind, Label, OutOfMemory, Overflow, Phase, Place, RowKind, System};
 use poly_num::Num;
-use std::alloc::{AllocError, Global};
+use std::alloc::Global;
 use std::test::Fail;
 
 const X0: Label = Label(8192);
@@ -31,8 +31,13 @@ fn num(value: i128) -> Num {
     Num::new(value).unwrap_or(Num::ZERO)
 }
 
-/// The cone of an H file of two rows: they, and the row at infinity.
-fn system(alloc: Global, first: [i128; 3], second: [i128; 3]) -> Result<System, AllocError> {
+/// The cone of an H file of two rows: they, and the row at infinity. The first may be linear.
+fn system(
+    alloc: Global,
+    first: [i128; 3],
+    linear: bool,
+    second: [i128; 3],
+) -> Result<System, OutOfMemory> {
     let [a, b, c] = first;
     let [d, e, f] = second;
     let cells = Vec::from_slice(
@@ -49,7 +54,7 @@ fn system(alloc: Global, first: [i128; 3], second: [i128; 3]) -> Result<System, 
             Num::ZERO,
         ],
     )?;
-    let linear = Vec::from_slice(alloc, &[false, false, false])?;
+    let linear = Vec::from_slice(alloc, &[linear, false, false])?;
     let kinds = Vec::from_slice(alloc, &[RowKind::Ray, RowKind::Ray, RowKind::Ray])?;
     Ok(System::new(Kind::H, 3, cells, linear, kinds))
 }
@@ -143,8 +148,8 @@ struct Outcome {
     first_again: [Option<i128>; 3],
 }
 
-fn outcome_of(alloc: Global, case: &Case) -> Result<Outcome, AllocError> {
-    let sys = system(alloc, case.first, case.second)?;
+fn outcome_of(alloc: Global, case: &Case) -> Result<Outcome, OutOfMemory> {
+    let sys = system(alloc, case.first, false, case.second)?;
     let mut dict = Dict::new(alloc, &sys, Phase::Prepare)?;
     let pivoted = pivot(&mut dict, case.row, case.col);
     let (key, denominator) = (dict.key(), dict.denominator().get());
@@ -190,7 +195,7 @@ fn pivots_worked_out_by_hand(rt: HostRuntime) -> Result<(), Fail> {
 fn refuses_what_passes(rt: HostRuntime) -> Result<(), Fail> {
     let alloc = rt.alloc();
     let (first, second) = ([0, 1 << 64, 1], [0, 1, 1 << 64]);
-    let sys = system(alloc, first, second)?;
+    let sys = system(alloc, first, false, second)?;
     let mut dict = Dict::new(alloc, &sys, Phase::Prepare)?;
     let key = dict.key();
     assert_eq!(rt; key.labels(), [8193, 8194].as_slice());
@@ -218,7 +223,7 @@ fn refuses_what_passes(rt: HostRuntime) -> Result<(), Fail> {
 #[test]
 fn the_cone_has_no_constants(rt: HostRuntime) -> Result<(), Fail> {
     let alloc = rt.alloc();
-    let sys = system(alloc, [1, 2, -3], [0, 0, 1])?;
+    let sys = system(alloc, [1, 2, -3], false, [0, 0, 1])?;
     let dict = Dict::new(alloc, &sys, Phase::Cone)?;
     assert_eq!(rt; dict.phase(), Phase::Cone);
     assert_eq!(rt; dict.key().labels(), [8192, 8193, 8194].as_slice());
@@ -228,5 +233,69 @@ fn the_cone_has_no_constants(rt: HostRuntime) -> Result<(), Fail> {
     let mut other = dict.copy()?;
     dict.copy_into(&mut other);
     assert_eq!(rt; other.key(), dict.key());
+    Ok(())
+}
+
+#[test]
+fn the_main_phase_has_no_equation(rt: HostRuntime) -> Result<(), Fail> {
+    let sys = system(rt.alloc(), [0, 1, -1], true, [3, 2, 1])?;
+    let mut dict = Dict::new(rt.alloc(), &sys, Phase::Prepare)?;
+    assert_eq!(rt; pivot(&mut dict, Label(1), X1), Some(Ok(())));
+    let main = dict.to_main(&sys, &[])?;
+    assert_eq!(rt; main.phase(), Phase::Main);
+    assert_eq!(rt; main.key().labels(), [8194].as_slice());
+    assert_eq!(rt; main.denominator(), Num::ONE);
+    assert_eq!(rt; constant(&main, Label(1)), None);
+    assert_eq!(rt;
+        (constant(&main, Label(2)), entry(&main, Label(2), X2)),
+        (Some(3), Some(3))
+    );
+    assert_eq!(rt;
+        (constant(&main, X1), entry(&main, X1, X2)),
+        (Some(0), Some(1))
+    );
+    Ok(())
+}
+
+/// The cone of an H file of one row, `1 2 3 .. n`: it, and the row at infinity.
+fn wide(alloc: Global, n: u32) -> Result<System, Fail> {
+    let mut cells = Vec::new(alloc);
+    for j in 0..n {
+        cells.push(num(i128::from(j) + 1))?;
+    }
+    for j in 0..n {
+        cells.push(num(if j == 0 { 1 } else { 0 }))?;
+    }
+    if n == 0 || n > 256 || cells.len() != 2 * n as usize {
+        return Err("few columns, and two rows")?;
+    }
+    let linear = Vec::from_slice(alloc, &[false, false])?;
+    let kinds = Vec::from_slice(alloc, &[RowKind::Ray, RowKind::Ray])?;
+    Ok(System::new(Kind::H, n, cells, linear, kinds))
+}
+
+/// A row of a dictionary: its constant, and its entries at the labels of the cobasis.
+fn row_of(alloc: Global, dict: &Dict, row: Label) -> Result<Vec<Option<i128>>, OutOfMemory> {
+    let mut numbers = Vec::new(alloc);
+    numbers.push(constant(dict, row))?;
+    let key = dict.key();
+    for label in key.labels() {
+        numbers.push(entry(dict, row, Label(*label)))?;
+    }
+    Ok(numbers)
+}
+
+#[test]
+fn copies_a_hundred_columns(rt: HostRuntime) -> Result<(), Fail> {
+    let sys = wide(rt.alloc(), 100)?;
+    let dict = Dict::new(rt.alloc(), &sys, Phase::Prepare)?;
+    let copy = dict.copy()?;
+    assert_eq!(rt; copy.key().len(), 99);
+    assert_eq!(rt; copy.key(), dict.key());
+    assert_eq!(rt; copy.phase(), dict.phase());
+    assert_eq!(rt; copy.denominator(), dict.denominator());
+    let row = row_of(rt.alloc(), &copy, Label(1))?;
+    assert_eq!(rt; row, row_of(rt.alloc(), &dict, Label(1))?);
+    assert_eq!(rt; row.len(), 100);
     Ok(())
 }

@@ -1,9 +1,9 @@
 -- From the space of the file's rows to the main space, where the equations hold and the free
 -- coordinates are 0.
-use Rattle.std.specs.Prelude.{ℕ, ◌-◌, Bool, not, if◌then◌else◌, List, length}
-use Rattle.std.specs.List.{Contains, filter, range_with_len}
+use Rattle.std.specs.Prelude.{ℕ, ◌-◌, Bool, not, if◌then◌else◌, List}
+use Rattle.std.specs.List.{Contains, filter}
 use Rattle.poly_model.specs.FreeColumns.{AreFreeColumns}
-use Rattle.poly_model.specs.Systems.{row_of, Polyhedron, file_rows, cone_of}
+use Rattle.poly_model.specs.Systems.{row_of, Polyhedron, cone_of}
 use Rattle.poly_model.specs.Spaces.{coordinate_label, is_row, is_member, prepare_space, main_space, HasPoints}
 use Rattle.poly_model.specs.Dictionaries.{Table, IsCobasis, Writes}
 use Rattle.poly_model.specs.Equations.{HasPointOn, equation_labels}

@@ -1,5 +1,5 @@
 -- A point row has the entry 0 in a column exactly where it is tight at the vector of the column.
-use Rattle.std.proofs.Common.{◌≡◌, ◌≢◌, ◌↔◌, ℕ, suc, ◌-◌, ◌≤◌, ◌<◌, true, ℤ, pos, ◌*ℤ◌, ◌<ℤ◌, length, get_or, refl, sym, ap, subst, ◌∙◌, arith}
+use Rattle.std.proofs.Common.{◌≡◌, ◌≢◌, ◌↔◌, ℕ, suc, ◌-◌, ◌≤◌, ◌<◌, true, ℤ, pos, ◌*ℤ◌, ◌<ℤ◌, length, refl, sym, ap, subst, ◌∙◌, arith}
 use Rattle.std.specs.List.{Contains}
 use Rattle.std.proofs.lemmas.Bool.{lt-ltb, cond-true}
 use Rattle.std.proofs.lemmas.List.{get_or_default}
@@ -11,6 +11,7 @@ use Rattle.poly_num.proofs.Order.{zero_factor}
 use Rattle.poly_model.specs.declared.kind.Kind.{Kind}
 use Rattle.poly_model.specs.declared.kind.Kind.TheVariants.{H, V}
 use Rattle.poly_model.specs.Systems.{Row, row_of, no_row, Polyhedron, cone_of}
+use Rattle.poly_model.proofs.RowLemmas.{row_from_one}
 use Rattle.poly_model.specs.Cones.{coordinate}
 use Rattle.poly_model.specs.Extreme.{TouchesPoint, IsShown}
 use Rattle.poly_model.specs.Spaces.{Space, is_row, label_form}
@@ -52,7 +53,8 @@ module _ (p : Polyhedron) (space : Space) (d : Dictionary) (is : IsDictionaryIn 
       let within = t.within in
       record {
         row = row_of (cone_of p).rows i;
-        within = Contains-get_or (cone_of p).rows (i - 1) no_row (omega arith);
+        within = subst (Contains (cone_of p).rows) (sym (row_from_one (cone_of p).rows i from_one))
+            (Contains-get_or (cone_of p).rows (i - 1) no_row (omega arith));
         point = t.point;
         tight = zero_there d.denominator _ (Table.entry (table_of d) i col) (space.form col · z)
             (not_zero d.denominator is.dictionary.writes.positive)
@@ -64,9 +66,8 @@ module _ (p : Polyhedron) (space : Space) (d : Dictionary) (is : IsDictionaryIn 
       let m = t.within.0 in
       let lt : m < length (cone_of p).rows = t.within.1 in
       let i = suc m in
-      let place : i - 1 ≡ m = omega arith in
       let same : row_of (cone_of p).rows i ≡ t.row =
-      ap (λ k. get_or (cone_of p).rows k no_row) place ∙ get_or_default (cone_of p).rows m no_row t.row lt ∙ t.within.2 in
+      get_or_default (cone_of p).rows m no_row t.row lt ∙ t.within.2 in
       let point : (row_of (cone_of p).rows i).point ≡ true = ap (λ (r : Row). r.point) same ∙ t.point in
       let within : i ≤ length (cone_of p).rows = omega arith in
       let label = points i (omega arith) within point in (

@@ -17,7 +17,7 @@ use Rattle.linear_laws.proofs.Entries.{coordinate_reads}
 use Rattle.dictionary_laws.specs.Coordinates.{first_coordinate}
 use Rattle.dictionary_laws.proofs.Filters.{filter_only, filter_kept, range_only, range_has, map_only, map_has, member_has}
 use Rattle.dictionary_laws.proofs.CoordinateSpaces.{coordinate_form}
-use Rattle.dictionary_laws.proofs.MainRows.{same_in_cone}
+use Rattle.dictionary.proofs.ConeRows.{row_in_cone}
 use Rattle.hull_lift.proofs.ColumnNumbers.{form_of_coordinate}
 
 -- y over the coordinates of the cone: the coordinates and labels of the space have their values there
@@ -62,7 +62,7 @@ same_form p first n k c =
     let l = r.0 in
     let h = r.1 in
     cond-true (is_row k) (row_of (file_rows p) k).entries (coordinate (k - 8192)) e
-    ∙ ap (λ (row : Row). row.entries) (sym (same_in_cone p (k - 1) (omega arith)))
+    ∙ ap (λ (row : Row). row.entries) (sym (row_in_cone p k l (omega arith)))
     ∙ sym (cond-true (is_row k) (row_of (cone_of p).rows k).entries (coordinate (k - 8192)) e))
     (λ (e : is_row k ≡ false).
     cond-false (is_row k) (row_of (file_rows p) k).entries (coordinate (k - 8192)) e

@@ -1,18 +1,19 @@
 //! The cone of a polyhedron.
 ghost use Rattle.std.specs.Prelude.{◌≡◌, ◌<◌, ◌≤◌, ◌++◌, ◌∷◌, [], false, length, slice_index_or, IfOk};
 ghost use Rattle.std.specs.List.{list_any, All};
+ghost use Rattle.poly_model.specs.Limits.{most_file_rows};
 ghost use Rattle.poly_model.specs.Systems.{cone_of, first_unit, no_file_row, starts_positive};
 ghost use Rattle.poly_model.specs.Tables.{is_point_kind};
 ghost use Rattle.hull_lift.specs.Cells.{cells_of, HasWidth, linear_marks, vector_kind, row_kind, row_kinds, added_kind};
 
-use poly_model::{Kind, Poly, RowKind, System};
+use poly_model::{Kind, OutOfMemory, Poly, RowKind, System};
 use poly_num::Num;
-use std::alloc::{AllocError, Global};
+use std::alloc::Global;
 
 /// The cone of a polyhedron: the rows of the file, and behind them the row at infinity `1 0 .. 0` of
 /// an H file, or, where no row of a V file is a point, the origin `1 0 .. 0` as a point. Takes memory
 /// for the rows; the answer is `Err` only for want of memory.
-pub fn system_of(alloc: Global, poly: &Poly) -> Result<System, AllocError>
+pub fn system_of(alloc: Global, poly: &Poly) -> Result<System, OutOfMemory>
     ensures { IfOk result (λ s. s ≡ cone_of poly.now) }
 {
     let (kind, n) = (poly.kind(), poly.n());
@@ -29,7 +30,7 @@ pub fn system_of(alloc: Global, poly: &Poly) -> Result<System, AllocError>
 }
 
 // The entries of the rows, one row after the other, with room for one row more.
-fn cells_of(alloc: Global, poly: &Poly) -> Result<Vec<Num>, AllocError>
+fn cells_of(alloc: Global, poly: &Poly) -> Result<Vec<Num>, OutOfMemory>
     ensures value { IfOk result (λ v. v.items ≡ cells_of poly.now.rows) }
     ensures width { IfOk result (λ v. All (HasWidth poly.now.n) poly.now.rows) }
 {
@@ -52,9 +53,9 @@ fn row_at(poly: &Poly, i: u32) -> &[Num]
 }
 
 // For each row whether it is linear, with room for one row more.
-fn linear_marks(alloc: Global, poly: &Poly) -> Result<Vec<bool>, AllocError>
+fn linear_marks(alloc: Global, poly: &Poly) -> Result<Vec<bool>, OutOfMemory>
     ensures value { IfOk result (λ v. v.items ≡ linear_marks poly.now.rows) }
-    ensures few { IfOk result (λ v. length v.items ≤ 4096) }
+    ensures few { IfOk result (λ v. length v.items ≤ most_file_rows) }
 {
     let mut marks = Vec::with_capacity(alloc, poly.rows() as usize + 1)?;
     'rows: for i in 0..poly.rows() {
@@ -73,7 +74,7 @@ fn is_linear_at(poly: &Poly, i: u32) -> bool
 }
 
 // For each row whether it is a point or not, with room for one row more.
-fn row_kinds(alloc: Global, poly: &Poly) -> Result<Vec<RowKind>, AllocError>
+fn row_kinds(alloc: Global, poly: &Poly) -> Result<Vec<RowKind>, OutOfMemory>
     ensures { IfOk result (λ v. v.items ≡ row_kinds poly.now.kind poly.now.rows) }
 {
     let kind = poly.kind();
@@ -138,7 +139,7 @@ fn added_kind(kind: Kind) -> RowKind
 }
 
 // Appends `1 0 .. 0`, of n entries.
-fn append_first_unit(cells: &mut Vec<Num>, n: u32) -> Result<(), AllocError>
+fn append_first_unit(cells: &mut Vec<Num>, n: u32) -> Result<(), OutOfMemory>
     requires { 0 < n }
     ensures { IfOk result (λ x. cells.new.items ≡ cells.old.items ++ first_unit n) }
 {

@@ -2,6 +2,7 @@
 ghost use Rattle.std.specs.Prelude.{◌≡◌, ◌<◌, ◌≤◌, ◌↔◌, pos, length, IsTrue};
 ghost use Rattle.std.specs.List.{Contains};
 ghost use Rattle.poly_num.specs.Divisors.{MakesPrimitive, quotients, gcd_of_all};
+ghost use Rattle.poly_model.specs.Limits.{most_columns};
 ghost use Rattle.poly_model.specs.declared.kind.Kind.TheVariants.{V};
 ghost use Rattle.hull_lift.specs.Facets.{IsColumn, number_in, infinity_in, coordinate_in, column_of, HasPointRows, IsTouchedAt, IsShownAs, IsShownAt};
 
@@ -17,7 +18,7 @@ use poly_num::{Num, primitive};
 /// columns. Takes no memory.
 pub fn facet_row(dict: &Dict, col: Label, out: &mut [Num])
     requires column { IsColumn dict.now col.0 }
-    requires narrow { length out.old ≤ 256 }
+    requires narrow { length out.old ≤ most_columns }
     ensures value { out.new ≡ quotients (column_of dict.now col.0 (length out.old)) (pos (gcd_of_all (column_of dict.now col.0 (length out.old)))) }
     ensures primitive { MakesPrimitive (column_of dict.now col.0 (length out.old)) out.new }
 {
@@ -28,7 +29,7 @@ pub fn facet_row(dict: &Dict, col: Label, out: &mut [Num])
 // Writes the numbers of the coordinates in a column.
 fn write_column(dict: &Dict, col: Label, out: &mut [Num])
     requires column { IsColumn dict.now col.0 }
-    requires narrow { length out.old ≤ 256 }
+    requires narrow { length out.old ≤ most_columns }
     ensures { out.new ≡ column_of dict.now col.0 (length out.old) }
 {
     'coordinates: for j in 0..out.len() {
@@ -39,7 +40,7 @@ fn write_column(dict: &Dict, col: Label, out: &mut [Num])
 // The number of coordinate j in a column.
 fn coordinate_in(dict: &Dict, col: Label, j: u16) -> Num
     requires column { IsColumn dict.now col.0 }
-    requires narrow { j < 256 }
+    requires narrow { j < most_columns }
     ensures { result ≡ coordinate_in dict.now col.0 j }
 {
     let label = Label::coordinate(j);

@@ -7,9 +7,9 @@ ghost use Rattle.hull_lift.specs.Facets.{IsColumn, HasPointRows};
 use crate::tests::poly_of;
 use crate::{facet_row, is_shown, system_of};
 use dictionary::Dict;
-use poly_model::{Kind, Label, Phase, System};
+use poly_model::{Kind, Label, OutOfMemory, Phase, System};
 use poly_num::Num;
-use std::alloc::{AllocError, Global};
+use std::alloc::Global;
 use std::test::Fail;
 
 /// A file, the exchanges (a row and a column) that lead to a dictionary, and of a column of it the
@@ -183,7 +183,7 @@ fn vector_of(
     sys: &System,
     dict: &Dict,
     col: Label,
-) -> Result<Vec<i128>, AllocError> {
+) -> Result<Vec<i128>, OutOfMemory> {
     let mut entries = Vec::new(alloc);
     if is_column(dict, col) {
         let mut out = Vec::new(alloc);

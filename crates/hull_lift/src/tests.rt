@@ -2,7 +2,7 @@
 ghost use Rattle.std.specs.Prelude.{◌≡◌, ◌<◌};
 
 use crate::system_of;
-use poly_model::{Kind, Poly, System};
+use poly_model::{Kind, MOST_COLUMNS, MOST_FILE_ROWS, Poly, System};
 use poly_num::Num;
 use std::alloc::{AllocFailed, Global};
 use std::test::Fail;
@@ -148,7 +148,7 @@ pub(crate) fn poly_of(
         cells.push(Num::new(*x).ok_or("a number of 127 bits")?)?;
     }
     let linear = Vec::from_slice(alloc, linear)?;
-    if n == 0 || n > 256 || linear.len() > 4096 {
+    if n == 0 || n > MOST_COLUMNS || linear.len() > MOST_FILE_ROWS as usize {
         return Err("few rows, and narrow ones")?;
     }
     if cells.len() != linear.len() * n as usize {

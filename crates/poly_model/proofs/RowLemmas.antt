@@ -1,6 +1,6 @@
 -- Rows counted from 1, as members of their list.
 use Rattle.std.proofs.Common.{◌≡◌, ℕ, zero, suc, ◌-◌, ◌<◌, List, ◌∷◌, get_or, arith, refl, ap}
-use Rattle.poly_model.specs.Systems.{FileRow, Row, Polyhedron, no_file_row, no_row, file_row, row_of}
+use Rattle.poly_model.specs.Systems.{Row, Polyhedron, no_file_row, no_row, file_row, row_of}
 
 behind_first : {A : Type 0} (x d : A) (xs : List A) (i : ℕ) → 0 < i → get_or (x ∷ xs) i d ≡ get_or xs (i - 1) d
 behind_first x d xs zero some = absurd (omega arith)

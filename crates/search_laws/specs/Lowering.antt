@@ -1,10 +1,11 @@
--- Steps that lower a row: as long as it is negative in some column, the neighbour in the least such column is taken.
-use Rattle.std.specs.Prelude.{◌≡◌, ◌⊎◌, ℕ, zero, suc, pos, ◌<ℤ◌, ◌≤ℤ◌, List}
+-- What steps that lower a row come to: the row falls, and the steps end at one cobasis.
+use Rattle.std.specs.Prelude.{◌≡◌, ◌⊎◌, ℕ, pos, ◌<ℤ◌, List}
 use Rattle.std.specs.List.{Contains}
 use Rattle.poly_model.specs.Spaces.{Space}
 use Rattle.poly_model.specs.Dictionaries.{Table, IsDictionary}
-use Rattle.poly_model.specs.LexOrder.{IsPositive, gaps, rows_in, IsEarlier, list_of}
+use Rattle.poly_model.specs.LexOrder.{IsPositive, gaps, rows_in, list_of}
 use Rattle.poly_model.specs.Tree.{IsRowDictionary, IsLexFeasible, IsNeighbour}
+use Rattle.poly_model.specs.Lowering.{IsLoweringStep, IsLowest, IsDescent}
 use Rattle.dictionary_laws.specs.Keys.{AreDistinct}
 
 -- in a column in which row q is negative there is a neighbour. Where it is feasible, q is in its key, or the list of q
@@ -20,7 +21,7 @@ NeighboursLowerRow =
     (space : Space) (root key : List ℕ) (t : Table) → IsRowDictionary space key t → (q s : ℕ) →
     Contains (rows_in space.labels) q → Contains key s → t.entry q s <ℤ pos 0 → LowersRow space root key t q s
 
--- so it is where q is in the key, with the constant 0
+-- a row is lowest where it is in the key, with the constant 0
 abbrev pub RowInKeyIsLowest : Type 0
 RowInKeyIsLowest =
     (space : Space) (key : List ℕ) (t : Table) → IsRowDictionary space key t → (q : ℕ) → Contains key q →

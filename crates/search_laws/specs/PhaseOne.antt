@@ -5,7 +5,8 @@ use Rattle.poly_num.specs.Vectors.{Vector, ◌·◌}
 use Rattle.poly_model.specs.Spaces.{Space, IsInside, lift_of, lifted}
 use Rattle.poly_model.specs.Dictionaries.{Table}
 use Rattle.poly_model.specs.LexOrder.{rows_in}
-use Rattle.poly_model.specs.Tree.{IsRowDictionary, IsRowOutside, IsFeasibleRoot, exchanged_key}
+use Rattle.poly_model.specs.PhaseOne.{IsWorst}
+use Rattle.poly_model.specs.Tree.{IsRowDictionary, IsFeasibleRoot, exchanged_key}
 
 -- the number 0 is left to t
 abbrev pub HasNoRowZero : Space → Type 0

@@ -11,6 +11,7 @@ use Rattle.poly_model.specs.Systems.{Row, no_row, row_of, first_unit, Polyhedron
 use Rattle.poly_model.specs.Cones.{coordinate, Meets, IsTight}
 use Rattle.poly_model.specs.Spaces.{Space, coordinate_label, is_row, is_left, label_form, labels_of, linear_rows, cut_space}
 use Rattle.cone_laws.specs.Faces.{fixed_rows}
+use Rattle.poly_model.proofs.RowLemmas.{row_from_one}
 use Rattle.dictionary_laws.proofs.Filters.{filter_only, filter_kept, range_only, range_has, map_only}
 
 -- ---- the fixed rows
@@ -62,7 +63,7 @@ module _ (rows cone : List Row)
     (same : (m : ℕ) → m < length rows → get_or cone m no_row ≡ get_or rows m no_row)
     (few : length rows < 8192) (j n : ℕ) where
   same_row : (i : ℕ) → 1 ≤ i → i < 1 + length rows → row_of cone i ≡ row_of rows i
-  same_row i l h = same (i - 1) (omega arith)
+  same_row i l h = row_from_one cone i l ∙ same (i - 1) (omega arith) ∙ sym (row_from_one rows i l)
 
   row_number : (i : ℕ) → Contains (labels_of (length rows) j n) i → is_row i ≡ true →
       (1 ≤ i) × (i < 1 + length rows)
@@ -112,17 +113,13 @@ module _ (rows cone : List Row)
     pub rows_from_forms : ((i : ℕ) → Contains (left_rows cone (length rows) j n) i → P (label_form rows i)) →
         (m : ℕ) → m < length rows → (get_or rows m no_row).linear ≡ false → P (get_or rows m no_row).entries
     rows_from_forms h m l e =
-        subst (λ (k : ℕ). P (get_or rows k no_row).entries) back
-        (subst P (other_form (suc m) o) (h (suc m) (other_has (suc m) o)))
+        subst P (other_form (suc m) o) (h (suc m) (other_has (suc m) o))
       where
-        back : suc m - 1 ≡ m
-        back = omega arith
-
         o : IsOther rows (suc m)
         o = record {
           some = omega arith;
           within = omega (arith, l);
-          other = ap (λ (k : ℕ). (get_or rows k no_row).linear) back ∙ e;
+          other = e;
         }
 
     pub forms_from_rows : ((m : ℕ) → m < length rows → (get_or rows m no_row).linear ≡ false →
@@ -131,7 +128,10 @@ module _ (rows cone : List Row)
         let o = other_only i c in
         let l = o.some in
         let k = o.within in
-        subst P (sym (other_form i o)) (h (i - 1) (omega arith) o.other)
+        let here = row_from_one rows i l in
+        subst P (sym (other_form i o))
+        (subst (λ (row : Row). P row.entries) (sym here)
+        (h (i - 1) (omega arith) (ap (λ (row : Row). row.linear) (sym here) ∙ o.other)))
 
 -- ---- the space, and its rows at a vector
 -- the main space of a polyhedron of this kind

@@ -7,7 +7,7 @@ use Rattle.poly_model.specs.Keys.{IsAscending}
 use Rattle.poly_model.specs.Systems.{Polyhedron, cone_of}
 use Rattle.poly_model.specs.FreeColumns.{AreFreeColumns}
 use Rattle.poly_model.specs.Extreme.{IsShown, IsExtreme}
-use Rattle.poly_model.specs.Spaces.{Space, main_space, lifted}
+use Rattle.poly_model.specs.Spaces.{Space, main_space, lifted, in_main}
 use Rattle.poly_model.specs.LexOrder.{rows_in}
 use Rattle.poly_model.specs.Tree.{IsExtremeIn}
 use Rattle.dictionary_laws.specs.Keys.{AreDistinct}

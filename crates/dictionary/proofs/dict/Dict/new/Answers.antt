@@ -1,6 +1,7 @@
 use Rattle.std.proofs.Common.{◌≡◌, ◌≤◌, ◌<◌, ◌+◌, ◌-◌, ◌++◌, ℕ, suc, length, arith, ap, sym, subst, ◌∙◌}
 use Rattle.std.proofs.lemmas.Bool.{false≢true}
 use Rattle.std.specs.List.{flat_map, range_with_len}
+use Rattle.poly_model.specs.Limits.{most_columns}
 use Rattle.poly_model.specs.Systems.{row_of}
 use Rattle.dictionary_laws.specs.Coordinates.{coordinate_key}
 use Rattle.dictionary.specs.Views.{Dictionary, IsWhole}
@@ -17,7 +18,7 @@ invariant_of-result-2 c =
     let em = c.row_count-rows.ensures.value ∙ ap (λ t. row_count t (length sys.rows)) b in
     let few = c.row_count-rows.ensures.few in
     let some = subst (λ (n : ℕ). 0 < n) c.n.ensures.value c.n.ensures.some in
-    let narrow = subst (λ (n : ℕ). n ≤ 256) c.n.ensures.value c.n.ensures.narrow in
+    let narrow = subst (λ (n : ℕ). n ≤ most_columns) c.n.ensures.value c.n.ensures.narrow in
     let widths = c.in_ok-cells.ensures.widths in
     let columns = c.in_ok-columns.ensures.value
     ∙ ap (λ t. coordinate_key (first_label t) c.n.result) b
@@ -47,7 +48,7 @@ returns c =
     let em = c.row_count-rows.ensures.value ∙ ap (λ t. row_count t (length sys.rows)) b in
     let few = c.row_count-rows.ensures.few in
     let some = subst (λ (n : ℕ). 0 < n) c.n.ensures.value c.n.ensures.some in
-    let narrow = subst (λ (n : ℕ). n ≤ 256) c.n.ensures.value c.n.ensures.narrow in
+    let narrow = subst (λ (n : ℕ). n ≤ most_columns) c.n.ensures.value c.n.ensures.narrow in
     let widths = c.in_ok-cells.ensures.widths in
     let columns = c.in_ok-columns.ensures.value
     ∙ ap (λ t. coordinate_key (first_label t) c.n.result) b

@@ -1,6 +1,7 @@
 use Rattle.std.proofs.Common.{◌≤◌, suc, [], length, arith, sym, ap, subst, ◌∙◌}
 use Rattle.std.proofs.lemmas.Bool.{false≢true}
 use Rattle.std.specs.List.{filter}
+use Rattle.poly_model.specs.Limits.{most_cone_rows}
 use Rattle.poly_model.specs.Keys.{IsKey}
 use Rattle.poly_model.specs.declared.overflow.Phase.TheVariants.{Main}
 use Rattle.dictionary.specs.Views.{Dictionary, IsWhole}
@@ -47,7 +48,7 @@ made c =
     made_main old c.args.sys.now free c.in_ok-labels.labels.items c.key_of-key.result c.in_ok-columns.columns.items
     c.self.inside.denominator c.in_ok-denominator.denominator c.in_ok-cells.cells.items c.divide_out.new.cells.items
     (subst (λ (d : Dictionary). IsWhole d) view c.self.invariant.1)
-    (subst (λ n. n ≤ 4097) c.rows-rows.ensures.value c.rows-rows.ensures.few)
+    (subst (λ n. n ≤ most_cone_rows) c.rows-rows.ensures.value c.rows-rows.ensures.few)
     (c.in_ok-labels.ensures ∙ ap (λ ks. filter (stays_in rows []) ks) (c.deref-5.ensures.value ∙ labels))
     (c.key_of-key.ensures ∙ c.deref-7.ensures.value ∙ c.in_ok-key_labels.ensures
     ∙ ap (λ ks. filter (stays_in rows free) ks) (c.labels.ensures.value ∙ ap (λ (d : Dictionary). d.key) view))
