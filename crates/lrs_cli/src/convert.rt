@@ -1,5 +1,5 @@
 //! `convert`: a file from the input, its listing to the output.
-ghost use Rattle.std.specs.Prelude.{◌≡◌, ◌⊎◌, ℕ};
+ghost use Rattle.std.specs.Prelude.{◌≡◌, ◌+◌, ◌⊎◌, ℕ};
 ghost use Rattle.std.specs.Io.KnownBytes.{IsAtEnd};
 ghost use Rattle.poly_io.specs.Causes.{Rose};
 ghost use Rattle.poly_io.specs.Taken.{TakesAtMost};
@@ -8,6 +8,7 @@ ghost use Rattle.poly_model.specs.Systems.{Polyhedron, cone_of};
 ghost use Rattle.poly_model.specs.Extreme.{IsFeasible};
 ghost use Rattle.poly_model.specs.Overflows.{Passes};
 ghost use Rattle.poly_reader.specs.declared.bad.BadFile.{BadFile};
+ghost use Rattle.poly_reader.specs.Limits.{most_file_bytes};
 ghost use Rattle.lrs_cli.specs.Answers.{Told, IsPolyhedral, IsBadFile, IsInfeasible, IsOverflow, IsListed, IsPartlyListed, WritesWhole, WritesPart, Lists, StopsListing, WritesNothing};
 
 use crate::status::Status;
@@ -32,7 +33,7 @@ pub fn convert<I: Source, O: Sink>(alloc: Global, input: &mut I, out: &mut O) ->
     ensures read { result ≡ Status.ReadFault → Rose (I.faults input.old) (I.faults input.new) }
     ensures write { result ≡ Status.WriteFault → Rose (O.faults out.old) (O.faults out.new) }
     ensures unwritten { WritesNothing result → out.new ≡ out.old }
-    ensures taken { TakesAtMost (I.left input.old) (I.left input.new) 67108865 }
+    ensures taken { TakesAtMost (I.left input.old) (I.left input.new) (most_file_bytes + 1) }
 {
     match read_poly(alloc, input) {
         Ok(poly) => print_listing(alloc, &poly, out),

@@ -1,10 +1,11 @@
 //! All that the program does, over any source and sink.
-ghost use Rattle.std.specs.Prelude.{◌≡◌, ℕ, map};
+ghost use Rattle.std.specs.Prelude.{◌≡◌, ◌+◌, ℕ, map};
 ghost use Rattle.std.specs.Io.KnownBytes.{IsAtEnd};
 ghost use Rattle.poly_io.specs.Causes.{Rose};
 ghost use Rattle.poly_io.specs.Taken.{TakesAtMost};
 ghost use Rattle.poly_model.specs.declared.overflow.Overflow.{Overflow as Passed};
 ghost use Rattle.poly_reader.specs.declared.bad.BadFile.{BadFile};
+ghost use Rattle.poly_reader.specs.Limits.{most_file_bytes};
 ghost use Rattle.command_line.specs.Lines.{IsAccepted};
 ghost use Rattle.lrs_cli.specs.Answers.{Told, IsPolyhedral, IsBadFile, IsInfeasible, IsOverflow, IsListed, IsPartlyListed, Lists, StopsListing, WritesNothing, Knows, HasNoObstacle, Ends};
 
@@ -34,7 +35,7 @@ pub fn lrs<I: Source, O: Sink>(alloc: Global, words: &[&str], input: &mut I, out
     ensures complete { IsAccepted (map (λ w. w.now) words.now) → Knows (I.left input.old) HasNoObstacle →
         ¬ (Rose (I.faults input.old) (I.faults input.new)) → ¬ (Rose (O.faults out.old) (O.faults out.new)) → Ends result }
     // Whatever the answer is, at most one byte more than a file may have was taken.
-    ensures taken { TakesAtMost (I.left input.old) (I.left input.new) 67108865 }
+    ensures taken { TakesAtMost (I.left input.old) (I.left input.new) (most_file_bytes + 1) }
 {
     match read_line(alloc, words) {
         Ok(Line::Convert) => convert(alloc, input, out),
