@@ -56,3 +56,4 @@ pub mod KnownHalfStrip
 pub mod KnownLists
 pub mod KnownSquareShown
 pub mod KnownHalfLine
+pub mod OneList
