@@ -43,6 +43,9 @@ pub mod ExtremesOfPoints
 pub mod MainExtremes
 pub mod AscendingRows
 pub mod ReverseSearch
+pub mod OneList
+pub mod TouchedVectors
+pub mod ListedVectors
 pub mod KnownTables
 pub mod KnownTests
 pub mod KnownSquare
@@ -56,4 +59,3 @@ pub mod KnownHalfStrip
 pub mod KnownLists
 pub mod KnownSquareShown
 pub mod KnownHalfLine
-pub mod OneList
