@@ -101,7 +101,7 @@ replicate-dot zero z = refl
 replicate-dot (suc m) [] = refl
 replicate-dot (suc m) (x ∷ z) = omega (arith, lin, zero_mul x, replicate-dot m z)
 
-first_unit_reads : (n : ℕ) (z : Vector) → first_unit n · z ≡ at 0 z
+pub first_unit_reads : (n : ℕ) (z : Vector) → first_unit n · z ≡ at 0 z
 first_unit_reads n [] = refl
 first_unit_reads n (x ∷ z) = omega (arith, ints, replicate-dot (n - 1) z)
 

@@ -2,6 +2,7 @@
 use Rattle.std.proofs.Common.{◌≡◌, ◌⊎◌, ⊎_elim, inl, inr, Bool, true, false, ℕ, ◌+◌, ◌-◌, ◌<◌, ◌≤◌, pos, [], map, length, length-append, refl, sym, subst, ◌∙◌, arith}
 use Rattle.std.specs.List.{Contains, range_with_len}
 use Rattle.std.proofs.lemmas.List.Elements.{Contains-append_cases}
+use Rattle.poly_model.specs.Limits.{most_columns}
 use Rattle.poly_model.specs.declared.kind.Kind.{Kind}
 use Rattle.poly_model.specs.declared.kind.Kind.TheVariants.{H, V}
 use Rattle.poly_model.specs.declared.overflow.Phase.{Phase}
@@ -55,7 +56,7 @@ row_count_within true m = omega arith
 row_count_within false m = omega arith
 
 module _ (sys : System) (phase : Phase) (d : Dictionary) (p : Polyhedron) (early : (phase ≡ Cone) ⊎ (phase ≡ Prepare))
-    (file : sys ≡ cone_of p) (some : 0 < p.n) (narrow : p.n ≤ 256) (few : length sys.rows < 8192) (new : IsNew sys phase d) where
+    (file : sys ≡ cone_of p) (some : 0 < p.n) (narrow : p.n ≤ most_columns) (few : length sys.rows < 8192) (new : IsNew sys phase d) where
   in_space : (space : Space) → IsSpaceOf p phase space → HasPoints space → IsDictionaryOf p d
   in_space space is points = record {
     few = subst (λ (s : System). length s.rows < 8192) file few;

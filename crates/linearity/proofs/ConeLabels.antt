@@ -15,7 +15,7 @@ use Rattle.poly_model.specs.Cones.{at, coordinate}
 use Rattle.poly_model.specs.Spaces.{Space, IsDirection, IsSpaceOf, coordinate_label, is_row, label_form, labels_of, with_constants, cut_space, cone_space, prepare_space}
 use Rattle.linear_laws.proofs.Entries.{coordinate_reads}
 use Rattle.dictionary_laws.proofs.Filters.{range_only, range_has, map_only, map_has}
-use Rattle.dictionary_laws.proofs.MainRows.{same_in_cone}
+use Rattle.dictionary.proofs.ConeRows.{row_in_cone}
 use Rattle.hull_lift.proofs.SpaceVectors.{with_front}
 
 -- coordinate 0 is no label: constants are read off the vectors there
@@ -120,10 +120,11 @@ module _ (p : Polyhedron) (kind : p.kind ≡ H) (few : length (cone_of p).rows <
   one_more : length (cone_of p).rows ≡ q + 1
   one_more = length-append (file_rows p) (added_row p.kind p.n (file_rows p)) ∙ ap (λ rows. q + length rows) added
 
-  last_row : (i : ℕ) → i - 1 ≡ q → (row_of (cone_of p).rows i).entries ≡ first_unit p.n
+  last_row : (i : ℕ) → i ≡ suc q → (row_of (cone_of p).rows i).entries ≡ first_unit p.n
   last_row i e =
-      let at_end : i - 1 ≡ q + 0 = omega arith in
-      ap (λ m. (get_or (cone_of p).rows m no_row).entries) at_end
+      let at_end : q ≡ q + 0 = omega arith in
+      ap (λ m. (row_of (cone_of p).rows m).entries) e
+      ∙ ap (λ m. (get_or (cone_of p).rows m no_row).entries) at_end
       ∙ ap (λ (row : Row). row.entries)
       (get_or-append-add (file_rows p) (added_row p.kind p.n (file_rows p)) 0 no_row)
       ∙ ap (λ rows. (get_or rows 0 no_row).entries) added
@@ -143,7 +144,7 @@ module _ (p : Polyhedron) (kind : p.kind ≡ H) (few : length (cone_of p).rows <
       let l = r.0 in
       let h = r.1 in
       cond-true (is_row k) (row_of (file_rows p) k).entries (coordinate (k - 8192)) e
-      ∙ ap (λ (row : Row). row.entries) (sym (same_in_cone p (k - 1) (omega arith)))
+      ∙ ap (λ (row : Row). row.entries) (sym (row_in_cone p k l (omega arith)))
       ∙ sym (cond-true (is_row k) (row_of (cone_of p).rows k).entries (coordinate (k - 8192)) e))
       (λ (e : is_row k ≡ false).
       cond-false (is_row k) (row_of (file_rows p) k).entries (coordinate (k - 8192)) e

@@ -1,14 +1,13 @@
 -- Whether the equations of a file have a common point, once the linear rows have been tried; and what is prepared once
 -- all rows have been.
-use Rattle.std.proofs.Common.{◌≡◌, ◌↔◌, inl, inr, Result, Err, refl, ℕ, ◌+◌, ◌<◌, ◌≤◌, true, false, List, [], length, sym, ap, subst, ◌∙◌, arith}
+use Rattle.std.proofs.Common.{◌≡◌, ◌↔◌, inr, Result, Err, refl, ℕ, ◌+◌, ◌<◌, ◌≤◌, false, List, [], length, sym, ap, subst, ◌∙◌, arith}
 use Rattle.std.specs.Prelude.{IsErrOf}
 use Rattle.std.specs.List.{Contains, filter}
-use Rattle.std.proofs.lemmas.Bool.{true_from_ne_false}
 use Rattle.poly_num.specs.Vectors.{Vector}
 use Rattle.poly_model.specs.declared.overflow.Phase.TheVariants.{Prepare}
+use Rattle.poly_model.specs.Limits.{most_columns, most_cone_rows}
 use Rattle.poly_model.specs.Keys.{IsAscending}
-use Rattle.poly_model.specs.declared.overflow.Overflow.{Overflow}
-use Rattle.poly_model.specs.Systems.{System, Polyhedron, row_of, cone_of}
+use Rattle.poly_model.specs.Systems.{System, Polyhedron, cone_of}
 use Rattle.poly_model.specs.FreeColumns.{AreFreeColumns, AreLinesOf}
 use Rattle.poly_model.specs.Spaces.{IsSpaceOf, HasPoints, IsStartCobasis, prepare_space, main_space}
 use Rattle.dictionary_laws.specs.Points.{AreSettled}
@@ -23,11 +22,10 @@ use Rattle.dictionary.specs.MainPhase.{EntersMainPhase}
 use Rattle.dictionary.specs.Views.{Dictionary, IsDictionaryIn, table_of}
 use Rattle.linearity.specs.Columns.{columns_in, coordinate_vectors}
 use Rattle.linearity.specs.Elimination.{IsDictionaryOf, IsEliminated}
-use Rattle.linearity.specs.Turns.{StopsAt}
 use Rattle.poly_model.specs.Equations.{AreConsistent}
-use Rattle.linearity.specs.Prepared.{HasNoConstants, PassesInOrder, IsUnreduced, IsReduced, IsPrepared}
+use Rattle.linearity.specs.Prepared.{HasNoConstants, IsUnreduced, IsReduced, IsPrepared}
 use Rattle.linearity.proofs.Beginnings.{begins_new}
-use Rattle.linearity.proofs.Tries.{overflows_at}
+use Rattle.linearity.proofs.KeyColumns.{column_only}
 use Rattle.linearity.proofs.LeftLines.{elimination_leaves_lines}
 use Rattle.linearity.proofs.MainStart.{few_in_file, row_within, row_is_equation, linear_equation, equations_settled, can_enter, is_start_of_main}
 
@@ -77,19 +75,6 @@ consistent_exactly p sys d file of e tried =
       λ zero. consistent_by_constants p d of e there (subst (λ s. HasNoConstants s d) file zero),
     )
 
--- a pivot of the first pass overflows: that of a linear row
-pub passes_at_equation : (p : Polyhedron) (sys : System) (i : ℕ) (old new : Dictionary) (o : Overflow) → sys ≡ cone_of p →
-    IsDictionaryOf p old → StopsAt sys false i old new o → PassesInOrder p o
-passes_at_equation p sys i old new o file of stops =
-    let over = stops.overflows.1 in
-    let at = overflows_at p new i stops.overflows.0 o (stops.before.dictionary p file of) over.can over.overflow in
-    record {
-      passes = at.0;
-      order = inl (subst (λ r. (row_of (cone_of p).rows r).linear ≡ true) (sym at.1)
-          (subst (λ (s : System). (row_of s.rows i).linear ≡ true) file
-          (true_from_ne_false (row_of sys.rows i).linear stops.tried)));
-    }
-
 -- ---- once all rows have been tried
 -- the answer: free columns, lines and dictionary of a dictionary at which the main space is entered
 pub is_prepared : (p : Polyhedron) (sys : System) (d new : Dictionary) (lines : List Vector) (free : List ℕ) → sys ≡ cone_of p →
@@ -98,7 +83,8 @@ pub is_prepared : (p : Polyhedron) (sys : System) (d new : Dictionary) (lines : 
 is_prepared p sys d new lines free file ascending reduced columns vectors main =
     let is = in_prepare p d reduced.of reduced.phase in
     let leaves = elimination_leaves_lines p d reduced.of ascending reduced.tried in
-    let can = can_enter p reduced.of.few d is ascending leaves.free reduced.consistent reduced.tried in
+    let can = can_enter p reduced.of.few d is (columns_in d.key) leaves.free (column_only d.key) reduced.consistent
+    (length (cone_of p).rows + 1) reduced.tried in
     let entered = main.enters p file is (subst (λ js. CanEnterMain p js d.key (table_of d)) (sym columns) can) in
     let same = vectors ∙ ap (λ (s : System). coordinate_vectors d s.n) file in
     record {
@@ -117,7 +103,7 @@ is_prepared p sys d new lines free file ascending reduced columns vectors main =
 -- ---- before any row has been tried
 -- the numbers of rows and of coordinates are those that a system tells
 pub begins_unreduced : (sys : System) (d : Dictionary) (p : Polyhedron) → sys ≡ cone_of p → {n rows : ℕ} → n ≡ sys.n →
-    0 < n → n ≤ 256 → rows ≡ length sys.rows → rows ≤ 4097 → IsNew sys Prepare d → IsUnreduced p d
+    0 < n → n ≤ most_columns → rows ≡ length sys.rows → rows ≤ most_cone_rows → IsNew sys Prepare d → IsUnreduced p d
 begins_unreduced sys d p file same some narrow count few new =
     let width = same ∙ ap (λ (s : System). s.n) file in
     let begun = begins_new sys Prepare d p (inr refl) file (omega arith) (omega arith) (omega arith) new in

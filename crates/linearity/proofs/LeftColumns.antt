@@ -1,26 +1,25 @@
 -- Where all rows have been tried: a coordinate is left in the key exactly where its column is free.
-use Rattle.std.proofs.Common.{◌≡◌, ◌≢◌, inl, inr, ⊎_elim, ℕ, ◌+◌, ◌-◌, ◌<◌, ◌≤◌, true, pos, ◌*ℤ◌, neg_ℤ, map, length, take, sym, ap, subst, ◌∙◌, arith}
+use Rattle.std.proofs.Common.{◌≡◌, ◌≢◌, inl, inr, ⊎_elim, ℕ, ◌+◌, ◌<◌, ◌≤◌, true, pos, neg_ℤ, map, length, take, sym, ap, subst, ◌∙◌, arith}
 use Rattle.std.specs.List.{All, Contains, slice_index_or}
 use Rattle.std.proofs.lemmas.Bool.{cases_lt}
 use Rattle.std.proofs.lemmas.List.{length-map}
 use Rattle.poly_num.specs.Vectors.{Vector, ◌·◌}
-use Rattle.poly_num.proofs.Order.{zero_factor, positive_nonzero}
+use Rattle.poly_num.proofs.Order.{positive_nonzero}
 use Rattle.poly_model.specs.Systems.{row_of, first_unit, Polyhedron, cone_of}
 use Rattle.poly_model.specs.Cones.{at, IsTight}
-use Rattle.poly_model.specs.Spaces.{coordinate_label, label_form}
+use Rattle.poly_model.specs.Spaces.{coordinate_label}
 use Rattle.poly_model.specs.Dictionaries.{Table}
-use Rattle.poly_model.specs.FreeColumns.{IsFree, IsLine}
+use Rattle.poly_model.specs.FreeColumns.{IsFree}
 use Rattle.linear_laws.proofs.Entries.{within_from_entry}
 use Rattle.linear_laws.proofs.Tails.{length-take}
-use Rattle.cone_laws.proofs.ColumnLemmas.{line_of_column}
-use Rattle.dictionary_laws.proofs.Members.{contains_or, sum_zero}
-use Rattle.dictionary_laws.proofs.Directions.{times_zero}
+use Rattle.dictionary_laws.proofs.Members.{contains_or}
 use Rattle.dictionary.specs.Views.{Dictionary, table_of}
 use Rattle.hull_lift.specs.Facets.{column_of}
 use Rattle.linearity.specs.Elimination.{IsDictionaryOf, IsEliminated}
-use Rattle.linearity.proofs.ConeLabels.{HasNoFirst, IsLevel}
-use Rattle.linearity.proofs.RowValues.{past_end, first_unit_reads, combined, row_form, coordinate_value, tight_rows, row_is_tight, level_from_tight}
+use Rattle.linearity.proofs.ConeLabels.{HasNoFirst}
+use Rattle.linearity.proofs.RowValues.{past_end, first_unit_reads, combined, row_form, coordinate_value, tight_rows}
 use Rattle.linearity.proofs.ConeReadings.{ReadsCone, cone_readings}
+use Rattle.linearity.proofs.FreeLabels.{free_in_key}
 
 module _ (p : Polyhedron) (d : Dictionary) (is : IsDictionaryOf p d) where
   abbrev reads : ReadsCone p d
@@ -108,48 +107,6 @@ module _ (p : Polyhedron) (d : Dictionary) (is : IsDictionaryOf p d) where
             left_here left_beyond (left_tight m none l);
       }
 
-    -- ---- a free column is left: otherwise each label of the key is 0 at its line, so that the line is 0
-    module _ (j : ℕ) (f : IsFree (cone_of p) j) (y : Vector) (line : IsLine (cone_of p) j y)
-        (out : Contains d.key (coordinate_label j) → ⊥) where
-      line_level : IsLevel d.labels y
-      line_level = let l = f.within in level_from_tight p d.labels reads.labels (omega arith) y line.vanishing
-
-      zero_in_key : (k : ℕ) → Contains d.key k → label_form (cone_of p).rows k · y ≡ pos 0
-      zero_in_key k c =
-          ⊎_elim
-          (λ (l : k < 8192).
-          let r = reads.labels.rows_only k (reads.inside k c) l in
-          ap (λ g. g · y) (row_form p k l) ∙ row_is_tight p y line.vanishing k r.0 r.1)
-          (λ (l : 8192 ≤ k).
-          let i : ℕ = k - 8192 in
-          let e_k : k ≡ coordinate_label i = omega arith in
-          let h : Contains d.key (coordinate_label i) = subst (Contains d.key) e_k c in
-          ap (λ t. label_form (cone_of p).rows t · y) e_k ∙ coordinate_value p i y
-          ∙ line.elsewhere i (free_from_left i h)
-          (λ (s : i ≡ j). out (subst (λ t. Contains d.key (coordinate_label t)) s h)))
-          (cases_lt k 8192)
-
-      zero_at_label : Contains d.labels (coordinate_label j) → at j y ≡ pos 0
-      zero_at_label h =
-          sym (coordinate_value p j y)
-          ∙ zero_factor d.denominator (label_form (cone_of p).rows (coordinate_label j) · y)
-          (reads.expands (coordinate_label j) h y line.width line_level
-          ∙ sum_zero d.key
-          (λ k. Table.entry (table_of d) (coordinate_label j) k *ℤ (label_form (cone_of p).rows k · y))
-          (λ k c. times_zero (Table.entry (table_of d) (coordinate_label j) k) (label_form (cone_of p).rows k · y)
-          (zero_in_key k c)))
-          (positive_nonzero d.denominator reads.positive)
-
-      no_line : ⊥
-      no_line =
-          positive_nonzero (at j y) line.here
-          (⊎_elim zero_at_label
-          (λ (h : (j ≡ 0) × HasNoFirst d.labels). ap (λ i. at i y) h.0 ∙ line_level h.1)
-          (reads.labels.each_coordinate j f.within))
-
+    -- ---- a free column is left
     pub left_from_free : (j : ℕ) → IsFree (cone_of p) j → Contains d.key (coordinate_label j)
-    left_from_free j f =
-        let line = line_of_column (cone_of p) j f in
-        ⊎_elim (λ (c : Contains d.key (coordinate_label j)). c)
-        (λ (out : Contains d.key (coordinate_label j) → ⊥). absurd (no_line j f line.one line.has out))
-        (contains_or d.key (coordinate_label j))
+    left_from_free = free_in_key p d is e.leftmost

@@ -7,8 +7,12 @@ pub mod ConeLabels
 pub mod ConeReadings
 pub mod RowValues
 pub mod KeyColumns
+pub mod FreeVectors
+pub mod FreeLabels
 pub mod LeftColumns
 pub mod LeftLines
 pub mod StartCobasis
 pub mod MainStart
+pub mod RowsInStart
 pub mod Consistency
+pub mod DueOverflows

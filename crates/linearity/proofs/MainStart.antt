@@ -1,18 +1,19 @@
--- What a dictionary of the file's rows says once rows have been tried: its equations are settled, and once all have
--- been tried, the labels that stay are the start cobasis of the main space.
+-- What a dictionary of the file's rows says once rows have been tried: its equations are settled; it can be read in the
+-- main space; and once all have been tried, the labels that stay are the start cobasis there.
 use Rattle.std.proofs.Common.{◌≡◌, ⊎_elim, inl, inr, ℕ, ◌+◌, ◌-◌, ◌<◌, ◌≤◌, true, false, List, [], ◌++◌, pos, map, length, length-append, refl, sym, ap, subst, ◌∙◌, arith}
 use Rattle.std.specs.Prelude.{not}
 use Rattle.std.specs.List.{Contains, filter, range_with_len}
-use Rattle.std.proofs.lemmas.Bool.{cases_Bool, cond-true, cond-false, lt-ltb, ltb-true, ltb-false, not-true, not_from_true, not_from_false, false_from_ne_true, true≢false}
+use Rattle.std.proofs.lemmas.Bool.{cases_Bool, cond-true, cond-false, lt-ltb, le-ltb, ltb-true, ltb-false, not-true, not_from_true, not_from_false, false_from_ne_true, true≢false}
 use Rattle.std.proofs.lemmas.List.Elements.{All-contains, Contains-append_cases}
 use Rattle.poly_num.specs.Vectors.{Vector}
 use Rattle.poly_model.specs.declared.kind.Kind.{Kind}
 use Rattle.poly_model.specs.declared.kind.Kind.TheVariants.{H, V}
 use Rattle.poly_model.specs.Keys.{IsAscending}
 use Rattle.poly_model.specs.Systems.{row_of, Row, Polyhedron, file_rows, added_row, cone_of}
+use Rattle.poly_model.proofs.RowLemmas.{row_from_one}
 use Rattle.poly_model.specs.FreeColumns.{AreFreeColumns}
 use Rattle.poly_model.specs.Cones.{coordinate}
-use Rattle.poly_model.specs.Spaces.{linear_rows, is_row, is_member, is_left, labels_of, cut_space, prepare_space, main_space, IsStartCobasis}
+use Rattle.poly_model.specs.Spaces.{coordinate_label, equations, is_row, is_member, is_left, labels_of, cut_space, prepare_space, main_space, IsStartCobasis}
 use Rattle.poly_model.specs.Dictionaries.{Table}
 use Rattle.dictionary_laws.specs.Coordinates.{coordinate_key}
 use Rattle.poly_model.specs.Equations.{HasPointOn}
@@ -20,12 +21,13 @@ use Rattle.dictionary_laws.specs.Points.{AreSettled}
 use Rattle.poly_model.specs.Equations.{equation_labels}
 use Rattle.dictionary_laws.specs.MainSpace.{stays, CanEnterMain, EntersMain}
 use Rattle.dictionary_laws.proofs.Members.{contains_or}
-use Rattle.dictionary_laws.proofs.Filters.{filter_only, filter_kept, range_only, member_has}
+use Rattle.dictionary_laws.proofs.Filters.{filter_only, filter_kept, range_only, member_only, member_has}
 use Rattle.dictionary_laws.proofs.CoordinateSpaces.{coordinate_keys}
 use Rattle.dictionary_laws.proofs.Values.{own_row}
-use Rattle.dictionary_laws.proofs.MainRows.{count_of_rows, same_in_cone, linear_in_file, equation_only, equation_has}
+use Rattle.dictionary_laws.proofs.MainRows.{count_of_rows, linear_in_file, equation_only, equation_has}
 use Rattle.dictionary_laws.proofs.MainSpace.{equation_in, main_dictionary}
 use Rattle.dictionary.specs.Views.{Dictionary, IsDictionaryIn, table_of}
+use Rattle.dictionary.proofs.ConeRows.{row_in_cone}
 use Rattle.dictionary.proofs.Beginnings.{ascending_range, ascending_joined}
 use Rattle.dictionary.proofs.KeptPlaces.{ascending_filter}
 use Rattle.linearity.specs.Columns.{columns_in}
@@ -80,24 +82,26 @@ module _ (p : Polyhedron) (few : length (cone_of p).rows < 8192) (d : Dictionary
   dict_label : (k : ℕ) → Contains (prepare_space p).labels k → Contains d.labels k
   dict_label k c = subst (λ ks. Contains ks k) (sym is.labels) c
 
+  pub key_in_labels : (k : ℕ) → Contains d.key k → Contains d.labels k
+  key_in_labels k c = dict_label k (key_label k c)
+
   -- a row of a label of the space, if it is linear, is an equation
   is_equation : (k : ℕ) → Contains (prepare_space p).labels k → is_row k ≡ true → (row_of rows k).linear ≡ true →
       Contains (equation_labels p) k
   is_equation k c r e =
-      let l = cut_row_label p.kind p k c r in
-      let within = linear_in_file p (k - 1) e in
+      let l = (cut_row_label p.kind p k c r).0 in
+      let within = linear_in_file p (k - 1) (ap (λ (row : Row). row.linear) (sym (row_from_one rows k l)) ∙ e) in
       equation_has p k (record {
-        some = omega (arith, l.0);
-        within = omega (arith, within, count_of_rows p, l.0);
-        linear = ap (λ (row : Row). row.linear) (sym (same_in_cone p (k - 1) within)) ∙ e;
+        some = omega arith;
+        within = omega (arith, within, count_of_rows p);
+        linear = ap (λ (row : Row). row.linear) (sym (row_in_cone p k l (omega arith))) ∙ e;
       })
 
   pub linear_equation : (i : ℕ) → Contains (equation_labels p) i → (row_of rows i).linear ≡ true
   linear_equation i c =
       let q = equation_only p i c in
-      let l = q.some in
       let m = q.within in
-      ap (λ (row : Row). row.linear) (same_in_cone p (i - 1) (omega (arith, count_of_rows p))) ∙ q.linear
+      ap (λ (row : Row). row.linear) (row_in_cone p i q.some (omega (arith, count_of_rows p))) ∙ q.linear
 
   -- the same of a label of the dictionary
   pub row_within : (i : ℕ) → Contains d.labels i → i < 8192 → i < length rows + 1
@@ -134,6 +138,70 @@ module _ (p : Polyhedron) (few : length (cone_of p).rows < 8192) (d : Dictionary
       (behind_equation i k c m n))
       (contains_or d.key i)
 
+  -- ---- rows before one of them have been tried, and the free columns are left
+  module _ (free : List ℕ) (columns : AreFreeColumns (cone_of p) free)
+      (inside : (j : ℕ) → Contains free j → Contains d.key (coordinate_label j))
+      (point : HasPointOn (prepare_space p) (equation_labels p)) (from : ℕ) (tried : IsEliminated rows true from d) where
+    pub can_enter : CanEnterMain p free d.key (table_of d)
+    can_enter = record {
+      columns = columns;
+      free_inside = inside;
+      settled = equations_settled (λ i c l e. tried.settled i c l (inl e));
+      point = point;
+    }
+
+    pub enters : EntersMain p free d.key (table_of d)
+    enters = main_dictionary p free d.key (table_of d) few_in_file is.dictionary can_enter
+
+    abbrev pub main_key : List ℕ
+    main_key = filter (stays p free) d.key
+
+    abbrev labels : List ℕ
+    labels = (main_space p free).labels
+
+    abbrev fixed : List Vector
+    fixed = map coordinate free ++ equations p
+
+    pub rows_ascend : IsAscending (filter is_row labels)
+    rows_ascend =
+        ascending_filter is_row labels (ascending_filter (is_left rows) (cut_space p.kind p fixed).labels
+        (subst IsAscending (sym (main_labels p.kind p fixed)) (cut_labels_ascend p.kind p few)))
+
+    -- a row is left, and stays in the key, where it is not linear
+    left_row : (i : ℕ) → Contains labels i → is_row i ≡ true → Contains (prepare_space p).labels i × ((row_of rows i).linear ≡ false)
+    left_row i c r =
+        let h = filter_only (is_left rows) (cut_space p.kind p fixed).labels i c in (
+          subst (λ ks. Contains ks i) (main_labels p.kind p fixed) h.0,
+          not-true (row_of rows i).linear (sym (cond-true (is_row i) (not (row_of rows i).linear) true r) ∙ h.1),
+        )
+
+    pub row_is_left : (i : ℕ) → Contains d.labels i → is_row i ≡ true → (row_of rows i).linear ≡ false → Contains labels i
+    row_is_left i c r e =
+        filter_kept (is_left rows) (cut_space p.kind p fixed).labels i
+        (subst (λ ks. Contains ks i) (sym (main_labels p.kind p fixed)) (subst (λ ks. Contains ks i) is.labels c))
+        (cond-true (is_row i) (not (row_of rows i).linear) true r ∙ not_from_false (row_of rows i).linear e)
+
+    pub row_stays : (k : ℕ) → Contains d.key k → is_row k ≡ true → (row_of rows k).linear ≡ false → Contains main_key k
+    row_stays k c r e =
+        filter_kept (stays p free) d.key k c
+        (cond-true (is_row k) (not (row_of rows k).linear) (not (is_member (k - 8192) free)) r
+        ∙ not_from_false (row_of rows k).linear e)
+
+    -- a coordinate stays where its column is not free
+    pub coordinate_stays : (k : ℕ) → Contains d.key k → 8192 ≤ k → (Contains free (k - 8192) → ⊥) → Contains main_key k
+    coordinate_stays k c high n =
+        filter_kept (stays p free) d.key k c
+        (cond-false (is_row k) (not (row_of rows k).linear) (not (is_member (k - 8192) free)) (le-ltb k 8192 high)
+        ∙ not_from_false (is_member (k - 8192) free)
+        (false_from_ne_true (is_member (k - 8192) free) (λ e. n (member_only (k - 8192) free e))))
+
+    -- a row that has been tried and is outside the key is 0 at the labels behind it
+    pub main_settled : (i : ℕ) → Contains labels i → is_row i ≡ true → i < from → (Contains main_key i → ⊥) →
+        (k : ℕ) → Contains d.key k → IsBehind rows i k → Table.entry (table_of d) i k ≡ pos 0
+    main_settled i c r l n k m behind =
+        let here = left_row i c r in
+        tried.settled i (dict_label i here.0) (ltb-true i 8192 r) (inr l) (λ q. n (row_stays i q r here.1)) k m behind
+
   -- ---- all rows have been tried
   module _ (ascending : IsAscending d.key) (free : AreFreeColumns (cone_of p) (columns_in d.key))
       (point : HasPointOn (prepare_space p) (equation_labels p))
@@ -141,16 +209,8 @@ module _ (p : Polyhedron) (few : length (cone_of p).rows < 8192) (d : Dictionary
     abbrev columns : List ℕ
     columns = columns_in d.key
 
-    pub can_enter : CanEnterMain p columns d.key (table_of d)
-    can_enter = record {
-      columns = free;
-      free_inside = column_only d.key;
-      settled = equations_settled (λ i c l e. done.settled i c l (inl e));
-      point = point;
-    }
-
-    enters : EntersMain p columns d.key (table_of d)
-    enters = main_dictionary p columns d.key (table_of d) few_in_file is.dictionary can_enter
+    abbrev main : EntersMain p columns d.key (table_of d)
+    main = enters columns free (column_only d.key) point (length rows + 1) done
 
     abbrev key : List ℕ
     key = filter (stays p columns) d.key
@@ -173,36 +233,17 @@ module _ (p : Polyhedron) (few : length (cone_of p).rows < 8192) (d : Dictionary
         absurd (true≢false (sym h.1 ∙ gone)))
         (cases_Bool (is_row k))
 
-    abbrev fixed : List Vector
-    fixed = map coordinate columns ++ linear_rows (file_rows p)
-
-    abbrev labels : List ℕ
-    labels = (main_space p columns).labels
-
-    -- a row among the labels that are left is not linear
-    left_row : (i : ℕ) → Contains labels i → is_row i ≡ true → Contains (prepare_space p).labels i × ((row_of rows i).linear ≡ false)
-    left_row i c r =
-        let h = filter_only (is_left rows) (cut_space p.kind p fixed).labels i c in (
-          subst (λ ks. Contains ks i) (main_labels p.kind p fixed) h.0,
-          not-true (row_of rows i).linear (sym (cond-true (is_row i) (not (row_of rows i).linear) true r) ∙ h.1),
-        )
-
-    settled : (i : ℕ) → Contains labels i → is_row i ≡ true → (Contains key i → ⊥) → (k : ℕ) → Contains key k →
-        i < k → Table.entry (table_of d) i k ≡ pos 0
+    settled : (i : ℕ) → Contains (main_space p columns).labels i → is_row i ≡ true → (Contains key i → ⊥) →
+        (k : ℕ) → Contains key k → i < k → Table.entry (table_of d) i k ≡ pos 0
     settled i c r n k m l =
-        let here = left_row i c r in
         let there = stays_row k m in
-        done.settled i (dict_label i here.0) (ltb-true i 8192 r)
-        (inr (let b = (cut_row_label p.kind p i here.0 r).1 in omega arith))
-        (λ q. n (filter_kept (stays p columns) d.key i q
-        (cond-true (is_row i) (not (row_of rows i).linear) (not (is_member (i - 8192) columns)) r
-        ∙ not_from_false (row_of rows i).linear here.1)))
-        k there.0 (inr (there.2, inr l))
+        let within = row_within k (key_in_labels k there.0) (ltb-true k 8192 there.1) in
+        main_settled columns free (column_only d.key) point (length rows + 1) done i c r (omega arith) n k there.0
+        (inr (there.2, inr l))
 
     pub is_start_of_main : IsStartCobasis (main_space p columns) key
     is_start_of_main =
-        is_start (main_space p columns) key (table_of d) enters.cobasis enters.writes settled
+        is_start (main_space p columns) key (table_of d) main.cobasis main.writes settled
         (ascending_filter (stays p columns) d.key ascending)
-        (λ k c. (All-contains (Contains labels) key k enters.cobasis.labels c, (stays_row k c).1))
-        (ascending_filter is_row labels (ascending_filter (is_left rows) (cut_space p.kind p fixed).labels
-        (subst IsAscending (sym (main_labels p.kind p fixed)) (cut_labels_ascend p.kind p few))))
+        (λ k c. (All-contains (Contains (main_space p columns).labels) key k main.cobasis.labels c, (stays_row k c).1))
+        (rows_ascend columns free (column_only d.key) point (length rows + 1) done)

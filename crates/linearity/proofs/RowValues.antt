@@ -1,7 +1,7 @@
 -- Values at a vector over the coordinates of a cone: of the row at infinity, of the forms of labels, of all rows; and
 -- how a vector at which a row is 0 combines the row's entries.
 use Rattle.std.proofs.Common.{◌≡◌, ℕ, zero, suc, ◌-◌, ◌<◌, ◌≤◌, ℤ, pos, ◌*ℤ◌, neg_ℤ, List, [], ◌∷◌, map, length, take, replicate, refl, sym, ap, subst, ◌∙◌, arith}
-use Rattle.std.specs.List.{All, slice_index_or}
+use Rattle.std.specs.List.{All}
 use Rattle.std.proofs.lemmas.Int.{ints}
 use Rattle.std.proofs.lemmas.Bool.{cond-true, lt-ltb}
 use Rattle.std.proofs.lemmas.List.{get_or_default}
@@ -9,6 +9,7 @@ use Rattle.poly_num.specs.Vectors.{Vector, ◌·◌}
 use Rattle.poly_num.proofs.Ring.{lin, zero_mul}
 use Rattle.poly_num.proofs.VectorLemmas.{dot_comm, dot-neg}
 use Rattle.poly_model.specs.Systems.{no_row, row_of, first_unit, Polyhedron, cone_of}
+use Rattle.poly_model.proofs.RowLemmas.{row_from_one}
 use Rattle.poly_model.specs.Cones.{at, coordinate, IsTight}
 use Rattle.poly_model.specs.Spaces.{coordinate_label, is_row, label_form}
 use Rattle.linear_laws.proofs.Entries.{coordinate_reads}
@@ -59,12 +60,12 @@ module _ (p : Polyhedron) where
       All (IsTight w) (cone_of p).rows
   tight_rows w h m none l =
       subst (IsTight w) (get_or_default (cone_of p).rows m no_row none l)
-      (subst (λ i. (slice_index_or (cone_of p).rows i no_row).entries · w ≡ pos 0) (omega arith)
-      (h (suc m) (omega arith) (omega arith)))
+      (h (suc m) (omega arith) (omega arith))
 
   pub row_is_tight : (w : Vector) → All (IsTight w) (cone_of p).rows → (i : ℕ) → 1 ≤ i →
       i ≤ length (cone_of p).rows → (row_of (cone_of p).rows i).entries · w ≡ pos 0
-  row_is_tight w t i l h = t (i - 1) no_row (omega arith)
+  row_is_tight w t i l h =
+      subst (IsTight w) (sym (row_from_one (cone_of p).rows i l)) (t (i - 1) no_row (omega arith))
 
   -- where all rows are tight, the vector is 0 at infinity
   pub level_from_tight : (labels : List ℕ) → HasConeLabels p labels → 0 < p.n → (w : Vector) →

@@ -1,12 +1,13 @@
--- A cobasis of rows is the start cobasis where each row outside it is 0 at the later rows of it.
-use Rattle.std.proofs.Common.{◌≡◌, ⊎_elim, inl, inr, ◌⊎◌, if◌then◌else◌, ◌*ℤ◌, ℕ, ◌<◌, Bool, true, false, List, [], ◌∷◌, ◌++◌, pos, map, refl, sym, ap, subst, ◌∙◌, arith}
+-- Which rows are in the start cobasis: a row is where at some vector it is not 0 and all before it are; and a cobasis of
+-- rows is the start cobasis where each row outside it is 0 at the later rows of it.
+use Rattle.std.proofs.Common.{◌≡◌, ◌≢◌, ⊎_elim, inl, inr, ◌⊎◌, if◌then◌else◌, ◌*ℤ◌, ℕ, ◌<◌, Bool, true, false, List, [], ◌∷◌, ◌++◌, pos, map, length, refl, sym, ap, subst, ◌∙◌, arith}
 use Rattle.std.specs.List.{AllByRecursion, Contains, filter}
 use Rattle.std.proofs.lemmas.Bool.{cases_Bool}
 use Rattle.poly_num.specs.Vectors.{Vector, ◌·◌}
 use Rattle.poly_num.proofs.Order.{zero_factor, positive_nonzero}
 use Rattle.poly_model.specs.Keys.{IsAscending}
-use Rattle.poly_model.specs.Independence.{Follows, IsNew, IsFirstBasis}
-use Rattle.poly_model.specs.Spaces.{Space, is_row, is_member, marked, IsStartCobasis}
+use Rattle.poly_model.specs.Independence.{Vanish, Follows, IsNew, IsFirstBasis}
+use Rattle.poly_model.specs.Spaces.{Space, IsDirection, is_row, is_member, marked, IsStartCobasis}
 use Rattle.poly_model.specs.Dictionaries.{Table, IsCobasis, Writes, sum_over}
 use Rattle.linear_laws.proofs.AllLemmas.{all_left, all_right, all_both, all_from_map, all_to_map}
 use Rattle.linear_laws.proofs.Members.{Contains-nil, Contains-first, Contains-later, all_at, less_or_equal, ascending_is_one}
@@ -27,6 +28,41 @@ marked_by_test test (k ∷ ks) = by (test k) (marked_by_test test ks)
     by true e = ap (λ l. k ∷ l) e
     by false e = e
 
+-- ---- a row that is not 0 where all before it are
+-- it is marked: otherwise it would follow from those taken before it
+is_marked : (n : ℕ) (form : ℕ → Vector) (before : List Vector) (ks : List ℕ) (ms : List Bool) →
+    IsFirstBasis n before (map form ks) ms → IsAscending ks → (k : ℕ) → Contains ks k → (y : Vector) → length y ≡ n →
+    Vanish before y → ((j : ℕ) → Contains ks j → j < k → form j · y ≡ pos 0) → form k · y ≢ pos 0 →
+    Contains (marked ks ms) k
+is_marked n form before [] ms f a k c y l v zero here = absurd (Contains-nil k c)
+is_marked n form before (x ∷ ks) [] f a k c y l v zero here = absurd f
+is_marked n form before (x ∷ ks) (true ∷ ms) f a k c y l v zero here =
+    ⊎_elim
+    (λ (e : k ≡ x). subst (Contains (x ∷ marked ks ms)) (sym e) (Contains-first x (marked ks ms)))
+    (λ (d : Contains ks k).
+    Contains-later k x (marked ks ms)
+    (is_marked n form (form x ∷ before) ks ms f.1 a.1 k d y l
+    (zero x (Contains-first x ks) (all_at (λ j. x < j) ks a.0 k d), v)
+    (λ j m. zero j (Contains-later j x ks m)) here))
+    (contains_cases x ks k c)
+is_marked n form before (x ∷ ks) (false ∷ ms) f a k c y l v zero here =
+    ⊎_elim
+    (λ (e : k ≡ x). absurd (here (ap (λ j. form j · y) e ∙ f.0 y l v)))
+    (λ (d : Contains ks k).
+    is_marked n form before ks ms f.1 a.1 k d y l v (λ j m. zero j (Contains-later j x ks m)) here)
+    (contains_cases x ks k c)
+
+pub start_has : (space : Space) (start : List ℕ) → IsStartCobasis space start → IsAscending (filter is_row space.labels) →
+    (k : ℕ) → Contains space.labels k → is_row k ≡ true → (y : Vector) → IsDirection space y →
+    ((j : ℕ) → Contains space.labels j → is_row j ≡ true → j < k → space.form j · y ≡ pos 0) →
+    space.form k · y ≢ pos 0 → Contains start k
+start_has space start h a k c r y direction zero here =
+    subst (λ ks. Contains ks k) (sym h.taken)
+    (is_marked space.n space.form (space.infinity ∷ space.fixed) (filter is_row space.labels) h.marks h.first a k
+    (filter_kept is_row space.labels k c r) y direction.inside.width (direction.level, direction.inside.fixed)
+    (λ j m. let q = filter_only is_row space.labels j m in zero j q.0 q.1) here)
+
+-- ---- a cobasis of rows
 module _ (space : Space) (key : List ℕ) (t : Table) (cobasis : IsCobasis space key) (w : Writes space key t)
     (settled : (i : ℕ) → Contains space.labels i → is_row i ≡ true → (Contains key i → ⊥) →
     (k : ℕ) → Contains key k → i < k → t.entry i k ≡ pos 0) where

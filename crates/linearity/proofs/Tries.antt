@@ -67,7 +67,7 @@ pub overflows : (p : Polyhedron) (d : Dictionary) (i k : ℕ) (o : Overflow) →
     IsOverflow d i k o → Passes p o
 overflows p d i k o h can over = record {
   space = h.space;
-  phase = subst (λ f. IsSpaceOf p f h.space) (sym over.phase) h.is_space;
+  is_space = subst (λ f. IsSpaceOf p f h.space) (sym over.phase) h.is_space;
   point = h.points;
   table = table_of d;
   dictionary = subst (λ ks. IsDictionary h.space ks (table_of d)) (sym over.key) h.dictionary.dictionary;
@@ -83,11 +83,11 @@ overflows p d i k o h can over = record {
       (subst (λ ks. IsPassing ks d.key (table_of d) i k o) h.dictionary.labels over.passes);
 }
 
--- it passes at the pivot of that row
+-- it passes at the pivot of that row in that column
 pub overflows_at : (p : Polyhedron) (d : Dictionary) (i k : ℕ) (o : Overflow) → IsDictionaryOf p d → CanPivot d i k →
-    IsOverflow d i k o → (passes : Passes p o) × (passes.r ≡ i)
+    IsOverflow d i k o → (passes : Passes p o) × (passes.r ≡ i) × (passes.s ≡ k)
 unfolding overflows
-overflows_at p d i k o h can over = (overflows p d i k o h can over, refl)
+overflows_at p d i k o h can over = (overflows p d i k o h can over, refl, refl)
 
 -- ---- the rows that have been tried
 module _ (sys : System) (others : Bool) where

@@ -2,6 +2,7 @@
 -- rows first.
 use Rattle.std.specs.Prelude.{◌≡◌, ◌⊎◌, ℕ, ◌<◌, ◌≤◌, Bool, true, false, pos, List, length}
 use Rattle.std.specs.List.{Contains}
+use Rattle.poly_model.specs.Limits.{most_columns}
 use Rattle.poly_model.specs.declared.overflow.Phase.TheVariants.{Cone, Prepare}
 use Rattle.poly_model.specs.Systems.{Row, row_of, Polyhedron, cone_of}
 use Rattle.poly_model.specs.Spaces.{Space, IsSpaceOf, HasPoints}
@@ -14,7 +15,7 @@ use Rattle.dictionary.specs.Views.{Dictionary, IsDictionaryIn, table_of}
 -- columns no label is that of the column of constants
 pub record IsDictionaryOf (p : Polyhedron) (d : Dictionary) : Type 0 where
   pub few : length (cone_of p).rows < 8192
-  pub narrow : p.n ≤ 256
+  pub narrow : p.n ≤ most_columns
   pub phase : (d.phase ≡ Cone) ⊎ (d.phase ≡ Prepare)
   pub space : Space
   pub is_space : IsSpaceOf p d.phase space

@@ -1,24 +1,15 @@
 -- What is prepared before a search.
-use Rattle.std.specs.Prelude.{◌≡◌, ◌⊎◌, ℕ, ◌+◌, ◌<◌, ◌≤◌, true, false, pos, List, length}
+use Rattle.std.specs.Prelude.{◌≡◌, ℕ, ◌+◌, ◌<◌, ◌≤◌, true, false, pos, List, length}
 use Rattle.std.specs.List.{Contains}
 use Rattle.poly_num.specs.Vectors.{Vector}
-use Rattle.poly_model.specs.declared.overflow.Overflow.{Overflow}
 use Rattle.poly_model.specs.declared.overflow.Phase.TheVariants.{Prepare, Main}
-use Rattle.poly_model.specs.Overflows.{Passes}
 use Rattle.poly_model.specs.Systems.{row_of, System, Polyhedron, cone_of}
 use Rattle.poly_model.specs.FreeColumns.{AreFreeColumns, AreLinesOf}
-use Rattle.poly_model.specs.Spaces.{IsStartCobasis, prepare_space, main_space}
+use Rattle.poly_model.specs.Spaces.{IsStartCobasis, main_space}
 use Rattle.poly_model.specs.Dictionaries.{Table}
-use Rattle.poly_model.specs.Equations.{HasPointOn}
-use Rattle.poly_model.specs.Equations.{equation_labels}
+use Rattle.poly_model.specs.Equations.{AreConsistent}
 use Rattle.dictionary.specs.Views.{Dictionary, IsDictionaryIn, table_of}
 use Rattle.linearity.specs.Elimination.{IsDictionaryOf, IsEliminated}
-
--- equations come before inequalities: a pivot of a linear row needs a product that passes; or that of some row does, and
--- the equations have a common point
-pub record PassesInOrder (p : Polyhedron) (o : Overflow) : Type 0 where
-  pub passes : Passes p o
-  pub order : ((row_of (cone_of p).rows passes.r).linear ≡ true) ⊎ AreConsistent p
 
 -- the lines, by ascending free column, and the dictionary of the start cobasis in the main space
 pub record IsPrepared (p : Polyhedron) (lines : List Vector) (free : List ℕ) (d : Dictionary) : Type 0 where

@@ -1,14 +1,15 @@
 //! The coordinates in a cobasis, and the vectors of their columns.
 ghost use Rattle.std.specs.Prelude.{◌≡◌, ◌≤◌, IfOk, IsTrue, length};
 ghost use Rattle.std.specs.List.{Contains};
+ghost use Rattle.poly_model.specs.Limits.{most_columns};
 ghost use Rattle.poly_model.specs.Keys.{IsAscending};
 ghost use Rattle.linearity.specs.Columns.{is_coordinate, columns_in, primitive_column, coordinate_vectors};
 
 use dictionary::Dict;
 use hull_lift::facet_row;
-use poly_model::{Label, Lines, Vector};
+use poly_model::{Label, Lines, OutOfMemory, Vector};
 use poly_num::Num;
-use std::alloc::{AllocError, Global};
+use std::alloc::Global;
 
 // Whether a label is that of a coordinate.
 fn is_coordinate(label: u16) -> bool
@@ -20,7 +21,7 @@ fn is_coordinate(label: u16) -> bool
 
 /// The columns of the coordinates in the cobasis, ascending. Once all rows have been tried they are the free columns.
 /// Takes memory for the list.
-pub fn free_columns(alloc: Global, at: &Dict) -> Result<Vec<u32>, AllocError>
+pub fn free_columns(alloc: Global, at: &Dict) -> Result<Vec<u32>, OutOfMemory>
     ensures columns { IfOk result (λ v. v.items ≡ columns_in at.now.key) }
     ensures ascending { IfOk result (λ v. IsAscending at.now.key) }
 {
@@ -36,10 +37,10 @@ pub fn free_columns(alloc: Global, at: &Dict) -> Result<Vec<u32>, AllocError>
 
 /// For each coordinate in the cobasis, by ascending column, the vector of n entries without common divisor along its
 /// column. Once all rows have been tried they are the lines. Takes memory for the vectors.
-pub fn lines_of(alloc: Global, at: &Dict, n: u32) -> Result<Lines, AllocError>
-    requires { n ≤ 256 }
+pub fn lines_of(alloc: Global, at: &Dict, n: u32) -> Result<Lines, OutOfMemory>
+    requires { n ≤ most_columns }
     ensures value { IfOk result (λ lines. lines ≡ coordinate_vectors at.now n) }
-    ensures few { IfOk result (λ lines. length lines ≤ 256) }
+    ensures few { IfOk result (λ lines. length lines ≤ most_columns) }
 {
     let key = at.key();
     let mut lines = Vec::new(alloc);
@@ -52,9 +53,9 @@ pub fn lines_of(alloc: Global, at: &Dict, n: u32) -> Result<Lines, AllocError>
 }
 
 // The vector of a column.
-fn line_at(alloc: Global, at: &Dict, col: Label, n: u32) -> Result<Vector, AllocError>
+fn line_at(alloc: Global, at: &Dict, col: Label, n: u32) -> Result<Vector, OutOfMemory>
     requires column { Contains at.now.key col.0 }
-    requires narrow { n ≤ 256 }
+    requires narrow { n ≤ most_columns }
     ensures { IfOk result (λ line. line ≡ primitive_column at.now n col.0) }
 {
     let mut vector = Vec::new(alloc);

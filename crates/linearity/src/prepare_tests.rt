@@ -3,9 +3,9 @@ ghost use Rattle.std.specs.Prelude.{◌≡◌, ◌<◌};
 
 use crate::{PrepareStop, Prepared, prepare};
 use hull_lift::system_of;
-use poly_model::{Kind, Lines, Poly};
+use poly_model::{Kind, Lines, MOST_COLUMNS, MOST_FILE_ROWS, OutOfMemory, Poly};
 use poly_num::Num;
-use std::alloc::{AllocError, Global};
+use std::alloc::Global;
 use std::test::Fail;
 
 /// A file, its rows one after the other, and what is prepared from it: how that ends, the labels of the start cobasis,
@@ -276,7 +276,7 @@ fn answer_to(alloc: Global, case: Case) -> Result<Answer, Fail> {
     }
 }
 
-fn answer_of(alloc: Global, prepared: &Prepared) -> Result<Answer, AllocError> {
+fn answer_of(alloc: Global, prepared: &Prepared) -> Result<Answer, OutOfMemory> {
     Ok(Answer {
         end: End::Prepared,
         start: Vec::from_slice(alloc, prepared.start().labels())?,
@@ -294,7 +294,7 @@ fn stopped(alloc: Global, end: End) -> Answer {
     }
 }
 
-fn entries_of(alloc: Global, lines: &Lines) -> Result<Vec<i128>, AllocError> {
+fn entries_of(alloc: Global, lines: &Lines) -> Result<Vec<i128>, OutOfMemory> {
     let mut entries = Vec::new(alloc);
     for line in lines.as_slice() {
         for x in line.as_slice() {
@@ -316,7 +316,7 @@ fn poly_of(
         cells.push(Num::new(*x).ok_or("a number of 127 bits")?)?;
     }
     let linear = Vec::from_slice(alloc, linear)?;
-    if n == 0 || n > 256 || linear.len() > 4096 {
+    if n == 0 || n > MOST_COLUMNS || linear.len() > MOST_FILE_ROWS as usize {
         return Err("few rows, and narrow ones")?;
     }
     if cells.len() != linear.len() * n as usize {

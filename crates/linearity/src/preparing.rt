@@ -3,19 +3,20 @@ ghost use Rattle.std.specs.Prelude.{◌≡◌, ◌≤◌, ◌<◌, ◌↔◌, po
 ghost use Rattle.std.specs.Result.{OnOk};
 ghost use Rattle.std.specs.List.{Contains};
 ghost use Rattle.poly_model.specs.declared.overflow.Overflow.{Overflow as Passed};
-ghost use Rattle.poly_model.specs.declared.overflow.Phase.TheVariants.{Prepare};
 ghost use Rattle.poly_model.specs.Systems.{Polyhedron, row_of, cone_of};
 ghost use Rattle.poly_model.specs.Dictionaries.{Table};
 ghost use Rattle.dictionary.specs.Views.{table_of};
+ghost use Rattle.poly_model.specs.Limits.{most_cone_rows};
 ghost use Rattle.poly_model.specs.Equations.{AreConsistent};
-ghost use Rattle.linearity.specs.Prepared.{HasNoConstants, PassesInOrder, IsPrepared, IsReduced, IsUnreduced};
+ghost use Rattle.poly_model.specs.Due.{IsDue, IsAskedBefore};
+ghost use Rattle.linearity.specs.Prepared.{HasNoConstants, IsPrepared, IsReduced, IsUnreduced};
 
 use crate::eliminate::{Pass, enter_rows};
 use crate::lines::{free_columns, lines_of};
 use crate::prepared::Prepared;
 use dictionary::Dict;
-use poly_model::{Label, Overflow, Phase, System};
-use std::alloc::{AllocError, Global};
+use poly_model::{Label, OutOfMemory, Overflow, Phase, System};
+use std::alloc::Global;
 
 /// Why a system could not be prepared: its equations have no common point, a number of a dictionary would pass 127 bits,
 /// or there was no memory.
@@ -27,17 +28,17 @@ pub enum PrepareStop {
 }
 
 /// The free columns of a system, its lines, and the dictionary of its start cobasis in the phase `Main`. `Inconsistent`
-/// comes exactly where the equations have no common point, if no overflow or want of memory came before; and before it
-/// only a pivot of an equation overflows. The system is left as it is, whatever the answer; memory that was taken by
-/// then is given back.
+/// comes exactly where the equations have no common point, if no overflow or want of memory came before. An overflow
+/// comes only at a pivot in which a linear row, or, where the equations have a common point, a row of the start cobasis
+/// enters in the place of a coordinate; beside coordinates the cobasis has only such rows. The system is left as it is,
+/// whatever the answer; memory that was taken by then is given back.
 ///
 /// Rows enter a dictionary of the phase `Prepare`, each for the least coordinate at which it is not 0: first the linear
 /// ones, then the others. What is left are the free columns.
 pub fn prepare(alloc: Global, sys: &System) -> Result<Prepared, PrepareStop>
     ensures prepared { IfOk result (λ r. (p : Polyhedron) → sys.now ≡ cone_of p → IsPrepared p r.lines r.free r.dictionary) }
     ensures inconsistent { IsErrOf result PrepareStop.Inconsistent → (p : Polyhedron) → sys.now ≡ cone_of p → AreConsistent p → ⊥ }
-    ensures overflow { (o : Passed) → IsErrOf result (PrepareStop.Overflow o) → (p : Polyhedron) → sys.now ≡ cone_of p → PassesInOrder p o }
-    ensures phase { (o : Passed) → IsErrOf result (PrepareStop.Overflow o) → o.phase ≡ Prepare }
+    ensures overflow { (o : Passed) → IsErrOf result (PrepareStop.Overflow o) → (p : Polyhedron) → sys.now ≡ cone_of p → IsDue p o (IsAskedBefore p o) }
 {
     let (_n, _rows) = (sys.n(), sys.rows());
     let Ok(mut at) = Dict::new(alloc, sys, Phase::Prepare) else {
@@ -54,8 +55,7 @@ pub fn prepare(alloc: Global, sys: &System) -> Result<Prepared, PrepareStop>
 fn reduce(at: &mut Dict, sys: &System) -> Result<(), PrepareStop>
     ensures reduced { OnOk result ((p : Polyhedron) → sys.now ≡ cone_of p → IsUnreduced p at.old → IsReduced p at.new) }
     ensures inconsistent { IsErrOf result PrepareStop.Inconsistent → (p : Polyhedron) → sys.now ≡ cone_of p → IsUnreduced p at.old → AreConsistent p → ⊥ }
-    ensures overflow { (o : Passed) → IsErrOf result (PrepareStop.Overflow o) → (p : Polyhedron) → sys.now ≡ cone_of p → IsUnreduced p at.old → PassesInOrder p o }
-    ensures phase { (o : Passed) → IsErrOf result (PrepareStop.Overflow o) → o.phase ≡ at.old.phase }
+    ensures overflow { (o : Passed) → IsErrOf result (PrepareStop.Overflow o) → (p : Polyhedron) → sys.now ≡ cone_of p → IsUnreduced p at.old → IsDue p o (IsAskedBefore p o) }
     ensures memory { IsErrOf result PrepareStop.Memory → ⊥ }
 {
     if let Err(overflow) = enter_rows(at, sys, Pass::Linear) {
@@ -86,7 +86,7 @@ fn are_consistent(at: &Dict, sys: &System) -> bool
 fn is_consistent_at(at: &Dict, sys: &System, i: u32) -> bool
     requires from_one { 0 < i }
     requires within { i ≤ length sys.now.rows }
-    requires few { i ≤ 4097 }
+    requires few { i ≤ most_cone_rows }
     ensures { IsTrue result ↔ (Contains at.now.labels i → (row_of sys.now.rows i).linear ≡ true → Table.constant (table_of at.now) i ≡ pos 0) }
 {
     let row = Label(i as u16);
@@ -98,7 +98,7 @@ fn is_consistent_at(at: &Dict, sys: &System, i: u32) -> bool
 }
 
 // What is prepared from a dictionary at which all rows have been tried.
-fn enter_main(alloc: Global, sys: &System, at: Dict) -> Result<Prepared, AllocError>
+fn enter_main(alloc: Global, sys: &System, at: Dict) -> Result<Prepared, OutOfMemory>
     ensures { IfOk result (λ r. (p : Polyhedron) → sys.now ≡ cone_of p → IsReduced p at → IsPrepared p r.lines r.free r.dictionary) }
 {
     let n = sys.n();

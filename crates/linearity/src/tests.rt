@@ -3,7 +3,7 @@ ghost use Rattle.std.specs.Prelude.{◌≡◌, length};
 
 use crate::{Pass, enter_rows};
 use dictionary::Dict;
-use poly_model::{Key, Kind, Phase, RowKind, System};
+use poly_model::{Key, Kind, MOST_CONE_ROWS, Phase, RowKind, System};
 use poly_num::Num;
 use std::alloc::Global;
 use std::test::Fail;
@@ -90,7 +90,7 @@ fn cone_of(alloc: Global, entries: &[i128], linear: &[bool]) -> Result<System, F
         cells.push(Num::new(*x).ok_or("a number of 127 bits")?)?;
     }
     let linear = Vec::from_slice(alloc, linear)?;
-    if linear.len() > 4097 || cells.len() != linear.len() * 3 {
+    if linear.len() > MOST_CONE_ROWS as usize || cells.len() != linear.len() * 3 {
         return Err("few rows, each of three entries")?;
     }
     let mut kinds = Vec::new(alloc);

@@ -6,6 +6,7 @@ pub mod Lowered
 pub mod LoweredEnds
 pub mod PhaseEnds
 pub mod WithoutT
+pub mod GivenRoots
 pub mod Decided
 pub mod FeasibleFiles
 pub mod Depths
@@ -23,3 +24,5 @@ pub mod ShareOnce
 pub mod AnyShown
 pub mod RootShare
 pub mod MainStart
+pub mod SearchRoots
+pub mod KnownRoots

@@ -78,15 +78,16 @@ module _ (p : Polyhedron) (free : List ℕ) (f : AreFreeColumns (cone_of p) free
   main_start h start s =
       start_dictionary (main_space p free) h (main_rows_ascend p free).ascending (rows_of_kind p.kind refl) start s
 
-  some_start : HasPoints (main_space p free) →
-      (start : List ℕ) × (t : Table) × IsRowDictionary (main_space p free) start t
+  pub some_start : HasPoints (main_space p free) →
+      (start : List ℕ) × IsStartCobasis (main_space p free) start × (t : Table)
+      × IsRowDictionary (main_space p free) start t
   some_start h =
       let s = start_exists (main_space p free) in
       let d = main_start h s.0 s.1 in
-      (s.0, d.0, d.1)
+      (s.0, s.1, d.0, d.1)
 
   -- ---- a feasible file has a root
-  met_point : MeetsRows (main_space p free) → HasPoints (main_space p free)
+  pub met_point : MeetsRows (main_space p free) → HasPoints (main_space p free)
   met_point m = record {
     vector = m.vector;
     inside = m.inside;
@@ -97,10 +98,10 @@ module _ (p : Polyhedron) (free : List ℕ) (f : AreFreeColumns (cone_of p) free
   root_of_kind H k e =
       let m = (feasible_files p free k f few).0 e in
       let s = some_start (met_point m) in
-      (phase_one_decides (main_space p free) s.0 (main_has_no_row_zero p free) s.1 s.2).exactly.1 m
+      (phase_one_decides (main_space p free) s.0 (main_has_no_row_zero p free) s.2 s.3).exactly.1 m
   root_of_kind V k e =
       let s = some_start ((phase_points p).main free k) in
-      (s.0, s.1, roots_of_points p free s.0 s.1 k s.2)
+      (s.0, s.2, roots_of_points p free s.0 s.2 k s.3)
 
   pub feasible_root : IsFeasible (cone_of p) → HasRoot (main_space p free)
   feasible_root e = root_of_kind p.kind refl e

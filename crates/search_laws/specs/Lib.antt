@@ -2,6 +2,7 @@ pub mod PhaseOne
 pub mod Lowering
 pub mod PhaseEnds
 pub mod Starts
+pub mod GivenRoots
 pub mod Shares
 pub mod Weights
 pub mod Splits

@@ -17,7 +17,19 @@ ghost use Rattle.search_laws.specs.PhaseEnds.{
   RootsOfPoints,
 };
 ghost use Rattle.search_laws.specs.Starts.{MainHasStart, FeasibleFileHasRoot};
-ghost use Rattle.search_laws.specs.Shares.{ListsChildren, ParentsMakeATree, SharesHaveParts, RootHasAll, AnyTableServes};
+ghost use Rattle.search_laws.specs.GivenRoots.{
+  GivenRootIsFeasible,
+  GivenRootIsOne,
+  GivesRootWhereMet,
+  SearchRoots,
+};
+ghost use Rattle.search_laws.specs.Shares.{
+  ListsChildren,
+  ParentsMakeATree,
+  SharesHaveParts,
+  RootHasAll,
+  AnyTableServes,
+};
 ghost use Rattle.search_laws.specs.Weights.{WeightsAddUp, RootWeighsAll};
 ghost use Rattle.search_laws.specs.Splits.{RunsSplit};
 ghost use Rattle.search_laws.specs.SharesOnce.{SharesOnce};
@@ -33,8 +45,8 @@ pub fn first_root()
     ensures { FirstRoot }
 {}
 
-/// In a column in which a row is negative there is a neighbour, at which the list of that row, over the denominator, is
-/// less.
+/// In a column in which a row is negative there is a neighbour, at which the list of that row, over the denominator,
+/// is less.
 pub fn neighbours_lower_row()
     ensures { NeighboursLowerRow }
 {}
@@ -107,6 +119,27 @@ pub fn main_has_start()
 /// The main space of a feasible file has a feasible root.
 pub fn feasible_file_has_root()
     ensures { FeasibleFileHasRoot }
+{}
+
+/// What phase one gives is a feasible root.
+pub fn given_root_is_feasible()
+    ensures { GivenRootIsFeasible }
+{}
+
+/// Phase one gives one root from a start cobasis, in a space where each row stands once.
+pub fn given_root_is_one()
+    ensures { GivenRootIsOne }
+{}
+
+/// From a start cobasis with a dictionary phase one gives a root exactly where some vector meets all rows.
+pub fn gives_root_where_met()
+    ensures { GivesRootWhereMet }
+{}
+
+/// A polyhedron has a root of its search exactly where its file is feasible; the root is one, and a search may begin
+/// there.
+pub fn search_roots()
+    ensures { SearchRoots }
 {}
 
 /// The children of a lexicographically feasible cobasis are a list, and whether a column has one can be decided.

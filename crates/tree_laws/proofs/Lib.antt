@@ -43,6 +43,9 @@ pub mod ExtremesOfPoints
 pub mod MainExtremes
 pub mod AscendingRows
 pub mod ReverseSearch
+pub mod OneList
+pub mod TouchedVectors
+pub mod ListedVectors
 pub mod KnownTables
 pub mod KnownTests
 pub mod KnownSquare

@@ -1,8 +1,6 @@
 -- The extreme vectors of a polyhedron's cone are those of its main space, whose rows ascend.
-use Rattle.std.specs.Prelude.{◌↔◌, ℕ, ◌<◌, pos, List, ◌∷◌, length}
+use Rattle.std.specs.Prelude.{◌↔◌, ℕ, ◌<◌, List, length}
 use Rattle.poly_num.specs.Vectors.{Vector}
-use Rattle.poly_model.specs.declared.kind.Kind.{Kind}
-use Rattle.poly_model.specs.declared.kind.Kind.TheVariants.{H, V}
 use Rattle.poly_model.specs.Keys.{IsAscending}
 use Rattle.poly_model.specs.Systems.{Polyhedron, cone_of}
 use Rattle.poly_model.specs.FreeColumns.{AreFreeColumns}

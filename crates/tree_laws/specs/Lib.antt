@@ -5,3 +5,4 @@ pub mod ShownRays
 pub mod Shown
 pub mod ReverseSearch
 pub mod Extremes
+pub mod ListedVectors

@@ -39,10 +39,11 @@ ghost use Rattle.tree_laws.specs.ShownRays.{
 };
 ghost use Rattle.tree_laws.specs.Shown.{EachIsShownOnce, OnlyExtremeIsShown};
 ghost use Rattle.tree_laws.specs.Extremes.{ExtremesOfMain, RowsAscend};
+ghost use Rattle.tree_laws.specs.ListedVectors.{ReverseSearchOfListings};
 
-/// The lexicographically feasible cobases are a tree under each feasible root, each extreme vector of the space is shown
-/// at exactly one of them, and nothing else is: reverse search is complete, and shows nothing twice (Avis and Fukuda,
-/// "A pivoting algorithm for convex hulls and vertex enumeration of arrangements and polyhedra", 1992).
+/// The lexicographically feasible cobases are a tree under each feasible root, each extreme vector of the space is
+/// shown at exactly one of them, and nothing else is: reverse search is complete, and shows nothing twice (Avis and
+/// Fukuda, "A pivoting algorithm for convex hulls and vertex enumeration of arrangements and polyhedra", 1992).
 pub fn reverse_search()
     ensures { ReverseSearch }
 {}
@@ -50,6 +51,12 @@ pub fn reverse_search()
 /// So it is of each polyhedron, in the spaces of the phases `main` and `first`.
 pub fn reverse_search_of_polyhedra()
     ensures { ReverseSearchOfPolyhedra }
+{}
+
+/// So it is in the words of a polyhedron's listing: each extreme vector of the cone is shown at one place of one key,
+/// nothing else is, and of a V file never `1 0 .. 0`.
+pub fn reverse_search_of_listings()
+    ensures { ReverseSearchOfListings }
 {}
 
 /// No list of a row outside the key is zero.

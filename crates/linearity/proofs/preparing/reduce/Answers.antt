@@ -1,4 +1,4 @@
-use Rattle.std.proofs.Common.{◌≡◌, ◌+◌, inr, Err, true, false, length, subst, sym, ap, ◌∙◌}
+use Rattle.std.proofs.Common.{◌≡◌, ◌+◌, Err, true, false, length, subst, sym, ◌∙◌}
 use Rattle.std.specs.Result.{IsErrOf}
 use Rattle.std.proofs.lemmas.Bool.{true≢false}
 use Rattle.poly_model.specs.declared.overflow.Overflow.{Overflow as Passed}
@@ -7,8 +7,9 @@ use Rattle.linearity.specs.declared.preparing.PrepareStop.{PrepareStop}
 use Rattle.linearity.specs.declared.preparing.PrepareStop.TheVariants.{Overflow}
 use Rattle.linearity.specs.Elimination.{IsEliminated}
 use Rattle.linearity.proofs.Beginnings.{second_pass}
-use Rattle.linearity.specs.Prepared.{PassesInOrder}
-use Rattle.linearity.proofs.Consistency.{consistent_exactly, passes_at_equation}
+use Rattle.poly_model.specs.Due.{IsDue, IsAskedBefore}
+use Rattle.linearity.proofs.Consistency.{consistent_exactly}
+use Rattle.linearity.proofs.DueOverflows.{due_in_first, due_in_second}
 use Rattle.linearity.proofs.preparing.reduce.Goals as goal
 
 -- the overflow that is handed on
@@ -17,21 +18,22 @@ same_overflow x o h = cc
 
 pub returns-in-Err-clause-overflow : goal.returns-in-Err-clause-overflow
 returns-in-Err-clause-overflow c o h p file unreduced =
-    subst (PassesInOrder p) (same_overflow c.in-Err.overflow o h)
-    (passes_at_equation p c.args.sys.now c.in-Err.ensures.stopped.0 c.args.at.now c.enter_rows.new.at c.in-Err.overflow file
-    unreduced.of c.in-Err.ensures.stopped.1)
+    subst (λ x. IsDue p x (IsAskedBefore p x)) (same_overflow c.in-Err.overflow o h)
+    (due_in_first p c.args.sys.now c.in-Err.ensures.stopped.0 c.args.at.now c.enter_rows.new.at c.in-Err.overflow file
+    unreduced.of (c.enter_rows.ensures.phase ∙ unreduced.phase) unreduced.untried c.in-Err.ensures.stopped.1)
 
 pub returns-in-Err-enter_rows-clause-overflow : goal.returns-in-Err-enter_rows-clause-overflow
 returns-in-Err-enter_rows-clause-overflow c o h p file unreduced =
     let first = c.in_default.ensures.entered p file unreduced.of
     (subst (λ (s : System). IsEliminated s.rows false 1 c.args.at.now) (sym file) unreduced.untried) in
-    let same = consistent_exactly p c.args.sys.now c.enter_rows.new.at file first.0
-    (c.enter_rows.ensures.phase ∙ unreduced.phase) first.1 in
-    record {
-      passes = c.in-Err-enter_rows.ensures.passes o
-          (ap (λ x. Err x) (same_overflow c.in-Err-enter_rows.overflow o h)) p file first.0;
-      order = inr (same.1 ((c.are_consistent.ensures).0 c.if-not-are_consistent.false));
-    }
+    let phase = c.enter_rows.ensures.phase ∙ unreduced.phase in
+    let same = consistent_exactly p c.args.sys.now c.enter_rows.new.at file first.0 phase first.1 in
+    let next = second_pass p c.enter_rows.new.at first.0
+    (subst (λ (s : System). IsEliminated s.rows false (length s.rows + 1) c.enter_rows.new.at) file first.1) in
+    subst (λ x. IsDue p x (IsAskedBefore p x)) (same_overflow c.in-Err-enter_rows.overflow o h)
+    (due_in_second p c.args.sys.now c.in-Err-enter_rows.ensures.stopped.0 c.enter_rows.new.at c.enter_rows-2.new.at
+    c.in-Err-enter_rows.overflow file first.0 (c.enter_rows-2.ensures.phase ∙ phase)
+    (same.1 ((c.are_consistent.ensures).0 c.if-not-are_consistent.false)) next c.in-Err-enter_rows.ensures.stopped.1)
 
 pub returns-then-not-are_consistent-clause-inconsistent :
     goal.returns-then-not-are_consistent-clause-inconsistent
