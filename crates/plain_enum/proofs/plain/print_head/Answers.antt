@@ -31,5 +31,5 @@ lines-preserved g c =
           c.as_slice.ensures)
           c.in_ok-listing-2.ensures.text.whole;
       kind = c.in_ok-listing-2.ensures.kind ∙ c.lines.invariant.kind;
-      later = omega (arith, c.lines.invariant.later, c.in_ok-listing-2.ensures.cause.later);
+      same = c.in_ok-listing-2.ensures.cause.same ∙ c.lines.invariant.same;
     }

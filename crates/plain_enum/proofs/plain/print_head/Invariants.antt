@@ -1,4 +1,4 @@
-use Rattle.std.proofs.Common.{◌≡◌, ◌≤◌, ◌++◌, drop, length}
+use Rattle.std.proofs.Common.{◌≡◌, ◌++◌, drop, length}
 use Rattle.std.specs.List.{flat_map}
 use Rattle.poly_io.proofs.Parts.{Owes}
 use Rattle.poly_model.specs.ListingText.{head_text, vector_text}
@@ -11,5 +11,5 @@ invariant-lines g l = record {
       (head_text l.fn.kind l.fn.n (length l.lines) ++ flat_map vector_text l.lines)
       (flat_map vector_text (drop l.line-index l.lines));
   kind : l.listing ≡ l.fn.kind;
-  later : g.S.Sink.faults l.fn.out ≤ g.S.Sink.faults l.out;
+  same : g.S.Sink.faults l.out ≡ g.S.Sink.faults l.fn.out;
 }
