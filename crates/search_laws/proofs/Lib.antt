@@ -26,3 +26,5 @@ pub mod RootShare
 pub mod MainStart
 pub mod SearchRoots
 pub mod KnownRoots
+pub mod SubtreeShares
+pub mod SubtreeRuns
