@@ -28,3 +28,4 @@ pub mod SearchRoots
 pub mod KnownRoots
 pub mod SubtreeShares
 pub mod SubtreeRuns
+pub mod KnownLastExchange
