@@ -136,6 +136,13 @@ module _ (p : Polyhedron) (root : List ℕ) (h : IsSubtreeRoot p root) where
         listed.depth_back p root h.free h.columns a c (m + n)
         (above_twice space root m n a b c (listed.depth_there p root h.free h.columns a b m x)
         (listed.depth_there p root h.free h.columns b c n y));
+    own = λ key place y s. record {
+      one = key;
+      depth = 0;
+      under = listed.depth_back p root h.free h.columns key key 0 refl;
+      place = place;
+      shown = s;
+    };
     within = within;
     common = λ b c y m n. either b c (once.meet b c (in_main p.kind y) (share_there b y m) (share_there c y n));
     weight = some_weight_of;

@@ -72,7 +72,9 @@ pub record HasSubtreeShares (p : Polyhedron) (root : List ℕ) : Type 0 where
   pub itself : (key : List ℕ) → IsSubtreeDepth p root key key 0
   pub joined : (a b c : List ℕ) (m n : ℕ) → IsSubtreeDepth p root a b m → IsSubtreeDepth p root b c n →
       IsSubtreeDepth p root a c (m + n)
-  -- the share of a key under another is in the share of that; so lie the keys of two shares with one vector
+  -- what a key shows is in its share; the share of a key under another is in the share of that; of the keys of two
+  -- shares with one vector, one lies under the other
+  pub own : (key : List ℕ) (place : Option ℕ) (y : Vector) → IsShownAtKey p root key place y → InSubtree p root key y
   pub within : (a b : List ℕ) (y : Vector) → LiesUnder p root a b → InSubtree p root a y → InSubtree p root b y
   pub common : (b c : List ℕ) (y : Vector) → InSubtree p root b y → InSubtree p root c y →
       LiesUnder p root b c ⊎ LiesUnder p root c b
