@@ -1,4 +1,4 @@
-use Rattle.std.proofs.Common.{arith}
+use Rattle.std.proofs.Common.{◌∙◌}
 use Rattle.poly_io.proofs.Parts.{owes_cut, owes_less, owes_none}
 use Rattle.lrs_cli.proofs.StatusLemmas.{labels_less, labels_none}
 use Rattle.lrs_cli.proofs.status.write_labels.Goals as goal
@@ -10,7 +10,7 @@ returns-in_err-write_next_label-clause-text g c =
 pub loop-label-preserved : goal.loop-label-preserved
 loop-label-preserved g c = record {
   text = owes_less _ _ _ _ _ _ _ c.loop-label.invariant.text (labels_less c.args.labels.now c.loop-label.label-index c.loop-label-test.true) c.in_ok-write_next_label.ensures.text.whole;
-  later = omega (arith, c.loop-label.invariant.later, c.in_ok-write_next_label.ensures.cause.later);
+  same = c.in_ok-write_next_label.ensures.cause.same ∙ c.loop-label.invariant.same;
 }
 
 pub returns-clause-text : goal.returns-clause-text
