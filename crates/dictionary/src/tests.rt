@@ -2,7 +2,9 @@
 ghost use Rattle.std.specs.Prelude.{◌≡◌, IfOk, length};
 
 use crate::Dict;
-use poly_model::{Key, Kind, Label, OutOfMemory, Overflow, Phase, Place, RowKind, System};
+use poly_model::{
+    Key, Kind, Label, MOST_COLUMNS, OutOfMemory, Overflow, Phase, Place, RowKind, System,
+};
 use poly_num::Num;
 use std::alloc::Global;
 use std::test::Fail;
@@ -266,7 +268,7 @@ fn wide(alloc: Global, n: u32) -> Result<System, Fail> {
     for j in 0..n {
         cells.push(num(if j == 0 { 1 } else { 0 }))?;
     }
-    if n == 0 || n > 256 || cells.len() != 2 * n as usize {
+    if n == 0 || n > MOST_COLUMNS || cells.len() != 2 * n as usize {
         return Err("few columns, and two rows")?;
     }
     let linear = Vec::from_slice(alloc, &[false, false])?;

@@ -1,5 +1,5 @@
--- Which rows are in the start cobasis: a row is where at some vector it is not 0 and all before it are; and a cobasis of
--- rows is the start cobasis where each row outside it is 0 at the later rows of it.
+-- Which rows are in the start cobasis: a row is where at some vector it is not 0 and all before it are; and a cobasis
+-- of rows is the start cobasis where each row outside it is 0 at the later rows of it.
 use Rattle.std.proofs.Common.{◌≡◌, ◌≢◌, ⊎_elim, inl, inr, ◌⊎◌, if◌then◌else◌, ◌*ℤ◌, ℕ, ◌<◌, Bool, true, false, List, [], ◌∷◌, ◌++◌, pos, map, length, refl, sym, ap, subst, ◌∙◌, arith}
 use Rattle.std.specs.List.{AllByRecursion, Contains, filter}
 use Rattle.std.proofs.lemmas.Bool.{cases_Bool}

@@ -36,9 +36,12 @@ pub enum PrepareStop {
 /// Rows enter a dictionary of the phase `Prepare`, each for the least coordinate at which it is not 0: first the linear
 /// ones, then the others. What is left are the free columns.
 pub fn prepare(alloc: Global, sys: &System) -> Result<Prepared, PrepareStop>
-    ensures prepared { IfOk result (λ r. (p : Polyhedron) → sys.now ≡ cone_of p → IsPrepared p r.lines r.free r.dictionary) }
-    ensures inconsistent { IsErrOf result PrepareStop.Inconsistent → (p : Polyhedron) → sys.now ≡ cone_of p → AreConsistent p → ⊥ }
-    ensures overflow { (o : Passed) → IsErrOf result (PrepareStop.Overflow o) → (p : Polyhedron) → sys.now ≡ cone_of p → IsDue p o (IsAskedBefore p o) }
+    ensures prepared { IfOk result (λ r. (p : Polyhedron) → sys.now ≡ cone_of p →
+        IsPrepared p r.lines r.free r.dictionary) }
+    ensures inconsistent { IsErrOf result PrepareStop.Inconsistent → (p : Polyhedron) → sys.now ≡ cone_of p →
+        AreConsistent p → ⊥ }
+    ensures overflow { (o : Passed) → IsErrOf result (PrepareStop.Overflow o) →
+        (p : Polyhedron) → sys.now ≡ cone_of p → IsDue p o (IsAskedBefore p o) }
 {
     let (_n, _rows) = (sys.n(), sys.rows());
     let Ok(mut at) = Dict::new(alloc, sys, Phase::Prepare) else {
@@ -54,8 +57,10 @@ pub fn prepare(alloc: Global, sys: &System) -> Result<Prepared, PrepareStop>
 // Tries the linear rows, asks whether they have a common point, and then tries the others.
 fn reduce(at: &mut Dict, sys: &System) -> Result<(), PrepareStop>
     ensures reduced { OnOk result ((p : Polyhedron) → sys.now ≡ cone_of p → IsUnreduced p at.old → IsReduced p at.new) }
-    ensures inconsistent { IsErrOf result PrepareStop.Inconsistent → (p : Polyhedron) → sys.now ≡ cone_of p → IsUnreduced p at.old → AreConsistent p → ⊥ }
-    ensures overflow { (o : Passed) → IsErrOf result (PrepareStop.Overflow o) → (p : Polyhedron) → sys.now ≡ cone_of p → IsUnreduced p at.old → IsDue p o (IsAskedBefore p o) }
+    ensures inconsistent { IsErrOf result PrepareStop.Inconsistent → (p : Polyhedron) → sys.now ≡ cone_of p →
+        IsUnreduced p at.old → AreConsistent p → ⊥ }
+    ensures overflow { (o : Passed) → IsErrOf result (PrepareStop.Overflow o) →
+        (p : Polyhedron) → sys.now ≡ cone_of p → IsUnreduced p at.old → IsDue p o (IsAskedBefore p o) }
     ensures memory { IsErrOf result PrepareStop.Memory → ⊥ }
 {
     if let Err(overflow) = enter_rows(at, sys, Pass::Linear) {

@@ -3,12 +3,12 @@ use Rattle.std.specs.Prelude.{Result}
 use Rattle.std.proofs.Common.{◌≡◌, ℕ, List, Option, Some, None, Ok, Err, refl, sym, subst, ◌∙◌}
 use Rattle.poly_model.specs.declared.overflow.Overflow.{Overflow as Passed}
 use Rattle.poly_model.specs.Systems.{Polyhedron}
-use Rattle.poly_model.specs.Overflows.{Passes}
 use Rattle.poly_reader.specs.declared.bad.BadFile.{BadFile as Fault}
 use Rattle.poly_reader.specs.Reading.{reading}
+use Rattle.plain_enum.specs.Plain.{PassesInCone}
 use Rattle.lrs_cli.specs.declared.status.Status.{Status}
 use Rattle.lrs_cli.specs.declared.status.Status.TheVariants.{Done, Usage, BadFile, Infeasible, Overflow, ReadFault, WriteFault, OutOfMemory}
-use Rattle.lrs_cli.specs.Answers.{Told, Knows, HasNoObstacle, IsBadFile, IsOverflow, Ends}
+use Rattle.lrs_cli.specs.Answers.{Told, Knows, HasNoObstacle, IsBadFile, IsOverflow, Lists, Ends}
 
 same_ok : (p q : Polyhedron) → ◌≡◌ {A = Result Polyhedron Fault} (Ok p) (Ok q) → p ≡ q
 same_ok p q e = cc
@@ -20,25 +20,24 @@ not_both p f e = cc
 same_polyhedron : (text : List ℕ) (p q : Polyhedron) → reading text ≡ Ok p → reading text ≡ Ok q → p ≡ q
 same_polyhedron text p q a b = same_ok p q (sym a ∙ b)
 
-not_bad : (source : Option (List ℕ)) → Knows source HasNoObstacle → (f : Fault) → Told source (IsBadFile f) → ⊥
+pub not_bad : (source : Option (List ℕ)) → Knows source HasNoObstacle → (f : Fault) → Told source (IsBadFile f) → ⊥
 not_bad None k f t = k
 not_bad (Some text) k f t = not_both k.polyhedron f (sym k.read ∙ t)
 
 not_overflow : (source : Option (List ℕ)) → Knows source HasNoObstacle → (o : Passed) → Told source (IsOverflow o) → ⊥
 not_overflow None k o t = k
 not_overflow (Some text) k o t =
-    k.fits o (subst (λ p. Passes p o) (same_polyhedron text t.polyhedron k.polyhedron t.read k.read) t.holds)
+    k.holds o (subst (λ p. PassesInCone p o) (same_polyhedron text t.polyhedron k.polyhedron t.read k.read) t.holds)
 
--- no other answer is left
+-- of a polyhedron's answers those are left that end
 module _ (source : Option (List ℕ)) (known : Knows source HasNoObstacle) where
-  pub ends : (s : Status) → (s ≡ Usage → ⊥) → ((f : Fault) → s ≡ BadFile f → Told source (IsBadFile f)) →
-      (s ≡ ReadFault → ⊥) → (s ≡ WriteFault → ⊥) →
-      ((o : Passed) → s ≡ Overflow o → Told source (IsOverflow o)) → Ends s
-  ends (Done rows lines) a b c d e = tt
-  ends Infeasible a b c d e = tt
-  ends OutOfMemory a b c d e = tt
-  ends Usage a b c d e = absurd (a refl)
-  ends (BadFile x) a b c d e = absurd (not_bad source known x (b x refl))
-  ends ReadFault a b c d e = absurd (c refl)
-  ends WriteFault a b c d e = absurd (d refl)
-  ends (Overflow o) a b c d e = absurd (not_overflow source known o (e o refl))
+  pub ends : (s : Status) → Lists s → (s ≡ WriteFault → ⊥) → ((o : Passed) → s ≡ Overflow o → Told source (IsOverflow o)) →
+      Ends s
+  ends (Done rows lines) l w d = tt
+  ends Infeasible l w d = tt
+  ends OutOfMemory l w d = tt
+  ends (Overflow o) l w d = absurd (not_overflow source known o (d o refl))
+  ends WriteFault l w d = absurd (w refl)
+  ends Usage l w d = absurd l
+  ends (BadFile x) l w d = absurd l
+  ends ReadFault l w d = absurd l

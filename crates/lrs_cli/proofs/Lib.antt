@@ -1,4 +1,5 @@
 pub mod FaultLemmas
 pub mod StatusLemmas
 pub mod EndLemmas
+pub mod AnswerLemmas
 pub mod NothingWritten

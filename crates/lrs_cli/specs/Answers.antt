@@ -1,15 +1,14 @@
--- Which answer of the program comes when.
+-- What an answer of the program says of the text that was read, and of what was written.
 use Rattle.std.specs.Prelude.{◌≡◌, ℕ, List, Option, Some, None, Ok, Err, ⊤}
 use Rattle.std.specs.Io.KnownBytes.{Appends}
 use Rattle.poly_model.specs.declared.overflow.Overflow.{Overflow as Passed}
 use Rattle.poly_model.specs.Systems.{Polyhedron, cone_of}
 use Rattle.poly_model.specs.Extreme.{IsFeasible}
-use Rattle.poly_model.specs.Overflows.{Passes}
 use Rattle.poly_model.specs.Listing.{IsListing}
 use Rattle.poly_io.specs.Written.{AppendsPart}
 use Rattle.poly_reader.specs.declared.bad.BadFile.{BadFile as Fault}
 use Rattle.poly_reader.specs.Reading.{reading}
-use Rattle.plain_enum.specs.Plain.{IsCountedListing}
+use Rattle.plain_enum.specs.Plain.{IsCountedListing, PassesInCone}
 use Rattle.lrs_cli.specs.declared.status.Status.{Status}
 use Rattle.lrs_cli.specs.declared.status.Status.TheVariants.{Done, Usage, BadFile, Infeasible, Overflow, ReadFault, WriteFault, OutOfMemory}
 
@@ -17,6 +16,11 @@ use Rattle.lrs_cli.specs.declared.status.Status.TheVariants.{Done, Usage, BadFil
 abbrev pub Told : Option (List ℕ) → (List ℕ → Type 0) → Type 0
 Told None P = ⊤
 Told (Some bytes) P = P bytes
+
+-- a fact about bytes, which are told
+abbrev pub Knows : Option (List ℕ) → (List ℕ → Type 0) → Type 0
+Knows None P = ⊥
+Knows (Some bytes) P = P bytes
 
 -- the text describes this polyhedron
 abbrev pub IsTextOf : Polyhedron → List ℕ → Type 0
@@ -28,17 +32,17 @@ pub record Describes (P : Polyhedron → Type 0) (text : List ℕ) : Type 0 wher
   pub read : reading text ≡ Ok polyhedron
   pub holds : P polyhedron
 
--- the text describes a polyhedron
-abbrev pub IsPolyhedral : List ℕ → Type 0
-IsPolyhedral text = Describes (λ p. ⊤) text
+-- the text describes a polyhedron with a point
+abbrev pub IsFeasibleFile : List ℕ → Type 0
+IsFeasibleFile text = Describes (λ p. IsFeasible (cone_of p)) text
 
 -- the text describes a polyhedron without a point
-abbrev pub IsInfeasible : List ℕ → Type 0
-IsInfeasible text = Describes (λ p. IsFeasible (cone_of p) → ⊥) text
+abbrev pub IsInfeasibleFile : List ℕ → Type 0
+IsInfeasibleFile text = Describes (λ p. IsFeasible (cone_of p) → ⊥) text
 
--- a product that a pivot needs passes, at a dictionary of the polyhedron that the text describes
+-- a product that a pivot needs passes, at a dictionary of the cone of the polyhedron that the text describes
 abbrev pub IsOverflow : Passed → List ℕ → Type 0
-IsOverflow o text = Describes (λ p. Passes p o) text
+IsOverflow o text = Describes (λ p. PassesInCone p o) text
 
 -- the text describes no polyhedron, and this is the first fault
 abbrev pub IsBadFile : Fault → List ℕ → Type 0
@@ -76,27 +80,20 @@ Ends (BadFile f) = ⊥
 Ends Usage = ⊥
 Ends ReadFault = ⊥
 
--- the text describes a polyhedron, and at none of its dictionaries a product passes
-pub record HasNoObstacle (text : List ℕ) : Type 0 where
-  pub polyhedron : Polyhedron
-  pub read : reading text ≡ Ok polyhedron
-  pub fits : (o : Passed) → Passes polyhedron o → ⊥
+-- the text describes a polyhedron, and at no dictionary of its cone a product passes
+abbrev pub HasNoObstacle : List ℕ → Type 0
+HasNoObstacle text = Describes (λ p. (o : Passed) → PassesInCone p o → ⊥) text
 
--- of these bytes that is known
-abbrev pub Knows : Option (List ℕ) → (List ℕ → Type 0) → Type 0
-Knows None P = ⊥
-Knows (Some bytes) P = P bytes
-
--- the answers of a text that describes a polyhedron
+-- the answers that come once a polyhedron was read
 abbrev pub Lists : Status → Type 0
 Lists (Done rows lines) = Unit {0}
 Lists Infeasible = Unit {0}
 Lists (Overflow o) = Unit {0}
 Lists WriteFault = Unit {0}
+Lists OutOfMemory = Unit {0}
 Lists (BadFile f) = ⊥
 Lists Usage = ⊥
 Lists ReadFault = ⊥
-Lists OutOfMemory = ⊥
 
 -- the answers of a listing that was given up
 abbrev pub StopsListing : Status → Type 0

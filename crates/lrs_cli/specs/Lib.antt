@@ -1,2 +1,4 @@
 pub mod StatusLine
 pub mod Answers
+pub mod Convert
+pub mod Endings

@@ -1,15 +1,14 @@
 //! `convert`: a file from the input, its listing to the output.
-ghost use Rattle.std.specs.Prelude.{◌≡◌, ◌+◌, ◌⊎◌, ℕ};
-ghost use Rattle.std.specs.Io.KnownBytes.{IsAtEnd};
+ghost use Rattle.std.specs.Prelude.{◌≡◌, ◌⊎◌, ◌+◌, ℕ};
 ghost use Rattle.poly_io.specs.Causes.{Rose};
 ghost use Rattle.poly_io.specs.Taken.{TakesAtMost};
 ghost use Rattle.poly_model.specs.declared.overflow.Overflow.{Overflow as Passed};
 ghost use Rattle.poly_model.specs.Systems.{Polyhedron, cone_of};
 ghost use Rattle.poly_model.specs.Extreme.{IsFeasible};
-ghost use Rattle.poly_model.specs.Overflows.{Passes};
-ghost use Rattle.poly_reader.specs.declared.bad.BadFile.{BadFile};
 ghost use Rattle.poly_reader.specs.Limits.{most_file_bytes};
-ghost use Rattle.lrs_cli.specs.Answers.{Told, IsPolyhedral, IsBadFile, IsInfeasible, IsOverflow, IsListed, IsPartlyListed, WritesWhole, WritesPart, Lists, StopsListing, WritesNothing};
+ghost use Rattle.plain_enum.specs.Plain.{PassesInCone};
+ghost use Rattle.lrs_cli.specs.Answers.{WritesWhole, WritesPart, Lists, StopsListing, WritesNothing};
+ghost use Rattle.lrs_cli.specs.Convert.{AnswersConvert, streams};
 
 use crate::status::Status;
 use hull_lift::system_of;
@@ -22,17 +21,10 @@ use std::alloc::Global;
 /// Reads a file to its end and prints its listing.
 pub fn convert<I: Source, O: Sink>(alloc: Global, input: &mut I, out: &mut O) -> Status
     ensures line { result ≡ Status.Usage → ⊥ }
-    ensures end { (rows lines : ℕ) → result ≡ Status.Done rows lines → IsAtEnd (I.left input.new) }
-    ensures done { (rows lines : ℕ) → result ≡ Status.Done rows lines →
-        Told (I.left input.old) (IsListed (O.written out.old) (O.written out.new) rows lines) }
-    ensures stopped { StopsListing result → Told (I.left input.old) (IsPartlyListed (O.written out.old) (O.written out.new)) }
-    ensures infeasible { result ≡ Status.Infeasible → Told (I.left input.old) IsInfeasible }
-    ensures overflow { (o : Passed) → result ≡ Status.Overflow o → Told (I.left input.old) (IsOverflow o) }
-    ensures polyhedral { Lists result → Told (I.left input.old) IsPolyhedral }
-    ensures bad { (f : BadFile) → result ≡ Status.BadFile f → Told (I.left input.old) (IsBadFile f) }
-    ensures read { result ≡ Status.ReadFault → Rose (I.faults input.old) (I.faults input.new) }
-    ensures write { result ≡ Status.WriteFault → Rose (O.faults out.old) (O.faults out.new) }
-    ensures unwritten { WritesNothing result → out.new ≡ out.old }
+    ensures answers { AnswersConvert
+        (streams (I.left input.old) (I.faults input.old) (O.written out.old) (O.faults out.old))
+        (streams (I.left input.new) (I.faults input.new) (O.written out.new) (O.faults out.new))
+        (out.new ≡ out.old) result }
     ensures taken { TakesAtMost (I.left input.old) (I.left input.new) (most_file_bytes + 1) }
 {
     match read_poly(alloc, input) {
@@ -43,14 +35,16 @@ pub fn convert<I: Source, O: Sink>(alloc: Global, input: &mut I, out: &mut O) ->
     }
 }
 
-// Prints the listing of a polyhedron that is feasible.
+// Prints the listing of a polyhedron, once it is known that it has a point.
 fn print_listing<O: Sink>(alloc: Global, poly: &Poly, out: &mut O) -> Status
-    ensures lists { Lists result ⊎ (result ≡ Status.OutOfMemory) }
+    ensures lists { Lists result }
     ensures done { (rows lines : ℕ) → result ≡ Status.Done rows lines → WritesWhole (O.written out.old) (O.written out.new) rows lines poly.now }
-    ensures stopped { StopsListing result → WritesPart (O.written out.old) (O.written out.new) poly.now }
     ensures infeasible { result ≡ Status.Infeasible → IsFeasible (cone_of poly.now) → ⊥ }
-    ensures overflow { (o : Passed) → result ≡ Status.Overflow o → Passes poly.now o }
-    ensures write { result ≡ Status.WriteFault → Rose (O.faults out.old) (O.faults out.new) }
+    ensures overflow { (o : Passed) → result ≡ Status.Overflow o → PassesInCone poly.now o }
+    ensures stopped { StopsListing result → WritesPart (O.written out.old) (O.written out.new) poly.now }
+    ensures printed { StopsListing result → (out.new ≡ out.old) ⊎ IsFeasible (cone_of poly.now) }
+    ensures write_fault { result ≡ Status.WriteFault → Rose (O.faults out.old) (O.faults out.new) }
+    ensures writes { ¬ (result ≡ Status.WriteFault) → O.faults out.new ≡ O.faults out.old }
     ensures unwritten { WritesNothing result → out.new ≡ out.old }
 {
     let Ok(cone) = system_of(alloc, poly) else {
@@ -66,13 +60,14 @@ fn print_listing<O: Sink>(alloc: Global, poly: &Poly, out: &mut O) -> Status
 
 // Prints the listing of a cone.
 fn print_cone<O: Sink>(alloc: Global, cone: &System, out: &mut O) -> Status
-    ensures lists { Lists result ⊎ (result ≡ Status.OutOfMemory) }
+    ensures lists { Lists result }
     ensures feasible { result ≡ Status.Infeasible → ⊥ }
     ensures done { (rows lines : ℕ) → result ≡ Status.Done rows lines → (p : Polyhedron) → cone.now ≡ cone_of p →
         IsFeasible (cone_of p) → WritesWhole (O.written out.old) (O.written out.new) rows lines p }
+    ensures overflow { (o : Passed) → result ≡ Status.Overflow o → (p : Polyhedron) → cone.now ≡ cone_of p → PassesInCone p o }
     ensures stopped { StopsListing result → (p : Polyhedron) → cone.now ≡ cone_of p → WritesPart (O.written out.old) (O.written out.new) p }
-    ensures overflow { (o : Passed) → result ≡ Status.Overflow o → (p : Polyhedron) → cone.now ≡ cone_of p → Passes p o }
-    ensures write { result ≡ Status.WriteFault → Rose (O.faults out.old) (O.faults out.new) }
+    ensures write_fault { result ≡ Status.WriteFault → Rose (O.faults out.old) (O.faults out.new) }
+    ensures writes { ¬ (result ≡ Status.WriteFault) → O.faults out.new ≡ O.faults out.old }
     ensures unwritten { WritesNothing result → out.new ≡ out.old }
 {
     match list_plain(alloc, cone, out) {

@@ -1,6 +1,8 @@
 //! The program on worked files, whose listings were computed elsewhere.
+use crate::process::respond;
 use crate::status::{Status, status_line};
 use crate::top::lrs;
+use command_line::LineStop;
 use poly_io::{Call, MemSink, MemSource};
 use poly_model::{Key, Label, Overflow, Phase, Place};
 use poly_reader::{BadFile, BadKind};
@@ -11,6 +13,9 @@ const SQUARE: &str = "H-representation\nbegin\n4 3 integer\n0 1 0\n0 0 1\n1 -1 0
 
 const SQUARE_LISTING: &str =
     "V-representation\nbegin\n***** 3 rational\n 1 0 0\n 1 1 0\n 1 0 1\n 1 1 1\nend\n";
+
+const USAGE: &str =
+    "lrs: usage: lrs convert / run LEDGER / resume LEDGER / status LEDGER / job / demo KIND N\n";
 
 /// The lines of a text in a fixed order, since the rows of a listing stand in any.
 fn sorted_lines<'a>(alloc: Global, text: &'a [u8]) -> Result<Vec<&'a [u8]>, AllocError> {
@@ -357,6 +362,43 @@ fn answers_faults_and_other_words(rt: HostRuntime) {
     }
 }
 
+// The arguments of a process: the program's name, and these words.
+fn arguments(alloc: Global, words: &[&str]) -> Result<Vec<String>, AllocError> {
+    let mut given = Vec::new(alloc);
+    given.push(format!(in alloc; "lrs")?)?;
+    for word in words {
+        given.push(format!(in alloc; "{word}")?)?;
+    }
+    Ok(given)
+}
+
+#[test]
+fn a_process_says_how_it_ends(rt: HostRuntime) -> Result<(), Fail> {
+    let alloc = rt.alloc();
+    let rows = [
+        (Ok(["convert"].as_slice()), 0, "lrs: done 4 rows 0 lines\n"),
+        (Ok(&[]), 2, USAGE),
+        (Ok(&["convert", "convert"]), 2, USAGE),
+        (Err(LineStop::Usage), 2, USAGE),
+        (Err(LineStop::Memory), 15, "lrs: out of memory\n"),
+    ];
+    for (words, number, line) in rows {
+        let given = match words {
+            Ok(words) => Ok(arguments(alloc, words)?),
+            Err(stop) => Err(stop),
+        };
+        let mut input = MemSource::new(SQUARE.as_bytes(), &[]);
+        let mut out = MemSink::new(alloc, &[]);
+        let mut errors = MemSink::new(alloc, &[]);
+        assert_eq!(rt;
+            respond(alloc, given, &mut input, &mut out, &mut errors),
+            number
+        );
+        assert_eq!(rt; errors.written(), line.as_bytes());
+    }
+    Ok(())
+}
+
 #[test]
 fn prints_status_lines(rt: HostRuntime) -> Result<(), Fail> {
     let place = |row, col| Place {
@@ -376,10 +418,7 @@ fn prints_status_lines(rt: HostRuntime) -> Result<(), Fail> {
             Status::Done { rows: 4, lines: 0 },
             "lrs: done 4 rows 0 lines\n",
         ),
-        (
-            Status::Usage,
-            "lrs: usage: lrs convert / run LEDGER / resume LEDGER / status LEDGER / job / demo KIND N\n",
-        ),
+        (Status::Usage, USAGE),
         (
             Status::Overflow(overflow),
             "lrs: overflow cone 3 3 x1 x3 2,x1 t,c x2,x1 2,3\n",

@@ -9,10 +9,11 @@ mod table;
 mod walk;
 
 use plan::{Mode, Plan, plan_of};
+use poly_model::OutOfMemory;
 use prepare::prepared;
 use random::Random;
 use spots::{spots_of, turns};
-use std::alloc::{AllocError, Global};
+use std::alloc::Global;
 use std::io;
 use std::process::ExitCode;
 use table::Table;
@@ -47,7 +48,7 @@ fn run(rt: &HostRuntime) -> io::Result<bool> {
 }
 
 // How many pivots were done, and the table after them.
-fn carried_out(alloc: Global, plan: &Plan) -> Result<(u64, Table), AllocError> {
+fn carried_out(alloc: Global, plan: &Plan) -> Result<(u64, Table), OutOfMemory> {
     let mut random = Random { state: plan.seed };
     let mut dict = prepared(alloc, plan, &mut random)?;
     match plan.mode {

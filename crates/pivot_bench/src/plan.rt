@@ -1,5 +1,8 @@
 //! What the words of a call ask for.
 ghost use Rattle.std.specs.Prelude.{◌<◌, ◌≤◌};
+ghost use Rattle.poly_model.specs.Limits.{most_columns, most_file_rows};
+
+use poly_model::{MOST_COLUMNS, MOST_FILE_ROWS};
 
 /// Which pivots are done: those of a dictionary, or of a plain table with each number checked, there and
 /// back; or those of a dictionary that goes on at random, from the coordinates.
@@ -20,9 +23,9 @@ pub struct Plan {
     pub pivots: u64,
     pub seed: u64,
     ghost some: { 0 < rows },
-    ghost few: { rows ≤ 4096 },
+    ghost few: { rows ≤ most_file_rows },
     ghost wide: { 0 < columns },
-    ghost narrow: { columns < 256 },
+    ghost narrow: { columns < most_columns },
 }
 
 /// What these words ask for; they are those after the program's name.
@@ -36,9 +39,12 @@ pub fn plan_of(words: &[&str]) -> Option<Plan> {
         "walk" => Mode::Walk,
         _ => return None,
     };
-    let rows = rows.parse().ok()?;
-    let columns = columns.parse().ok()?;
-    if rows == 0 || rows > 4096 || columns == 0 || columns > 255 {
+    let rows: u16 = rows.parse().ok()?;
+    let columns: u16 = columns.parse().ok()?;
+    if rows == 0 || u32::from(rows) > MOST_FILE_ROWS {
+        return None;
+    }
+    if columns == 0 || u32::from(columns) >= MOST_COLUMNS {
         return None;
     }
     Some(Plan {

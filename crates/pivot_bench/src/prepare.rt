@@ -3,13 +3,13 @@ use crate::plan::Plan;
 use crate::random::Random;
 use crate::table::Table;
 use dictionary::Dict;
-use poly_model::{Kind, Label, Phase, RowKind, System};
+use poly_model::{Kind, Label, OutOfMemory, Phase, RowKind, System};
 use poly_num::Num;
-use std::alloc::{AllocError, Global};
+use std::alloc::Global;
 
 /// A dictionary of rows at random, in which rows took the places of coordinates until its largest number
 /// has the bits of the plan, or none is left.
-pub fn prepared(alloc: Global, plan: &Plan, random: &mut Random) -> Result<Dict, AllocError> {
+pub fn prepared(alloc: Global, plan: &Plan, random: &mut Random) -> Result<Dict, OutOfMemory> {
     let sys = system(alloc, plan, random)?;
     let mut dict = Dict::new(alloc, &sys, Phase::Prepare)?;
     'columns: for j in 0..plan.columns {
@@ -33,7 +33,7 @@ pub fn exchange(dict: &mut Dict, row: Label, col: Label) -> bool {
 
 // The cone of an H file of rows at random: they, and the row at infinity. The entries are below a bound at
 // random: of a digit or two, or larger where no pivot could make those large enough.
-fn system(alloc: Global, plan: &Plan, random: &mut Random) -> Result<System, AllocError> {
+fn system(alloc: Global, plan: &Plan, random: &mut Random) -> Result<System, OutOfMemory> {
     let n = plan.columns as usize + 1;
     let rows = plan.rows as usize;
     let bound = 10 + random.below(2 << (plan.bits / plan.columns as u32).min(30));

@@ -5,8 +5,8 @@ use crate::prepare::exchange;
 use crate::random::Random;
 use crate::table::Table;
 use dictionary::Dict;
-use poly_model::Label;
-use std::alloc::{AllocError, Global};
+use poly_model::{Label, OutOfMemory};
+use std::alloc::Global;
 
 /// A row and a column of a table, both counted from 0, and their labels.
 #[derive(Clone, Copy)]
@@ -67,7 +67,7 @@ pub fn spots_of(
     dict: &Dict,
     table: &Table,
     random: &mut Random,
-) -> Result<Vec<Spot>, AllocError> {
+) -> Result<Vec<Spot>, OutOfMemory> {
     let key = dict.key();
     let (outside, inside) = (table.labels(), key.labels());
     let mut spots = Vec::new(alloc);
@@ -92,7 +92,7 @@ pub fn spots_of(
 
 // Whether a dictionary and its table can pivot there and back, by way of numbers no larger, and the table
 // is then what it was.
-fn will_do(spot: &Spot, dict: &Dict, table: &Table) -> Result<bool, AllocError> {
+fn will_do(spot: &Spot, dict: &Dict, table: &Table) -> Result<bool, OutOfMemory> {
     let mut numbers = dict.copy()?;
     let mut cells = table.copy()?;
     Ok(

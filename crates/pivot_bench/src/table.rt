@@ -4,8 +4,8 @@ ghost use Rattle.std.specs.List.{Contains};
 
 use crate::plan::Plan;
 use dictionary::Dict;
-use poly_model::Label;
-use std::alloc::{AllocError, Global};
+use poly_model::{Label, OutOfMemory};
+use std::alloc::Global;
 
 /// A row of `width` numbers for each label outside the cobasis, over a denominator: its constant, and its
 /// entries at the labels of the cobasis. Which labels have changed places is not kept.
@@ -20,7 +20,7 @@ pub struct Table {
 
 impl Table {
     /// The numbers of a dictionary.
-    pub fn of(alloc: Global, dict: &Dict, plan: &Plan) -> Result<Table, AllocError> {
+    pub fn of(alloc: Global, dict: &Dict, plan: &Plan) -> Result<Table, OutOfMemory> {
         let key = dict.key();
         let mut labels = Vec::new(alloc);
         let mut cells = Vec::new(alloc);
@@ -44,7 +44,7 @@ impl Table {
     }
 
     /// A table that is equal.
-    pub fn copy(&self) -> Result<Table, AllocError> {
+    pub fn copy(&self) -> Result<Table, OutOfMemory> {
         Ok(Table {
             width: self.width,
             labels: self.labels.clone()?,
@@ -90,7 +90,7 @@ fn push_row(
     dict: &Dict,
     row: Label,
     columns: &[u16],
-) -> Result<(), AllocError>
+) -> Result<(), OutOfMemory>
     requires { Contains dict.now.labels row.0 }
     ensures { OnOk result (vec_len cells.new ≡ vec_len cells.old + suc (length columns.now)) }
 {

@@ -13,6 +13,7 @@ use Rattle.poly_model.specs.Cones.{IsTight}
 use Rattle.poly_model.specs.FreeColumns.{IsFree, IsZeroAtFree, AreFreeColumns, AreLinesOf, AreLines}
 use Rattle.poly_model.specs.Spaces.{IsSpaceOf, coordinate_label, is_row, is_member, cone_space}
 use Rattle.poly_model.specs.Dictionaries.{Table}
+use Rattle.poly_model.proofs.RowLemmas.{row_from_one}
 use Rattle.linear_laws.proofs.AllLemmas.{all_from_map, all_to_map}
 use Rattle.linear_laws.proofs.Members.{all_at}
 use Rattle.dictionary_laws.specs.Keys.{AreDistinct}
@@ -183,11 +184,8 @@ module _ (p : Polyhedron) (at last : Dictionary) (free : List ℕ) (b : IsBegun 
         subst (λ (row : Row). row.linear ≡ true → IsTight z row) (get_or_default rows m no_row none l)
         (λ e.
         let low : suc m < 8192 = let few = b.at_of.few in omega arith in
-        let here : suc m - 1 ≡ m = omega arith in
-        let linear = ap (λ i. (slice_index_or rows i no_row).linear) here ∙ e in
-        subst (λ i. (slice_index_or rows i no_row).entries · z ≡ pos 0) here
-        (sym (ap (λ g. g · z) (row_form p (suc m) low))
-        ∙ linear_is_zero zeros (suc m) (omega arith) (omega arith) linear))
+        sym (ap (λ g. g · z) (row_form p (suc m) low))
+        ∙ linear_is_zero zeros (suc m) (omega arith) (omega arith) e)
 
     free_are_zero : AreZeroAt p fixed z → IsZeroAtFree (cone_of p) z
     free_are_zero zeros j f = sym (coordinate_value p j z) ∙ zeros (coordinate_label j) (free_is_fixed j f)
@@ -201,8 +199,10 @@ module _ (p : Polyhedron) (at last : Dictionary) (free : List ℕ) (b : IsBegun 
         let r = cone_labels.rows_only k (key_label k h.0) l in
         let some = r.0 in
         let within = r.1 in
+        let here = row_from_one rows k some in
         ap (λ g. g · z) (row_form p k l)
-        ∙ tight (k - 1) no_row (omega arith) (row_is_linear k h.0 l))
+        ∙ ap (λ (row : Row). row.entries · z) here
+        ∙ tight (k - 1) no_row (omega arith) (ap (λ (row : Row). row.linear) (sym here) ∙ row_is_linear k h.0 l))
         (λ (l : 8192 ≤ k).
         let j : ℕ = k - 8192 in
         let member = not-false (is_member j free) (sym (coordinate_stays rows free k l) ∙ h.1) in

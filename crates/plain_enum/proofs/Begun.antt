@@ -3,6 +3,7 @@ use Rattle.std.proofs.Common.{◌≡◌, Err, inl, ℕ, ◌+◌, ◌<◌, ◌≤
 use Rattle.std.specs.List.{Contains, range_with_len}
 use Rattle.std.specs.Result.{IsErrOf}
 use Rattle.std.proofs.lemmas.List.Elements.{Contains-append_left}
+use Rattle.poly_model.specs.Limits.{most_columns, most_cone_rows}
 use Rattle.poly_model.specs.declared.overflow.Overflow.{Overflow as Passed}
 use Rattle.poly_model.specs.declared.overflow.Phase.TheVariants.{Cone}
 use Rattle.poly_model.specs.Keys.{IsAscending}
@@ -23,9 +24,9 @@ pub same_overflow : {T : Type 0} (x o : Passed) → IsErrOf {T = T} {E = Feasibl
     x ≡ o
 same_overflow x o h = cc
 
--- a pass over all rows
-abbrev pub Passes : System → Polyhedron → (others : Bool) → Dictionary → Dictionary → Type 0
-Passes sys p others old new =
+-- a pass over all rows: what it finds and what it leaves
+abbrev pub TriesAll : System → Polyhedron → (others : Bool) → Dictionary → Dictionary → Type 0
+TriesAll sys p others old new =
     IsDictionaryOf p old → IsEliminated sys.rows others 1 old →
     IsDictionaryOf p new × IsEliminated sys.rows others (length sys.rows + 1) new
 
@@ -38,7 +39,7 @@ new_rows sys d new i a b =
 
 -- the numbers of rows and of coordinates are those that a system tells
 module _ (sys : System) (new : Dictionary) (is_new : IsNew sys Cone new) {n rows : ℕ} (width : n ≡ sys.n) (some : 0 < n)
-    (narrow : n ≤ 256) (count : rows ≡ length sys.rows) (few : rows ≤ 4097) (p : Polyhedron)
+    (narrow : n ≤ most_columns) (count : rows ≡ length sys.rows) (few : rows ≤ most_cone_rows) (p : Polyhedron)
     (file : sys ≡ cone_of p) where
   begun : IsDictionaryOf p new × IsEliminated sys.rows false 1 new
   begun =
@@ -49,11 +50,11 @@ module _ (sys : System) (new : Dictionary) (is_new : IsNew sys Cone new) {n rows
   pub first_of : IsDictionaryOf p new
   first_of = begun.0
 
-  pub second_of : (at : Dictionary) → Passes sys p false new at → IsDictionaryOf p at
+  pub second_of : (at : Dictionary) → TriesAll sys p false new at → IsDictionaryOf p at
   second_of at first = (first begun.0 begun.1).0
 
   -- both have passed
-  pub is_begun : (at last : Dictionary) (free : List ℕ) → Passes sys p false new at → Passes sys p true at last →
+  pub is_begun : (at last : Dictionary) (free : List ℕ) → TriesAll sys p false new at → TriesAll sys p true at last →
       at.phase ≡ new.phase → ((k : ℕ) → Contains last.key k → 8192 ≤ k → Contains at.key k) → IsAscending last.key →
       free ≡ columns_in last.key → IsBegun p at last free
   is_begun at last free first second phase later ascending columns =

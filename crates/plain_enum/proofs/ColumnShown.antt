@@ -17,6 +17,7 @@ use Rattle.poly_model.specs.declared.kind.Kind.TheVariants.{H, V}
 use Rattle.poly_model.specs.Systems.{Row, row_of, no_row, Polyhedron, cone_of}
 use Rattle.poly_model.specs.Extreme.{TouchesPoint, IsShown}
 use Rattle.poly_model.specs.Dictionaries.{Table}
+use Rattle.poly_model.proofs.RowLemmas.{row_from_one}
 use Rattle.linear_laws.specs.Corners.{IsInConeOf}
 use Rattle.linear_laws.proofs.Members.{all_at}
 use Rattle.linear_laws.proofs.Proportions.{vanish_from_multiple, multiples_from_values}
@@ -202,7 +203,8 @@ module _ (p : Polyhedron) (cone : ListedCone) (free : List ℕ) (d : Dictionary)
   entries_of : (i : ℕ) → 0 < i → i ≤ length (cone_of p).rows → (row_of (cone_of p).rows i).entries ≡ row_at cone i
   entries_of i a b =
       sym (ap (λ gs. get_or gs (i - 1) []) stands.over.rows
-      ∙ get_or-map (λ (row : Row). row.entries) (cone_of p).rows (i - 1) no_row [] (omega arith))
+      ∙ get_or-map (λ (row : Row). row.entries) (cone_of p).rows (i - 1) no_row [] (omega arith)
+      ∙ ap (λ (row : Row). row.entries) (sym (row_from_one (cone_of p).rows i a)))
 
   touches_there : (side : Side) → (i : ℕ) × IsTouchedAt (cone_of p) d k i → TouchesPoint (cone_of p) (vector_on side y)
   touches_there side (i, t) =
@@ -210,7 +212,8 @@ module _ (p : Polyhedron) (cone : ListedCone) (free : List ℕ) (d : Dictionary)
       let b = t.within in
       record {
         row = row_of (cone_of p).rows i;
-        within = Contains-get_or (cone_of p).rows (i - 1) no_row (omega arith);
+        within = subst (Contains (cone_of p).rows) (sym (row_from_one (cone_of p).rows i a))
+            (Contains-get_or (cone_of p).rows (i - 1) no_row (omega arith));
         point = t.point;
         tight = ap (λ v. v · vector_on side y) (entries_of i a b)
             ∙ zero_factor g (row_at cone i · vector_on side y)
@@ -221,9 +224,8 @@ module _ (p : Polyhedron) (cone : ListedCone) (free : List ℕ) (d : Dictionary)
   touches_back side t =
       let m = t.within.0 in
       let lt : m < length (cone_of p).rows = t.within.1 in
-      let place : suc m - 1 ≡ m = omega arith in
       let same : row_of (cone_of p).rows (suc m) ≡ t.row =
-      ap (λ j. get_or (cone_of p).rows j no_row) place ∙ get_or_default (cone_of p).rows m no_row t.row lt ∙ t.within.2 in
+      get_or_default (cone_of p).rows m no_row t.row lt ∙ t.within.2 in
       let b : suc m ≤ length (cone_of p).rows = omega arith in
       let tight : row_at cone (suc m) · vector_on side y ≡ pos 0 =
       ap (λ v. v · vector_on side y) (sym (entries_of (suc m) (omega arith) b))

@@ -3,7 +3,7 @@ use Rattle.std.proofs.Common.{◌≡◌, ◌↔◌, Bool, true, false, ℕ, ◌-
 use Rattle.poly_num.specs.Vectors.{Vector}
 use Rattle.poly_model.specs.declared.overflow.Overflow.{Overflow}
 use Rattle.poly_model.specs.Systems.{System, Polyhedron, cone_of}
-use Rattle.poly_model.specs.Overflows.{Passes}
+use Rattle.plain_enum.specs.Plain.{PassesInCone}
 use Rattle.cone_laws.specs.FeasibilityLaws.{HasVertex}
 use Rattle.dictionary.specs.Views.{Dictionary}
 use Rattle.listing_laws.specs.ListedCone.{ListedCone, IsConeOf}
@@ -53,7 +53,7 @@ module _ (p : Polyhedron) (at last : Dictionary) (free : List ℕ) (b : IsBegun 
 
     pub passes_there : (o : Overflow) →
         ((q : Polyhedron) (cone : ListedCone) (fixed left : List ℕ) (marks : List Bool) →
-        IsAt sys free at 1 depth q cone fixed left marks → Passes q o) → Passes p o
+        IsAt sys free at 1 depth q cone fixed left marks → PassesInCone q o) → PassesInCone p o
     passes_there o passes =
         passes p (begun_cone p free at) (fixed_in (cone_of p).rows free at.key) (left_in free at.key) [] begins
 

@@ -5,7 +5,7 @@ use Rattle.poly_num.specs.Vectors.{Vector}
 use Rattle.poly_model.specs.declared.overflow.Overflow.{Overflow}
 use Rattle.poly_model.specs.Cones.{at}
 use Rattle.poly_model.specs.Systems.{System, Polyhedron}
-use Rattle.poly_model.specs.Overflows.{Passes}
+use Rattle.plain_enum.specs.Plain.{PassesInCone}
 use Rattle.linear_laws.proofs.Members.{Contains-nil, Contains-first, Contains-cons_cases}
 use Rattle.dictionary_laws.proofs.Members.{without}
 use Rattle.dictionary.specs.Views.{Dictionary, CanPivot, IsPivot, IsOverflow}
@@ -71,7 +71,7 @@ module _ (sys : System) (free : List ℕ) (d : Dictionary) (depth i : ℕ) (p : 
       (next_row.all_decided sys free d i depth p cone fixed left s.marks s.here behind)
       (s.points h.vector h.under h.positive))
 
-  pub passes_now : (k : ℕ) (o : Overflow) → CanPivot d i k → IsOverflow d i k o → Passes p o
+  pub passes_now : (k : ℕ) (o : Overflow) → CanPivot d i k → IsOverflow d i k o → PassesInCone p o
   passes_now = next_row.overflows sys free d i depth p cone fixed left s.marks s.here
 
   module _ (row : i ≤ length sys.rows) where

@@ -11,7 +11,7 @@ use Rattle.poly_num.specs.Vectors.{Vector}
 use Rattle.poly_model.specs.declared.kind.Kind.{Kind}
 use Rattle.poly_model.specs.declared.overflow.Overflow.{Overflow}
 use Rattle.poly_model.specs.Systems.{System, Polyhedron}
-use Rattle.poly_model.specs.Overflows.{Passes}
+use Rattle.plain_enum.specs.Plain.{PassesInCone}
 use Rattle.poly_model.specs.ListingText.{row_text}
 use Rattle.poly_io.specs.Written.{AppendsPart}
 use Rattle.poly_io.proofs.Parts.{part_after}
@@ -136,7 +136,7 @@ module _ (sys : System) (free : List ℕ) (d : Dictionary) (depth rows count : �
   listable : IsListable cone
   listable = is_listable sys cone s.here.is_cone
 
-  pub overflows : (k : ℕ) (o : Overflow) → CanPivot d i k → IsOverflow d i k o → Passes p o
+  pub overflows : (k : ℕ) (o : Overflow) → CanPivot d i k → IsOverflow d i k o → PassesInCone p o
   overflows = next_row.overflows sys free d i depth p cone fixed left s.marks s.here
 
   -- ---- at a row

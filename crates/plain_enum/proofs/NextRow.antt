@@ -8,8 +8,10 @@ use Rattle.poly_model.specs.declared.overflow.Overflow.{Overflow}
 use Rattle.poly_model.specs.Independence.{Vanish, Follows, IsNew}
 use Rattle.poly_model.specs.Systems.{Row, row_of, no_row, System, Polyhedron}
 use Rattle.poly_model.specs.Overflows.{Passes, IsPassing}
+use Rattle.plain_enum.specs.Plain.{PassesInCone}
 use Rattle.poly_model.specs.Spaces.{IsSpaceOf, cone_space}
 use Rattle.poly_model.specs.Dictionaries.{Table, IsDictionary}
+use Rattle.poly_model.proofs.RowLemmas.{row_from_one}
 use Rattle.dictionary_laws.proofs.Members.{without}
 use Rattle.dictionary_laws.proofs.PhasePoints.{phase_points}
 use Rattle.dictionary.specs.Views.{Dictionary, CanPivot, IsPivot, IsOverflow, table_of}
@@ -97,7 +99,8 @@ module _ (sys : System) (free : List ℕ) (d : Dictionary) (i depth : ℕ) (p : 
         (ap (λ gs. get_or gs (length marks) []) here.is_cone.rows
         ∙ get_or-map (λ (r : Row). r.entries) sys.rows (length marks) no_row [] (omega (arith, same_rows, before))
         ∙ ap (λ m. Row.entries (get_or sys.rows m no_row)) (omega (arith, here.next)))
-        ∙ ((here.is_cone.fixed z wide).0 base).1 (i - 1) no_row (omega (arith, here.next, row)) e
+        ∙ ((here.is_cone.fixed z wide).0 base).1 (i - 1) no_row (omega (arith, here.next, row))
+        (ap (λ (r : Row). r.linear) (sym (row_from_one sys.rows i (omega (arith, here.next)))) ∙ e)
 
     not_linear : (k : ℕ) → IsColumnOf d free i k → (row_of sys.rows i).linear ≡ false
     not_linear k column =
@@ -160,10 +163,10 @@ module _ (sys : System) (free : List ℕ) (d : Dictionary) (i depth : ℕ) (p : 
       }
 
   -- a product that passes
-  pub overflows : (k : ℕ) (o : Overflow) → CanPivot d i k → IsOverflow d i k o → Passes p o
-  overflows k o can over = record {
+  at_cone : (k : ℕ) (o : Overflow) → CanPivot d i k → IsOverflow d i k o → Passes p o
+  at_cone k o can over = record {
     space = cone_space p;
-    phase = subst (λ f. IsSpaceOf p f (cone_space p)) (sym (over.phase ∙ here.phase)) refl;
+    is_space = subst (λ f. IsSpaceOf p f (cone_space p)) (sym (over.phase ∙ here.phase)) refl;
     point = (phase_points p).cone;
     table = table_of d;
     dictionary = subst (λ ks. IsDictionary (cone_space p) ks (table_of d)) (sym over.key) here.stands.dictionary.dictionary;
@@ -178,3 +181,6 @@ module _ (sys : System) (free : List ℕ) (d : Dictionary) (i depth : ℕ) (p : 
     passing = subst (λ ks. IsPassing (cone_space p).labels ks (table_of d) i k o) (sym over.key)
         (subst (λ ks. IsPassing ks d.key (table_of d) i k o) here.stands.dictionary.labels over.passes);
   }
+
+  pub overflows : (k : ℕ) (o : Overflow) → CanPivot d i k → IsOverflow d i k o → PassesInCone p o
+  overflows k o can over = record { phase = over.phase ∙ here.phase; passes = at_cone k o can over }

@@ -9,6 +9,7 @@ use Rattle.poly_model.specs.Independence.{Vanish, taken}
 use Rattle.poly_model.specs.Systems.{Row, row_of, no_row, Polyhedron, cone_of}
 use Rattle.poly_model.specs.Cones.{coordinate}
 use Rattle.poly_model.specs.Spaces.{is_row, coordinate_label, cone_space}
+use Rattle.poly_model.proofs.RowLemmas.{row_from_one}
 use Rattle.linear_laws.proofs.Members.{Contains-nil, Contains-first, Contains-later}
 use Rattle.dictionary_laws.proofs.Filters.{range_has}
 use Rattle.dictionary_laws.proofs.Members.{by_cases}
@@ -60,6 +61,7 @@ module _ (p : Polyhedron) (cone : ListedCone) (over : HasRowsOf p cone) where
       let below : i < 8192 = omega (arith, as_many, over.few) in
       ap (λ gs. get_or gs (i - 1) []) over.rows
       ∙ get_or-map (λ (row : Row). row.entries) (cone_of p).rows (i - 1) no_row [] within
+      ∙ ap (λ (row : Row). row.entries) (sym (row_from_one (cone_of p).rows i a))
       ∙ sym (cond-true (is_row i) (row_of (cone_of p).rows i).entries (coordinate (i - 8192)) (lt-ltb i 8192 below))
 
   pub next_form : (marks : List Bool) → length marks < length cone.rows →

@@ -6,6 +6,7 @@ use Rattle.std.proofs.KnownBytes.{Appends-nil}
 use Rattle.std.proofs.lemmas.List.Concat.{flat_map-cons}
 use Rattle.std.proofs.lemmas.List.Elements.{Contains-append_cases}
 use Rattle.poly_num.specs.Vectors.{Vector}
+use Rattle.poly_model.specs.Limits.{most_columns}
 use Rattle.poly_model.specs.declared.kind.Kind.{Kind}
 use Rattle.poly_model.specs.Systems.{System, Polyhedron, cone_of}
 use Rattle.poly_model.specs.Spaces.{coordinate_label, cone_space}
@@ -90,7 +91,7 @@ module _ (sys : System) (free : List ℕ) (d : Dictionary) (from : ℕ) (p : Pol
       (Contains-cons_cases col k []
       (is_left p cone d fixed (k ∷ []) marks stands sys.rows free at.fixed_are col l.inside l.coordinate l.not_free))
 
-  left_below : p.n ≤ 256 → k < constant_label
+  left_below : p.n ≤ most_columns → k < constant_label
   left_below narrow =
       ⊎_elim
       (λ c. let r = (range_only 1 (length (cone_of p).rows) k c).1 in let few = stands.over.few in omega arith)
@@ -102,12 +103,12 @@ module _ (sys : System) (free : List ℕ) (d : Dictionary) (from : ℕ) (p : Pol
       (Contains-append_cases (range_with_len 1 (length (cone_of p).rows)) (map coordinate_label (range_with_len 0 (p.n - 0))) k
       (is_label (cone_space p) d.key stands.dictionary.dictionary.cobasis k in_key))
 
-  module _ (narrow : sys.n ≤ 256) (col : ℕ) (is : IsLeftCoordinate d free col) where
+  module _ (narrow : sys.n ≤ most_columns) (col : ℕ) (is : IsLeftCoordinate d free col) where
     same_width : sys.n ≡ p.n
     same_width = ap (λ (s : System). s.n) at.file
 
     leaves : LeavesColumn p cone d marks k
-    leaves = one_is_left p cone d fixed k marks stands (left_below (subst (λ n. n ≤ 256) same_width narrow))
+    leaves = one_is_left p cone d fixed k marks stands (left_below (subst (λ n. n ≤ most_columns) same_width narrow))
 
     are : FixedAre (cone_of p).rows free d fixed
     are = subst (λ (s : System). FixedAre s.rows free d fixed) at.file at.fixed_are

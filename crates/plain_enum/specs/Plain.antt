@@ -2,10 +2,18 @@
 use Rattle.std.specs.Prelude.{◌≡◌, ℕ, List, length, Option, Result, IfOk, OnErr}
 use Rattle.std.specs.Io.KnownBytes.{Appends}
 use Rattle.poly_model.specs.declared.listed.Listed.{Listed}
+use Rattle.poly_model.specs.declared.overflow.Overflow.{Overflow}
+use Rattle.poly_model.specs.declared.overflow.Phase.TheVariants.{Cone}
 use Rattle.poly_model.specs.Systems.{Polyhedron}
+use Rattle.poly_model.specs.Overflows.{Passes}
 use Rattle.poly_model.specs.Listing.{IsListing}
 use Rattle.poly_io.specs.Written.{AppendsPart}
 use Rattle.plain_enum.specs.Listed.{counted}
+
+-- a product that a pivot needs passes, at a dictionary of the whole cone
+pub record PassesInCone (p : Polyhedron) (o : Overflow) : Type 0 where
+  pub phase : o.phase ≡ Cone
+  pub passes : Passes p o
 
 -- the text is a listing with so many rows and lines
 pub record IsCountedListing (p : Polyhedron) (text : List ℕ) (listed : Listed) : Type 0 where

@@ -3,13 +3,13 @@
 ghost use Rattle.std.specs.Prelude.{◌≡◌, ◌-◌, IfOk, IsErrOf, length};
 ghost use Rattle.std.specs.List.{All};
 ghost use Rattle.poly_model.specs.declared.overflow.Overflow.{Overflow as Passed};
-ghost use Rattle.poly_model.specs.Overflows.{Passes};
 ghost use Rattle.poly_model.specs.Keys.{IsAscending};
 ghost use Rattle.poly_model.specs.Systems.{Polyhedron, cone_of};
 ghost use Rattle.linearity.specs.Columns.{columns_in};
 ghost use Rattle.plain_enum.specs.Begin.{IsBegun, left_in};
 ghost use Rattle.plain_enum.specs.Columns.{HasRows};
 ghost use Rattle.plain_enum.specs.Listed.{HasShapeOf};
+ghost use Rattle.plain_enum.specs.Plain.{PassesInCone};
 
 use crate::answers::FeasibleStop;
 use crate::side::is_kept;
@@ -42,7 +42,7 @@ pub(crate) fn begin(alloc: Global, sys: &System) -> Result<Beginning, FeasibleSt
     ensures depth { IfOk result (λ b. length b.deeper.items ≡ length (left_in b.free.items b.at.key) - 1) }
     ensures vector { IfOk result (λ b. length b.vector.items ≡ sys.now.n) }
     ensures overflow { (o : Passed) → IsErrOf result (FeasibleStop.Overflow o) → (p : Polyhedron) →
-        sys.now ≡ cone_of p → Passes p o }
+        sys.now ≡ cone_of p → PassesInCone p o }
 {
     let (_n, _rows) = (sys.n(), sys.rows());
     let Ok(mut at) = Dict::new(alloc, sys, Phase::Cone) else {

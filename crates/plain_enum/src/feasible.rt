@@ -2,7 +2,6 @@
 ghost use Rattle.std.specs.Prelude.{◌≡◌, ◌-◌, ◌≤◌, ◌<◌, ◌↔◌, ◌<ℤ◌, ℕ, Bool, List, pos, length, IfOk, IsErrOf, IsTrue};
 ghost use Rattle.std.specs.List.{All};
 ghost use Rattle.poly_model.specs.declared.overflow.Overflow.{Overflow as Passed};
-ghost use Rattle.poly_model.specs.Overflows.{Passes};
 ghost use Rattle.poly_model.specs.Systems.{Polyhedron, cone_of};
 ghost use Rattle.cone_laws.specs.FeasibilityLaws.{HasVertex};
 ghost use Rattle.dictionary.specs.Views.{Dictionary};
@@ -13,6 +12,7 @@ ghost use Rattle.plain_enum.specs.Begin.{IsBegun, left_in};
 ghost use Rattle.plain_enum.specs.Columns.{HasRows};
 ghost use Rattle.plain_enum.specs.Listed.{HasShapeOf, IsAt};
 ghost use Rattle.plain_enum.specs.Feasible.{TellsUnder};
+ghost use Rattle.plain_enum.specs.Plain.{PassesInCone};
 
 use crate::answers::FeasibleStop;
 use crate::begin::{Beginning, begin};
@@ -24,14 +24,15 @@ use poly_model::{Kind, Label, Overflow, System};
 use poly_num::Num;
 use std::alloc::Global;
 
-/// Whether a file is feasible: a V file always is, an H file where its cone has a vector with a positive first entry.
-/// `sys` is its cone, and is left as it is; the dictionaries are given back before the call returns, whatever it
+/// Whether a file is feasible: a V file always is, and no number of it passes; an H file where its cone has a vector
+/// with a positive first entry. `sys` is its cone, and is left as it is; the dictionaries are given back before the call returns, whatever it
 /// answers.
 pub fn feasible_plain(alloc: Global, sys: &System) -> Result<bool, FeasibleStop>
     ensures answer { IfOk result (λ found. (p : Polyhedron) → sys.now ≡ cone_of p →
         IsTrue found ↔ IsFeasible (cone_of p)) }
     ensures overflow { (o : Passed) → IsErrOf result (FeasibleStop.Overflow o) → (p : Polyhedron) →
-        sys.now ≡ cone_of p → Passes p o }
+        sys.now ≡ cone_of p → PassesInCone p o }
+    ensures inequalities { (o : Passed) → IsErrOf result (FeasibleStop.Overflow o) → sys.now.kind ≡ Kind.H }
 {
     match sys.kind() {
         Kind::H => has_point(alloc, sys),
@@ -44,7 +45,7 @@ fn has_point(alloc: Global, sys: &System) -> Result<bool, FeasibleStop>
     ensures answer { IfOk result (λ found. (p : Polyhedron) → sys.now ≡ cone_of p →
         IsTrue found ↔ HasVertex (cone_of p)) }
     ensures overflow { (o : Passed) → IsErrOf result (FeasibleStop.Overflow o) → (p : Polyhedron) →
-        sys.now ≡ cone_of p → Passes p o }
+        sys.now ≡ cone_of p → PassesInCone p o }
 {
     let Beginning {
         at,
@@ -74,7 +75,7 @@ fn has_point_left(
     ensures answer { IfOk result (λ found. (p : Polyhedron) (last : Dictionary) → sys.now ≡ cone_of p →
         IsBegun p at.now last free.now → IsTrue found ↔ HasVertex (cone_of p)) }
     ensures passes { (o : Passed) → IsErrOf result o → (p : Polyhedron) (last : Dictionary) → sys.now ≡ cone_of p →
-        IsBegun p at.now last free.now → Passes p o }
+        IsBegun p at.now last free.now → PassesInCone p o }
 {
     match left_coordinate(at, free) {
         Some(_) => has_point_under(sys, free, at, deeper, 1, vector),
@@ -126,7 +127,7 @@ fn has_point_under(
     requires vector { length vector.old ≡ sys.now.n }
     ensures tells { IfOk result (TellsUnder sys.now free.now at.now from (length deeper.old)) }
     ensures passes { (o : Passed) → IsErrOf result o → (p : Polyhedron) (cone : ListedCone) (fixed left : List ℕ) (marks : List Bool) →
-        IsAt sys.now free.now at.now from (length deeper.old) p cone fixed left marks → Passes p o }
+        IsAt sys.now free.now at.now from (length deeper.old) p cone fixed left marks → PassesInCone p o }
     ensures shapes { All (HasShapeOf at.now) deeper.new }
     ensures depth { length deeper.new ≡ length deeper.old }
     ensures vector { length vector.new ≡ sys.now.n }

@@ -4,12 +4,12 @@ ghost use Rattle.std.specs.Prelude.{◌≡◌, ◌≤◌, ◌<◌, ℕ, Bool, Li
 ghost use Rattle.std.specs.List.{All};
 ghost use Rattle.poly_io.specs.Causes.{Rose};
 ghost use Rattle.poly_model.specs.declared.overflow.Overflow.{Overflow as Passed};
-ghost use Rattle.poly_model.specs.Overflows.{Passes};
 ghost use Rattle.poly_model.specs.Systems.{Polyhedron};
 ghost use Rattle.dictionary.specs.Views.{CanPivot, IsPivot, IsOverflow};
 ghost use Rattle.listing_laws.specs.ListedCone.{ListedCone};
 ghost use Rattle.plain_enum.specs.Columns.{HasRows};
 ghost use Rattle.plain_enum.specs.Listed.{WritesUnder, HasShapeOf, IsAt};
+ghost use Rattle.plain_enum.specs.Plain.{PassesInCone};
 
 use crate::answers::{PlainStop, Shown};
 use crate::shown::{shown_side, write_direction};
@@ -40,6 +40,7 @@ pub fn show<S: Sink>(
     ensures vector { length vector.new ≡ sys.now.n }
     ensures kind { IfOk result (λ s. s.listing ≡ sys.now.kind) }
     ensures later { S.faults out.old ≤ S.faults out.new }
+    ensures same { ¬ (IsErrOf result PlainStop.WriteFault) → S.faults out.new ≡ S.faults out.old }
     ensures fault { IsErrOf result PlainStop.WriteFault → Rose (S.faults out.old) (S.faults out.new) }
 {
     let _n = sys.n();
@@ -95,13 +96,14 @@ pub fn list_under<S: Sink>(
     ensures written { WritesUnder sys.now free.now at.now from (length deeper.old) shown.rows
         (S.written out.old) (S.written out.new) result }
     ensures passes { (o : Passed) → IsErrOf result (PlainStop.Overflow o) → (p : Polyhedron) (cone : ListedCone) (fixed left : List ℕ) (marks : List Bool) →
-        IsAt sys.now free.now at.now from (length deeper.old) p cone fixed left marks → Passes p o }
+        IsAt sys.now free.now at.now from (length deeper.old) p cone fixed left marks → PassesInCone p o }
     ensures memory { IsErrOf result PlainStop.Memory → ⊥ }
     ensures shapes { All (HasShapeOf at.now) deeper.new }
     ensures depth { length deeper.new ≡ length deeper.old }
     ensures vector { length vector.new ≡ sys.now.n }
     ensures kind { IfOk result (λ s. s.listing ≡ sys.now.kind) }
     ensures later { S.faults out.old ≤ S.faults out.new }
+    ensures same { ¬ (IsErrOf result PlainStop.WriteFault) → S.faults out.new ≡ S.faults out.old }
     ensures fault { IsErrOf result PlainStop.WriteFault → Rose (S.faults out.old) (S.faults out.new) }
 {
     match deeper.split_first_mut() {

@@ -5,9 +5,9 @@ ghost use Rattle.std.specs.List.{All, flat_map};
 ghost use Rattle.poly_num.specs.Vectors.{Vector as Entries};
 ghost use Rattle.poly_io.specs.Causes.{HasCause, Rose};
 ghost use Rattle.poly_io.specs.Written.{WritesText};
+ghost use Rattle.poly_model.specs.Limits.{most_columns};
 ghost use Rattle.poly_model.specs.declared.overflow.Overflow.{Overflow as Passed};
 ghost use Rattle.poly_model.specs.ListingText.{head_text, vector_text};
-ghost use Rattle.poly_model.specs.Overflows.{Passes};
 ghost use Rattle.poly_model.specs.Systems.{Polyhedron, cone_of};
 ghost use Rattle.dictionary.specs.Views.{Dictionary};
 ghost use Rattle.linearity.specs.Columns.{coordinate_vectors};
@@ -15,7 +15,7 @@ ghost use Rattle.listing_laws.specs.Prefixes.{IsUnder};
 ghost use Rattle.plain_enum.specs.Begin.{IsBegun, begun_cone, left_in};
 ghost use Rattle.plain_enum.specs.Columns.{HasRows};
 ghost use Rattle.plain_enum.specs.Listed.{HasShapeOf, WritesRows};
-ghost use Rattle.plain_enum.specs.Plain.{WritesListing};
+ghost use Rattle.plain_enum.specs.Plain.{PassesInCone, WritesListing};
 
 use crate::answers::{FeasibleStop, PlainStop, Shown};
 use crate::begin::{Beginning, begin};
@@ -36,9 +36,10 @@ pub fn list_plain<S: Sink>(alloc: Global, sys: &System, out: &mut S) -> Result<L
     ensures written { (p : Polyhedron) → sys.now ≡ cone_of p →
         WritesListing p (S.written out.old) (S.written out.new) result }
     ensures overflow { (o : Passed) → IsErrOf result (PlainStop.Overflow o) → (p : Polyhedron) →
-        sys.now ≡ cone_of p → Passes p o }
+        sys.now ≡ cone_of p → PassesInCone p o }
     ensures memory { IsErrOf result PlainStop.Memory → out.new ≡ out.old }
     ensures later { S.faults out.old ≤ S.faults out.new }
+    ensures same { ¬ (IsErrOf result PlainStop.WriteFault) → S.faults out.new ≡ S.faults out.old }
     ensures fault { IsErrOf result PlainStop.WriteFault → Rose (S.faults out.old) (S.faults out.new) }
 {
     let Beginning {
@@ -77,16 +78,17 @@ fn print<S: Sink>(
     out: &mut S,
 ) -> Result<Listed, PlainStop>
     requires rows { HasRows (length sys.now.rows) at.now }
-    requires lines { length lines.now ≤ 256 }
+    requires lines { length lines.now ≤ most_columns }
     requires shapes { All (HasShapeOf at.now) deeper.old }
     requires depth { length deeper.old ≡ length (left_in free.now at.now.key) - 1 }
     requires vector { length vector.old ≡ sys.now.n }
     ensures written { (p : Polyhedron) (last : Dictionary) → sys.now ≡ cone_of p → IsBegun p at.now last free.now →
         lines.now ≡ coordinate_vectors last sys.now.n → WritesListing p (S.written out.old) (S.written out.new) result }
     ensures overflow { (o : Passed) → IsErrOf result (PlainStop.Overflow o) → (p : Polyhedron) (last : Dictionary) →
-        sys.now ≡ cone_of p → IsBegun p at.now last free.now → Passes p o }
+        sys.now ≡ cone_of p → IsBegun p at.now last free.now → PassesInCone p o }
     ensures memory { IsErrOf result PlainStop.Memory → ⊥ }
     ensures later { S.faults out.old ≤ S.faults out.new }
+    ensures same { ¬ (IsErrOf result PlainStop.WriteFault) → S.faults out.new ≡ S.faults out.old }
     ensures fault { IsErrOf result PlainStop.WriteFault → Rose (S.faults out.old) (S.faults out.new) }
 {
     let listing = match print_head(sys.kind(), sys.n(), lines, out) {
@@ -111,7 +113,7 @@ fn print_head<S: Sink>(
     lines: &[Vector],
     out: &mut S,
 ) -> Result<Listing, WriteFault>
-    requires { length lines.now ≤ 256 }
+    requires { length lines.now ≤ most_columns }
     ensures text { WritesText (S.written out.old) (S.written out.new) result
         (head_text kind n (length lines.now) ++ flat_map vector_text lines.now) }
     ensures kind { IfOk result (λ l. l ≡ kind) }
@@ -144,9 +146,10 @@ fn list_left<S: Sink>(
         WritesRows sys.now.kind shown.rows (S.written out.old) (S.written out.new) result
         (IsUnder (begun_cone p free.now at.now) []) }
     ensures overflow { (o : Passed) → IsErrOf result (PlainStop.Overflow o) → (p : Polyhedron) (last : Dictionary) →
-        sys.now ≡ cone_of p → IsBegun p at.now last free.now → Passes p o }
+        sys.now ≡ cone_of p → IsBegun p at.now last free.now → PassesInCone p o }
     ensures memory { IsErrOf result PlainStop.Memory → ⊥ }
     ensures later { S.faults out.old ≤ S.faults out.new }
+    ensures same { ¬ (IsErrOf result PlainStop.WriteFault) → S.faults out.new ≡ S.faults out.old }
     ensures fault { IsErrOf result PlainStop.WriteFault → Rose (S.faults out.old) (S.faults out.new) }
 {
     match left_coordinate(at, free) {

@@ -1,6 +1,7 @@
 //! Which way the direction that is left is shown, and its vector.
 ghost use Rattle.std.specs.Prelude.{◌≡◌, ◌≤◌, IfSome, IsNone, length};
 ghost use Rattle.std.specs.List.{Contains};
+ghost use Rattle.poly_model.specs.Limits.{most_columns};
 ghost use Rattle.plain_enum.specs.declared.side.Side.{Side as AnySide};
 ghost use Rattle.plain_enum.specs.Columns.{HasRows};
 ghost use Rattle.plain_enum.specs.Shown.{IsShownOn, primitive_column, vector_on};
@@ -30,7 +31,7 @@ pub fn shown_side(sys: &System, at: &Dict, col: Label) -> Option<Side>
 /// Writes the vector without common divisor of a column, or its opposite.
 pub fn write_direction(at: &Dict, col: Label, side: Side, vector: &mut [Num])
     requires column { Contains at.now.key col.0 }
-    requires narrow { length vector.old ≤ 256 }
+    requires narrow { length vector.old ≤ most_columns }
     ensures value { vector.new ≡ vector_on side (primitive_column at.now col.0 (length vector.old)) }
     ensures width { length vector.new ≡ length vector.old }
 {

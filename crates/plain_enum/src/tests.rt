@@ -1,7 +1,8 @@
-//! Polyhedra that can be drawn, and whether they are feasible.
-use crate::{FeasibleStop, feasible_plain};
+//! Polyhedra that can be drawn: whether they are feasible, and how many rows and lines their listings have.
+use crate::{FeasibleStop, PlainStop, feasible_plain, list_plain};
 use hull_lift::system_of;
-use poly_model::{Kind, Poly};
+use poly_io::MemSink;
+use poly_model::{Kind, MOST_COLUMNS, MOST_FILE_ROWS, Phase, Poly};
 use poly_num::Num;
 use std::alloc::Global;
 use std::test::Fail;
@@ -230,21 +231,116 @@ fn tells_whether_a_file_is_feasible(rt: HostRuntime) -> Result<(), Fail> {
     Ok(())
 }
 
-// A row that has no mark is not linear.
+/// A file without linear rows, how many rows and lines its listing has if no number passes, and how many bytes are
+/// written by then.
+#[derive(Clone, Copy)]
+struct Listing {
+    kind: Kind,
+    n: u32,
+    entries: &'static [i128],
+    listed: Option<(u64, u32)>,
+    bytes: usize,
+}
+
+const LISTINGS: [Listing; 4] = [
+    // The square, and the plane without rows.
+    Listing {
+        kind: Kind::H,
+        n: 3,
+        entries: &[0, 1, 0, 0, 0, 1, 1, -1, 0, 1, 0, -1],
+        listed: Some((4, 0)),
+        bytes: 72,
+    },
+    Listing {
+        kind: Kind::H,
+        n: 3,
+        entries: &[],
+        listed: Some((1, 2)),
+        bytes: 81,
+    },
+    // The origin is a vertex, and is written; a later list of rows passes.
+    Listing {
+        kind: Kind::H,
+        n: 3,
+        entries: &[0, 1, 0, 0, 0, 1, 1, -LARGE, -1, 1, -1, -LARGE - 1],
+        listed: None,
+        bytes: 47,
+    },
+    // Of points nothing is asked before the first row is sought.
+    Listing {
+        kind: Kind::V,
+        n: 3,
+        entries: &[1, 0, 0, 1, LARGE, 1, 1, 1, LARGE],
+        listed: None,
+        bytes: 0,
+    },
+];
+
+#[test]
+fn counts_the_rows_and_lines_of_a_listing(rt: HostRuntime) -> Result<(), Fail> {
+    for (i, case) in LISTINGS.iter().enumerate() {
+        let alloc = rt.alloc();
+        let poly = poly_with(alloc, case.kind, case.n, case.entries, &[])?;
+        let mut out = MemSink::new(alloc, &[]);
+        let listed = listed_of(alloc, &poly, &mut out)?;
+        assert_eq!(rt;
+            (listed, out.written().len()),
+            (case.listed, case.bytes),
+            "{i}"
+        );
+    }
+    Ok(())
+}
+
+#[test]
+fn lists_a_hundred_points(rt: HostRuntime) -> Result<(), Fail> {
+    let alloc = rt.alloc();
+    let mut entries = Vec::new(alloc);
+    for i in 0..100 {
+        entries.push(1)?;
+        entries.push(i)?;
+    }
+    let poly = poly_with(alloc, Kind::V, 2, &entries, &[])?;
+    let mut out = MemSink::new(alloc, &[]);
+    assert_eq!(rt; listed_of(alloc, &poly, &mut out)?, Some((2, 0)));
+    Ok(())
+}
+
+// The rows and lines of the listing, or none where a number passes.
+fn listed_of(alloc: Global, poly: &Poly, out: &mut MemSink) -> Result<Option<(u64, u32)>, Fail> {
+    let cone = system_of(alloc, poly)?;
+    match list_plain(alloc, &cone, out) {
+        Ok(listed) => Ok(Some((listed.rows, listed.lines))),
+        Err(PlainStop::Overflow(overflow)) if overflow.phase == Phase::Cone => Ok(None),
+        Err(_) => Err("memory, or a fault")?,
+    }
+}
+
 fn poly_of(alloc: Global, case: Case) -> Result<Poly, Fail> {
-    if case.n == 0 || case.n > 256 {
+    poly_with(alloc, case.kind, case.n, case.entries, case.linear)
+}
+
+// A row that has no mark is not linear.
+fn poly_with(
+    alloc: Global,
+    kind: Kind,
+    n: u32,
+    entries: &[i128],
+    marks: &[bool],
+) -> Result<Poly, Fail> {
+    if n == 0 || n > MOST_COLUMNS {
         return Err("narrow rows")?;
     }
     let mut cells = Vec::new(alloc);
-    for x in case.entries {
+    for x in entries {
         cells.push(Num::new(*x).ok_or("a number of 127 bits")?)?;
     }
     let mut linear = Vec::new(alloc);
-    for i in 0..cells.len() / case.n as usize {
-        linear.push(i < case.linear.len() && case.linear[i])?;
+    for i in 0..cells.len() / n as usize {
+        linear.push(i < marks.len() && marks[i])?;
     }
-    if linear.len() > 4096 || cells.len() != linear.len() * case.n as usize {
+    if linear.len() > MOST_FILE_ROWS as usize || cells.len() != linear.len() * n as usize {
         return Err("few rows, each of n entries")?;
     }
-    Ok(Poly::new(case.kind, case.n, cells, linear, Vec::new(alloc)))
+    Ok(Poly::new(kind, n, cells, linear, Vec::new(alloc)))
 }

@@ -112,7 +112,8 @@ module _ (space : Space) (root key new : List ℕ) (t u : Table) (f : IsLexFeasi
             (one_is_earlier space root k n.r (key_row space key t f.dictionary k c) n.leaves.row.row
             (λ e. n.leaves.row.outside (subst (Contains key) e c)))
 
-        least : (k : ℕ) → Contains new k → MayEnter space.labels root u k → (k ≡ n.r) ⊎ IsEarlier space.labels root n.r k
+        least : (k : ℕ) → Contains new k → MayEnter space.labels root u k →
+            (k ≡ n.r) ⊎ IsEarlier space.labels root n.r k
         least k c m =
             ⊎_elim
             (λ (e : k ≡ n.r). inl e)
@@ -121,7 +122,8 @@ module _ (space : Space) (root key new : List ℕ) (t u : Table) (f : IsLexFeasi
 
 pub child_by_test : (space : Space) (root key : List ℕ) (home t : Table) → AreDistinct (rows_in space.labels) →
     IsRowDictionary space root home → IsLexFeasible space root key t → (s r : ℕ) → Contains key s →
-    Leaves space.labels root key t s r → IsChild space root key (exchanged_key key s r) ↔ IsDown space.labels root key t s r
+    Leaves space.labels root key t s r →
+    IsChild space root key (exchanged_key key s r) ↔ IsDown space.labels root key t s r
 child_by_test space root key home t distinct h f s r c l = (
   λ k. to_down space root key new t k.0 f k.1 s n distinct k.2,
   λ w. (u.0, g, from_down space root key new t u.0 f g s n distinct w),

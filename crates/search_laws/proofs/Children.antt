@@ -25,7 +25,8 @@ module _ (space : Space) (root : List ℕ) (home : Table) (h : IsFeasibleRoot sp
       IsParent space.labels root child u key ⊎ (IsParent space.labels root child u key → ⊥)
   parent_or_not child key u g = by (root_or_child space root child home u h g)
     where
-      by : IsRootOrChild space root child u → IsParent space.labels root child u key ⊎ (IsParent space.labels root child u key → ⊥)
+      by : IsRootOrChild space root child u →
+          IsParent space.labels root child u key ⊎ (IsParent space.labels root child u key → ⊥)
       by (inl r) = inr (r.1 key)
       by (inr r) =
           ⊎_elim
@@ -78,7 +79,8 @@ module _ (space : Space) (root : List ℕ) (home : Table) (h : IsFeasibleRoot sp
                     m (parent_too space root new u w.0 (subst (λ k. IsLexFeasible space root k u) q e).dictionary
                     w.1 key (subst (λ k. IsParent space.labels root k u key) q p))
 
-        by : ((i : ℕ) → IsRowOutside space.labels key i → pos 0 ≤ℤ t.entry i s) ⊎ ((r : ℕ) × Leaves space.labels root key t s r) →
+        by : ((i : ℕ) → IsRowOutside space.labels key i → pos 0 ≤ℤ t.entry i s)
+            ⊎ ((r : ℕ) × Leaves space.labels root key t s r) →
             HasChildAt s ⊎ HasNoChildAt s
         by (inl none) = inr (λ child k n. not_less n.r (none n.r n.leaves.row) n.leaves.negative)
         by (inr w) = with_row w.0 w.1

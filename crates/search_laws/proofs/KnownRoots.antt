@@ -1,46 +1,45 @@
--- The root that phase one gives on the half line x >= 1 from the start cobasis {1}, known from a drawing: the row
--- x >= 0 is in it, and the row x - 1 >= 0 is -1 there. A wrong definition does not check.
+-- The root that phase one gives on the half line x >= 1, with the row x - 1 >= 0 twice, from the start cobasis {1},
+-- known from a drawing: the first of the two takes the place of t. A wrong definition does not check.
 use Rattle.std.proofs.Common.{◌≡◌, ◌⊎◌, inl, inr, ◌≤◌, ℕ, ℤ, pos, negsuc, List, [], ◌∷◌, refl, arith}
 use Rattle.std.specs.Prelude.{◌≤ℤ◌, ◌<ℤ◌}
 use Rattle.std.proofs.lemmas.Int.{ints}
-use Rattle.poly_model.specs.Spaces.{Space, lifted}
+use Rattle.poly_num.specs.Vectors.{Vector}
+use Rattle.poly_model.specs.Spaces.{Space, HasPoints, lifted}
 use Rattle.poly_model.specs.Dictionaries.{Table}
-use Rattle.poly_model.specs.LexOrder.{rows_in, IsEarlier}
-use Rattle.poly_model.specs.Tree.{IsRowDictionary, IsRowOutside, Leaves}
+use Rattle.poly_model.specs.LexOrder.{rows_in, outside, IsEarlier}
+use Rattle.poly_model.specs.Tree.{IsRowOutside, Leaves}
 use Rattle.poly_model.specs.Lowering.{IsLoweringStep, IsLowest}
 use Rattle.poly_model.specs.PhaseOne.{IsFirstWorst, lowering_root, GivesByPhaseOne}
 use Rattle.linear_laws.proofs.Members.{all_at}
 use Rattle.dictionary_laws.specs.Keys.{AreDistinct}
 use Rattle.dictionary_laws.proofs.KeyExchange.{ascending_distinct}
 use Rattle.tree_laws.proofs.OrderLemmas.{row_outside}
-use Rattle.tree_laws.proofs.KnownTables.{number_at, line_of, IsSolved, solved, one_is_least}
+use Rattle.tree_laws.proofs.KnownTables.{space_of, has_points, number_at, line_of, table_of, IsSolved, solved, one_is_least}
 use Rattle.tree_laws.proofs.KnownTests.{leaves}
-use Rattle.tree_laws.proofs.KnownHalfLine.{half_line, wrong, wrong_is_solved}
 use Rattle.search_laws.specs.PhaseOne.{HasNoRowZero}
 use Rattle.search_laws.proofs.GivenRoots.{given_one}
 
+-- a table whose key may have the label 0, by the constant and the entries of each label
+abbrev pub table_with_t : ℤ → List ℕ → List ℕ → List ℤ → List (List ℤ) → Table
+table_with_t denominator key labels constants lines = record {
+  denominator = denominator;
+  constant = λ i. number_at i labels constants;
+  entry = λ i k. number_at k key (line_of i labels lines);
+}
+
+-- rows 1: x >= 0, 2 and 3: x - 1 >= 0
+abbrev rows : List Vector
+rows =
+    (pos 0 ∷ pos 1 ∷ [])
+    ∷ (negsuc 0 ∷ pos 1 ∷ [])
+    ∷ (negsuc 0 ∷ pos 1 ∷ [])
+    ∷ []
+
+abbrev half_line : Space
+half_line = space_of 2 rows
+
 abbrev start : List ℕ
 start = 1 ∷ []
-
-at_start : IsRowDictionary half_line start wrong
-at_start = solved half_line start wrong wrong_is_solved
-
--- ---- row 2 takes the place of t
-outside_is_two : (P : ℕ → Type 0) → P 2 → (i : ℕ) → IsRowOutside half_line.labels start i → P i
-outside_is_two P p i o = all_at P (2 ∷ []) (p, tt) i (row_outside half_line start i o)
-
-worst : IsFirstWorst half_line start wrong 2
-worst = record {
-  worst = record {
-    row = record {
-      row = (1, omega arith, refl);
-      outside = λ c. all_at (λ k. k ≡ 2 → ⊥) start (λ e. omega arith, tt) 2 c refl;
-    };
-    negative = omega (arith, ints);
-    least = outside_is_two (λ i. wrong.constant 2 ≤ℤ wrong.constant i) (omega (arith, ints));
-  };
-  first = λ i w. outside_is_two (λ k. 2 ≤ k) (omega arith) i w.row;
-}
 
 abbrev first : Space
 first = lifted half_line start
@@ -48,44 +47,68 @@ first = lifted half_line start
 abbrev root : List ℕ
 root = 1 ∷ 2 ∷ []
 
-first_key : lowering_root start 2 ≡ root
-first_key = refl
+-- ---- the dictionaries
+-- at 0
+abbrev wrong : Table
+wrong =
+    table_of (pos 1) start half_line.labels (
+    (pos 0 ∷ pos 1 ∷ [])
+    ∷ (negsuc 0 ∷ pos 1 ∷ [])
+    ∷ (negsuc 0 ∷ pos 1 ∷ [])
+    ∷ (pos 0 ∷ pos 1 ∷ [])
+    ∷ []
+    )
 
--- ---- the dictionaries with t, by the lines of 0, 1, 2 and 8193
-abbrev table_by : List ℕ → List ℤ → List (List ℤ) → Table
-table_by key constants lines = record {
-  denominator = pos 1;
-  constant = λ i. number_at i first.labels constants;
-  entry = λ i k. number_at k key (line_of i first.labels lines);
-}
-
+-- with t, at 0
 abbrev before : Table
 before =
-    table_by root (pos 1 ∷ pos 0 ∷ pos 0 ∷ pos 0 ∷ []) (
+    table_with_t (pos 1) root first.labels (pos 1 ∷ pos 0 ∷ pos 0 ∷ pos 0 ∷ pos 0 ∷ []) (
     (negsuc 0 ∷ pos 1 ∷ [])
     ∷ (pos 1 ∷ pos 0 ∷ [])
     ∷ (pos 0 ∷ pos 1 ∷ [])
+    ∷ (pos 0 ∷ pos 1 ∷ [])
     ∷ (pos 1 ∷ pos 0 ∷ [])
     ∷ []
     )
 
+-- with t, at 1
 abbrev last : Table
 last =
-    table_by (0 ∷ 2 ∷ []) (pos 0 ∷ pos 1 ∷ pos 0 ∷ pos 1 ∷ []) (
+    table_with_t (pos 1) (0 ∷ 2 ∷ []) first.labels (pos 0 ∷ pos 1 ∷ pos 0 ∷ pos 0 ∷ pos 1 ∷ []) (
     (pos 1 ∷ pos 0 ∷ [])
     ∷ (negsuc 0 ∷ pos 1 ∷ [])
+    ∷ (pos 0 ∷ pos 1 ∷ [])
     ∷ (pos 0 ∷ pos 1 ∷ [])
     ∷ (negsuc 0 ∷ pos 1 ∷ [])
     ∷ []
     )
 
+wrong_is_solved : IsSolved half_line start wrong
+wrong_is_solved = record {
+  points = has_points 2 rows (pos 0 ∷ []) refl;
+  ascending = (tt, tt);
+  rows = ((0, omega arith, refl), tt);
+  directions = (pos 0 ∷ pos 1 ∷ []) ∷ [];
+  flat = ((refl, tt, refl), tt);
+  independent = ((tt, λ e. cc), tt);
+  enough = λ a b e v.
+      let f = v.0 in
+      (omega (arith, ints), (omega (arith, ints), tt));
+  positive = omega (arith, ints);
+  lines = (refl, (refl, (refl, (refl, tt))));
+  least = one_is_least half_line start wrong refl;
+}
+
+first_has_points : HasPoints first
+first_has_points = record {
+  vector = pos 0 ∷ pos 1 ∷ pos 0 ∷ [];
+  inside = record { width = refl; fixed = tt };
+  finite = λ e. cc;
+}
+
 before_is_solved : IsSolved first root before
 before_is_solved = record {
-  points = record {
-    vector = pos 0 ∷ pos 1 ∷ pos 0 ∷ [];
-    inside = record { width = refl; fixed = tt };
-    finite = λ e. cc;
-  };
+  points = first_has_points;
   ascending = ((omega arith, tt), (tt, tt));
   rows = ((1, omega arith, refl), ((2, omega arith, refl), tt));
   directions = (pos 0 ∷ pos 0 ∷ pos 1 ∷ []) ∷ (pos 1 ∷ pos 0 ∷ pos 0 ∷ []) ∷ [];
@@ -95,17 +118,13 @@ before_is_solved = record {
       let f = v.0 in let g = v.1.0 in
       (omega (arith, ints), (omega (arith, ints), (omega (arith, ints), tt)));
   positive = omega (arith, ints);
-  lines = (refl, (refl, (refl, (refl, tt))));
+  lines = (refl, (refl, (refl, (refl, (refl, tt)))));
   least = one_is_least first root before refl;
 }
 
 last_is_solved : IsSolved first (0 ∷ 2 ∷ []) last
 last_is_solved = record {
-  points = record {
-    vector = pos 0 ∷ pos 1 ∷ pos 0 ∷ [];
-    inside = record { width = refl; fixed = tt };
-    finite = λ e. cc;
-  };
+  points = first_has_points;
   ascending = ((omega arith, tt), (tt, tt));
   rows = ((0, omega arith, refl), ((2, omega arith, refl), tt));
   directions = (pos 1 ∷ pos 0 ∷ pos 0 ∷ []) ∷ (pos 0 ∷ pos 0 ∷ pos 1 ∷ []) ∷ [];
@@ -115,15 +134,41 @@ last_is_solved = record {
       let f = v.0 in let g = v.1.0 in
       (omega (arith, ints), (omega (arith, ints), (omega (arith, ints), tt)));
   positive = omega (arith, ints);
-  lines = (refl, (refl, (refl, (refl, tt))));
+  lines = (refl, (refl, (refl, (refl, (refl, tt)))));
   least = one_is_least first (0 ∷ 2 ∷ []) last refl;
 }
+
+-- ---- row 2 takes the place of t
+rows_outside_start : outside half_line.labels start ≡ 2 ∷ 3 ∷ []
+rows_outside_start = refl
+
+both_rows : (P : ℕ → Type 0) → P 2 → P 3 → (i : ℕ) → IsRowOutside half_line.labels start i → P i
+both_rows P p q i o = all_at P (2 ∷ 3 ∷ []) (p, (q, tt)) i (row_outside half_line start i o)
+
+worst : IsFirstWorst half_line start wrong 2
+worst = record {
+  worst = record {
+    row = record {
+      row = (1, omega arith, refl);
+      outside = λ c. all_at (λ k. k ≡ 2 → ⊥) start (λ e. omega arith, tt) 2 c refl;
+    };
+    negative = omega (arith, ints);
+    least = both_rows (λ i. wrong.constant 2 ≤ℤ wrong.constant i) (omega (arith, ints)) (omega (arith, ints));
+  };
+  first = λ i w. both_rows (λ k. 2 ≤ k) (omega arith) (omega arith) i w.row;
+}
+
+second_is_not_first : IsFirstWorst half_line start wrong 3 → ⊥
+second_is_not_first w = let l = w.first 2 worst.worst in omega (arith, l)
+
+first_key : lowering_root start 2 ≡ root
+first_key = refl
 
 -- ---- t is lowered in the column of row 1, and takes its place
 t_leaves : Leaves first.labels root root before 1 0
 t_leaves =
     leaves first root root before 1 0 (0, omega arith, refl) (omega (arith, ints))
-    (λ h. inr (refl, inr (refl, tt)), tt)
+    (λ h. inr (refl, inr (refl, inr (refl, tt))), (λ h. absurd (omega (arith, ints)), tt))
 
 step : IsLoweringStep first.labels root 0 root before (0 ∷ 2 ∷ [])
 step = record {
@@ -144,7 +189,7 @@ lowest = all_at (λ k. pos 0 ≤ℤ last.entry 0 k) (0 ∷ 2 ∷ []) (omega (ari
 root_is_given : GivesByPhaseOne half_line start (2 ∷ [])
 root_is_given = record {
   home = wrong;
-  dictionary = at_start;
+  dictionary = solved half_line start wrong wrong_is_solved;
   root_is = inr (record {
     r = 2;
     worst = worst;
@@ -160,10 +205,12 @@ root_is_given = record {
 
 no_row_zero : HasNoRowZero half_line
 no_row_zero c =
-    all_at (λ k. k ≡ 0 → ⊥) half_line.labels (λ e. omega arith, (λ e. omega arith, (λ e. omega arith, tt))) 0 c refl
+    all_at (λ k. k ≡ 0 → ⊥) half_line.labels
+    (λ e. omega arith, (λ e. omega arith, (λ e. omega arith, (λ e. omega arith, tt)))) 0 c refl
 
 rows_are_distinct : AreDistinct (rows_in half_line.labels)
-rows_are_distinct = ascending_distinct (rows_in half_line.labels) ((omega arith, tt), (tt, tt))
+rows_are_distinct =
+    ascending_distinct (rows_in half_line.labels) ((omega arith, (omega arith, tt)), ((omega arith, tt), (tt, tt)))
 
 -- and no other
 only_root : (other : List ℕ) → GivesByPhaseOne half_line start other → 2 ∷ [] ≡ other

@@ -26,3 +26,6 @@ pub mod RootShare
 pub mod MainStart
 pub mod SearchRoots
 pub mod KnownRoots
+pub mod SubtreeShares
+pub mod SubtreeRuns
+pub mod KnownLastExchange

@@ -59,16 +59,19 @@ module _ (space : Space) (root key : List ℕ) (t : Table) (d : IsRowDictionary 
           record { column = c; r = w.0; leaves = w.1; exchange = refl },
         )
 
-    pub row_falls : (new : List ℕ) (u : Table) → IsNeighbour space.labels root key t s new → IsLexFeasible space root new u →
+    pub row_falls : (new : List ℕ) (u : Table) → IsNeighbour space.labels root key t s new →
+        IsLexFeasible space root new u →
         IsPositive (level_gaps space root key t new u (q ∷ []))
     row_falls new u n g =
         falls space root key new t u d g s n.r n.column n.leaves.row.outside
         (neighbour_exchanges space root key t s new d n) (q ∷ []) (only_row space q l)
         (inl (minus_positive (t.entry q s) h))
 
-    list_falls : (new : List ℕ) (u : Table) → IsNeighbour space.labels root key t s new → IsLexFeasible space root new u →
+    list_falls : (new : List ℕ) (u : Table) → IsNeighbour space.labels root key t s new →
+        IsLexFeasible space root new u →
         (Contains new q → ⊥) →
-        IsPositive (gaps u.denominator (list_of space.labels root key t q) t.denominator (list_of space.labels root new u q))
+        IsPositive (gaps u.denominator (list_of space.labels root key t q) t.denominator
+        (list_of space.labels root new u q))
     list_falls new u n g o =
         subst (λ xs. IsPositive (gaps u.denominator xs t.denominator (list_of space.labels root new u q)))
         (append_nil (level_list space root key t q) ∙ sym (list_is_levels space root key t q outside))
@@ -132,7 +135,8 @@ module _ (space : Space) (root key : List ℕ) (t : Table) (d : IsRowDictionary 
     pub lowest_too : IsLowest key t q → IsLowest key u q
     lowest_too h s c = subst (λ (x : ℤ). pos 0 ≤ℤ x) (same s c) (h s c)
 
-    pub step_too : (new : List ℕ) → IsLoweringStep space.labels root q key t new → IsLoweringStep space.labels root q key u new
+    pub step_too : (new : List ℕ) → IsLoweringStep space.labels root q key t new →
+        IsLoweringStep space.labels root q key u new
     step_too new x = record {
       s = x.s;
       lowers = record {
@@ -147,7 +151,8 @@ module _ (space : Space) (root key : List ℕ) (t : Table) (d : IsRowDictionary 
   no_step h new x = not_both (t.entry q x.s) x.lowers.negative (h x.s x.lowers.column)
 
   pub one_step : (home : Table) → IsRowDictionary space root home → AreDistinct (rows_in space.labels) →
-      (new other : List ℕ) → IsLoweringStep space.labels root q key t new → IsLoweringStep space.labels root q key t other → new ≡ other
+      (new other : List ℕ) → IsLoweringStep space.labels root q key t new →
+      IsLoweringStep space.labels root q key t other → new ≡ other
   one_step home r distinct new other x y =
       one_neighbour space root key t home r d x.s new other x.neighbour
       (subst (λ s. IsNeighbour space.labels root key t s other) (sym column) y.neighbour)

@@ -14,7 +14,8 @@ use Rattle.search_laws.proofs.Lowered.{only_row, row_falls, some_step, lowest_to
 
 module _ (space : Space) (root : List ℕ) (home : Table) (h : IsRowDictionary space root home) (q : ℕ)
     (l : Contains (rows_in space.labels) q) where
-  pub after : (key new : List ℕ) (t : Table) → IsLexFeasible space root key t → IsLoweringStep space.labels root q key t new →
+  pub after : (key new : List ℕ) (t : Table) → IsLexFeasible space root key t →
+      IsLoweringStep space.labels root q key t new →
       (u : Table) × IsLexFeasible space root new u
   after key new t f x =
       let w = neighbour_dictionary space root key t x.s new f.dictionary x.neighbour in

@@ -5,7 +5,7 @@ use Rattle.std.specs.List.{Contains}
 use Rattle.std.proofs.lemmas.Bool.{cases_eq}
 use Rattle.std.proofs.lemmas.List.Elements.{Contains-append_cases}
 use Rattle.linear_laws.proofs.Members.{Contains-nil, Contains-first, Contains-later, Contains-cons_cases}
-use Rattle.search_laws.specs.Shares.{StandOnce}
+use Rattle.search_laws.specs.Shares.{StandOnce, ListsAll}
 use Rattle.tree_laws.proofs.Descents.{take_out}
 
 -- ---- keys are equal or not
@@ -68,3 +68,12 @@ module _ {X : Type 0} where
   pub one_count : (xs ys : List X) → StandOnce xs → StandOnce ys → ((x : X) → Contains xs x → Contains ys x) →
       ((x : X) → Contains ys x → Contains xs x) → length xs ≡ length ys
   one_count xs ys a b h k = omega (arith, no_longer xs ys a h, no_longer ys xs b k)
+
+-- a list of all that have one property is one of all that have the other, where the two are the same
+pub same_lists : {X : Type 0} (P Q : X → Type 0) → ((x : X) → P x → Q x) → ((x : X) → Q x → P x) → (xs : List X) →
+    ListsAll P xs → ListsAll Q xs
+same_lists P Q there back xs l = record {
+  once = l.once;
+  only = λ x c. there x (l.only x c);
+  each = λ x q. l.each x (back x q);
+}

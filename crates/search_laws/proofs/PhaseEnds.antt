@@ -108,7 +108,8 @@ module _ (space : Space) (start key : List ℕ) (t : Table) where
 
 -- ---- an exchange at which constants stay as they are
 module _ (space : Space) (key : List ℕ) (t : Table) (f : IsFeasibleRoot space key t) (q s : ℕ)
-    (o : IsRowOutside space.labels key q) (z : t.constant q ≡ pos 0) (c : Contains key s) (n : t.entry q s ≢ pos 0) where
+    (o : IsRowOutside space.labels key q) (z : t.constant q ≡ pos 0) (c : Contains key s)
+    (n : t.entry q s ≢ pos 0) where
   abbrev new : List ℕ
   new = exchanged_key key s q
 

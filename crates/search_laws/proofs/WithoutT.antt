@@ -104,7 +104,8 @@ module _ (space : Space) (start rest : List ℕ) (t : Table) (none : HasNoRowZer
         record {
           points = some_points d.points;
           ascending = d.ascending.1;
-          rows = All-from_recursion (Contains (rows_in space.labels)) rest (all_from (Contains (rows_in space.labels)) rest rest_row);
+          rows = All-from_recursion (Contains (rows_in space.labels)) rest
+              (all_from (Contains (rows_in space.labels)) rest rest_row);
           dictionary = h;
         },
       )

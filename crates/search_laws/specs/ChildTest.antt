@@ -35,7 +35,8 @@ abbrev pub ChildByTest : Type 0
 ChildByTest =
     (space : Space) (root key : List ℕ) (home t : Table) → AreDistinct (rows_in space.labels) →
     IsRowDictionary space root home → IsLexFeasible space root key t → (s r : ℕ) → Contains key s →
-    Leaves space.labels root key t s r → IsChild space root key (exchanged_key key s r) ↔ IsDown space.labels root key t s r
+    Leaves space.labels root key t s r →
+    IsChild space root key (exchanged_key key s r) ↔ IsDown space.labels root key t s r
 
 -- how the sign in the column of another label j of the key is found, without products
 pub record AreMoved (labels root key : List ℕ) (t : Table) (s r j : ℕ) : Type 0 where

@@ -7,4 +7,6 @@ pub mod Shares
 pub mod Weights
 pub mod Splits
 pub mod SharesOnce
+pub mod Partitions
+pub mod SharesOfListings
 pub mod ChildTest

@@ -14,7 +14,8 @@ pub record LowersRow (space : Space) (root key : List ℕ) (t : Table) (q s : �
   pub some : (new : List ℕ) × IsNeighbour space.labels root key t s new
   pub falls : (new : List ℕ) (u : Table) → IsNeighbour space.labels root key t s new → IsLexFeasible space root new u →
       Contains new q
-      ⊎ IsPositive (gaps u.denominator (list_of space.labels root key t q) t.denominator (list_of space.labels root new u q))
+      ⊎ IsPositive (gaps u.denominator (list_of space.labels root key t q) t.denominator
+      (list_of space.labels root new u q))
 
 abbrev pub NeighboursLowerRow : Type 0
 NeighboursLowerRow =
@@ -31,7 +32,8 @@ RowInKeyIsLowest =
 abbrev pub StepOrLowest : Type 0
 StepOrLowest =
     (space : Space) (root key : List ℕ) (t : Table) → IsRowDictionary space key t → (q : ℕ) →
-    Contains (rows_in space.labels) q → IsLowest key t q ⊎ ((new : List ℕ) × IsLoweringStep space.labels root q key t new)
+    Contains (rows_in space.labels) q →
+    IsLowest key t q ⊎ ((new : List ℕ) × IsLoweringStep space.labels root q key t new)
 
 -- the steps end, at a feasible cobasis
 pub record HasEnd (space : Space) (root : List ℕ) (q : ℕ) (key : List ℕ) : Type 0 where

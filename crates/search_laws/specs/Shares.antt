@@ -70,7 +70,8 @@ pub record IsTree (space : Space) (root : List ℕ) : Type 0 where
 
 abbrev pub ParentsMakeATree : Type 0
 ParentsMakeATree =
-    (space : Space) (root : List ℕ) (home : Table) → AreDistinct (rows_in space.labels) → IsFeasibleRoot space root home →
+    (space : Space) (root : List ℕ) (home : Table) → AreDistinct (rows_in space.labels) →
+    IsFeasibleRoot space root home →
     IsTree space root
 
 -- ---- shares

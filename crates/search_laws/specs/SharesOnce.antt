@@ -1,5 +1,5 @@
--- The share of the root is the extreme vectors, and each stands in a share once: shares meet only where one key is under
--- the other, and a run shows nothing that is in a share that waits.
+-- The share of the root is the extreme vectors, and each stands in a share once: shares meet only where one key is
+-- under the other, and a run shows nothing that is in a share that waits.
 use Rattle.std.specs.Prelude.{◌≡◌, ◌⊎◌, ◌↔◌, ℕ, List, ◌∷◌, ◌++◌}
 use Rattle.std.specs.List.{Contains}
 use Rattle.poly_num.specs.Vectors.{Vector}
@@ -34,5 +34,6 @@ pub record ShowsOnce (space : Space) (root : List ℕ) : Type 0 where
 
 abbrev pub SharesOnce : Type 0
 SharesOnce =
-    (space : Space) (root : List ℕ) (home : Table) → AreDistinct (rows_in space.labels) → IsFeasibleRoot space root home →
+    (space : Space) (root : List ℕ) (home : Table) → AreDistinct (rows_in space.labels) →
+    IsFeasibleRoot space root home →
     ShowsOnce space root

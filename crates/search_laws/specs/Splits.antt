@@ -63,5 +63,6 @@ pub record AreSplit (space : Space) (root : List ℕ) : Type 0 where
 
 abbrev pub RunsSplit : Type 0
 RunsSplit =
-    (space : Space) (root : List ℕ) (home : Table) → AreDistinct (rows_in space.labels) → IsFeasibleRoot space root home →
+    (space : Space) (root : List ℕ) (home : Table) → AreDistinct (rows_in space.labels) →
+    IsFeasibleRoot space root home →
     AreSplit space root

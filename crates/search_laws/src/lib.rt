@@ -33,6 +33,7 @@ ghost use Rattle.search_laws.specs.Shares.{
 ghost use Rattle.search_laws.specs.Weights.{WeightsAddUp, RootWeighsAll};
 ghost use Rattle.search_laws.specs.Splits.{RunsSplit};
 ghost use Rattle.search_laws.specs.SharesOnce.{SharesOnce};
+ghost use Rattle.search_laws.specs.SharesOfListings.{RootShareIsListing, SharesOfListings, RunsPartListings};
 ghost use Rattle.search_laws.specs.ChildTest.{ChildByTest, MovedSigns};
 
 /// A cobasis of rows with t is a cobasis of the space of phase one, and its numbers are there those that it has.
@@ -181,6 +182,22 @@ pub fn runs_split()
 /// The share of the root is the extreme vectors; each stands in a share once, and the rows that a visit shows are new.
 pub fn shares_once()
     ensures { SharesOnce }
+{}
+
+/// In the words of a polyhedron's listing: the share of the root is the extreme vectors of the cone.
+pub fn root_share_is_listing()
+    ensures { RootShareIsListing }
+{}
+
+/// In these words: keys make a tree, shares meet only where one key lies under the other, and each key has one weight.
+pub fn shares_of_listings()
+    ensures { SharesOfListings }
+{}
+
+/// In these words: a run parts the share of its key into the rows that it has shown and the shares of the keys that it
+/// gives back.
+pub fn runs_part_listings()
+    ensures { RunsPartListings }
 {}
 
 /// Whether a neighbour is a child is read from the dictionary of the cobasis itself.

@@ -30,7 +30,8 @@ module _ (space : Space) (root key : List ℕ) (t u : Table) (d : IsRowDictionar
   pub same_entry : (i s : ℕ) → Contains (rows_in space.labels) i → Contains key s → t.entry i s ≡ u.entry i s
   same_entry i s l c = Agree.entries agree i s (row_is_label space i l) c
 
-  pub same_list : (i : ℕ) → Contains (rows_in space.labels) i → list_of space.labels root key t i ≡ list_of space.labels root key u i
+  pub same_list : (i : ℕ) → Contains (rows_in space.labels) i →
+      list_of space.labels root key t i ≡ list_of space.labels root key u i
   same_list i l =
       ap (λ (x : ℤ). x ∷ map (listed_at key t i) (outside space.labels root))
       (Agree.constants agree d.points i (row_is_label space i l))
@@ -52,12 +53,16 @@ module _ (space : Space) (root key : List ℕ) (t u : Table) (d : IsRowDictionar
   pub same_gaps : (s r i : ℕ) → Contains key s → Contains (rows_in space.labels) r → Contains (rows_in space.labels) i →
       ratio_gaps space.labels root key t s r i ≡ ratio_gaps space.labels root key u s r i
   same_gaps s r i c l m =
-      ap (λ (x : ℤ). gaps (neg_ℤ x) (list_of space.labels root key t i) (neg_ℤ (t.entry i s)) (list_of space.labels root key t r))
+      ap (λ (x : ℤ). gaps (neg_ℤ x) (list_of space.labels root key t i) (neg_ℤ (t.entry i s))
+      (list_of space.labels root key t r))
       (same_entry r s l c)
-      ∙ ap (λ xs. gaps (neg_ℤ (u.entry r s)) xs (neg_ℤ (t.entry i s)) (list_of space.labels root key t r)) (same_list i m)
-      ∙ ap (λ (x : ℤ). gaps (neg_ℤ (u.entry r s)) (list_of space.labels root key u i) (neg_ℤ x) (list_of space.labels root key t r))
+      ∙ ap (λ xs. gaps (neg_ℤ (u.entry r s)) xs (neg_ℤ (t.entry i s)) (list_of space.labels root key t r))
+      (same_list i m)
+      ∙ ap (λ (x : ℤ). gaps (neg_ℤ (u.entry r s)) (list_of space.labels root key u i) (neg_ℤ x)
+      (list_of space.labels root key t r))
       (same_entry i s m c)
-      ∙ ap (λ xs. gaps (neg_ℤ (u.entry r s)) (list_of space.labels root key u i) (neg_ℤ (u.entry i s)) xs) (same_list r l)
+      ∙ ap (λ xs. gaps (neg_ℤ (u.entry r s)) (list_of space.labels root key u i) (neg_ℤ (u.entry i s)) xs)
+      (same_list r l)
 
   pub leaves_too : (s r : ℕ) → Contains key s → Leaves space.labels root key t s r → Leaves space.labels root key u s r
   leaves_too s r c l = record {
@@ -67,7 +72,8 @@ module _ (space : Space) (root key : List ℕ) (t u : Table) (d : IsRowDictionar
         (l.least i o (subst (λ (x : ℤ). x <ℤ pos 0) (sym (same_entry i s o.row c)) h));
   }
 
-  pub neighbour_too : (s : ℕ) (new : List ℕ) → IsNeighbour space.labels root key t s new → IsNeighbour space.labels root key u s new
+  pub neighbour_too : (s : ℕ) (new : List ℕ) → IsNeighbour space.labels root key t s new →
+      IsNeighbour space.labels root key u s new
   neighbour_too s new n =
       record { column = n.column; r = n.r; leaves = leaves_too s n.r n.column n.leaves; exchange = n.exchange }
 

@@ -58,7 +58,8 @@ module _ (space : Space) (root : List ℕ) (t : Table) where
         here : (k : ℕ) → Contains key k → Contains (order space.labels root) k
         here k c = order_has space root k (All-contains (Contains (rows_in space.labels)) key k rows c)
 
-    pub some_enters : All (Contains (rows_in space.labels)) key → (k : ℕ) → Contains key k → MayEnter space.labels root t k →
+    pub some_enters : All (Contains (rows_in space.labels)) key → (k : ℕ) → Contains key k →
+        MayEnter space.labels root t k →
         (s : ℕ) × Enters space.labels root key t s
     some_enters rows k c m =
         ⊎_elim

@@ -110,7 +110,8 @@ module _ (space : Space) (key new : List ℕ) (t u : Table) (d : IsRowDictionary
 
   module _ (root : List ℕ) where
     pub leaving_list :
-        scale (neg_ℤ (t.entry r s)) (list_of space.labels root new u s) ≡ scale u.denominator (list_of space.labels root key t r)
+        scale (neg_ℤ (t.entry r s)) (list_of space.labels root new u s)
+        ≡ scale u.denominator (list_of space.labels root key t r)
     leaving_list =
         ap (scale (neg_ℤ (t.entry r s)))
         (list_is_levels space root new u s (leaving_outside key new r s x c o.outside))

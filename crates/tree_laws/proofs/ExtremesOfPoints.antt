@@ -121,7 +121,8 @@ module _ (p : Polyhedron) (free : List ℕ) (f : AreFreeColumns (cone_of p) free
   -- ---- from the cone to the space
   module _ (y : Vector) (e : IsExtreme sys y) where
     on_face : (x : ℤ) (z : Vector) → IsInside space (x ∷ z) →
-        ((i : ℕ) → Contains (rows_in space.labels) i → space.form i · (pos 0 ∷ y) ≡ pos 0 → space.form i · (x ∷ z) ≡ pos 0) →
+        ((i : ℕ) → Contains (rows_in space.labels) i → space.form i · (pos 0 ∷ y) ≡ pos 0 →
+        space.form i · (x ∷ z) ≡ pos 0) →
         IsOnFace sys y z
     on_face x z i others = record {
       width = let w = i.width in omega arith;

@@ -18,13 +18,13 @@ use Rattle.tree_laws.proofs.KnownTables.{space_of, has_points, table_of, IsSolve
 use Rattle.tree_laws.proofs.KnownTests.{is_lex_feasible, shows_point, shows_ray}
 
 -- rows 1: x >= 0, 2: x - 1 >= 0
-abbrev pub rows : List Vector
+abbrev rows : List Vector
 rows =
     (pos 0 ∷ pos 1 ∷ [])
     ∷ (negsuc 0 ∷ pos 1 ∷ [])
     ∷ []
 
-abbrev pub half_line : Space
+abbrev half_line : Space
 half_line = space_of 2 rows
 
 abbrev labels : List ℕ
@@ -32,7 +32,7 @@ labels = 1 ∷ 2 ∷ 8193 ∷ []
 
 -- ---- the dictionaries of the points 0 and 1
 -- at 0
-abbrev pub wrong : Table
+abbrev wrong : Table
 wrong =
     table_of (pos 1) (1 ∷ []) labels (
     (pos 0 ∷ pos 1 ∷ [])
@@ -42,7 +42,7 @@ wrong =
     )
 
 -- at 1
-abbrev pub home : Table
+abbrev home : Table
 home =
     table_of (pos 1) (2 ∷ []) labels (
     (pos 1 ∷ pos 1 ∷ [])
@@ -51,7 +51,7 @@ home =
     ∷ []
     )
 
-pub wrong_is_solved : IsSolved half_line (1 ∷ []) wrong
+wrong_is_solved : IsSolved half_line (1 ∷ []) wrong
 wrong_is_solved = record {
   points = has_points 2 rows (pos 0 ∷ []) refl;
   ascending = (tt, tt);
@@ -67,7 +67,7 @@ wrong_is_solved = record {
   least = one_is_least half_line (1 ∷ []) wrong refl;
 }
 
-pub home_is_solved : IsSolved half_line (2 ∷ []) home
+home_is_solved : IsSolved half_line (2 ∷ []) home
 home_is_solved = record {
   points = has_points 2 rows (pos 0 ∷ []) refl;
   ascending = (tt, tt);

@@ -13,7 +13,8 @@ use Rattle.linear_laws.proofs.Members.{all_at}
 use Rattle.tree_laws.proofs.OrderLemmas.{row_outside, is_row_outside}
 
 module _ (space : Space) (root key : List ℕ) (t : Table) where
-  each_outside : (P : ℕ → Type 0) → AllByRecursion P (outside space.labels key) → (i : ℕ) → IsRowOutside space.labels key i → P i
+  each_outside : (P : ℕ → Type 0) → AllByRecursion P (outside space.labels key) → (i : ℕ) →
+      IsRowOutside space.labels key i → P i
   each_outside P h i o = all_at P (outside space.labels key) h i (row_outside space key i o)
 
   -- the list of row i is positive
@@ -38,14 +39,16 @@ module _ (space : Space) (root key : List ℕ) (t : Table) where
     abbrev pub EntersFirst : ℕ → Type 0
     EntersFirst k = MayEnter space.labels root t k → (k ≡ s) ⊎ IsEarlier space.labels root s k
 
-    pub enters : Contains key s → MayEnter space.labels root t s → AllByRecursion EntersFirst key → Enters space.labels root key t s
+    pub enters : Contains key s → MayEnter space.labels root t s → AllByRecursion EntersFirst key →
+        Enters space.labels root key t s
     enters c m h = record { column = c; may = m; least = all_at EntersFirst key h }
 
     -- along s the column of j is positive at the greatest row
     abbrev pub IsUp : ℕ → Type 0
     IsUp j =
         j ≢ s →
-        IsPositive (map (λ q. t.entry q j) (filter (λ q. int_eq (t.entry q s) (pos 0)) (backwards (order space.labels root))))
+        IsPositive (map (λ q. t.entry q j)
+        (filter (λ q. int_eq (t.entry q s) (pos 0)) (backwards (order space.labels root))))
 
     pub shows_ray : Contains key s → AllByRecursion (λ i. pos 0 ≤ℤ t.entry i s) (outside space.labels key) →
         AllByRecursion IsUp key → ShowsRay space.labels root key t s

@@ -116,7 +116,8 @@ module _ (space : Space) (root key : List ℕ) (t : Table) where
   module _ (s : ℕ) where
     abbrev IsLeaving : ℕ → Type 0
     IsLeaving r =
-        IsLeastOf (λ i. neg_ℤ (t.entry i s)) (λ i. list_of space.labels root key t i) length_lists (outside space.labels key) r
+        IsLeastOf (λ i. neg_ℤ (t.entry i s)) (λ i. list_of space.labels root key t i) length_lists
+        (outside space.labels key) r
 
     leaves_if_least : (r : ℕ) → IsLeaving r → Leaves space.labels root key t s r
     leaves_if_least r h = record {
@@ -127,13 +128,15 @@ module _ (space : Space) (root key : List ℕ) (t : Table) where
 
     -- no row outside the key is negative in the column of s, or some row leaves
     pub none_or_leaves :
-        ((i : ℕ) → IsRowOutside space.labels key i → pos 0 ≤ℤ t.entry i s) ⊎ ((r : ℕ) × Leaves space.labels root key t s r)
+        ((i : ℕ) → IsRowOutside space.labels key i → pos 0 ≤ℤ t.entry i s)
+        ⊎ ((r : ℕ) × Leaves space.labels root key t s r)
     none_or_leaves =
         ⊎_elim
         (λ (none : (i : ℕ) → Contains (outside space.labels key) i → neg_ℤ (t.entry i s) ≤ℤ pos 0).
         inl (λ i o. let n = none i (row_outside space key i o) in omega (arith, lin)))
         (λ (w : (r : ℕ) × IsLeaving r). inr (w.0, leaves_if_least w.0 w.1))
-        (none_or_least (λ i. neg_ℤ (t.entry i s)) (λ i. list_of space.labels root key t i) length_lists (outside space.labels key))
+        (none_or_least (λ i. neg_ℤ (t.entry i s)) (λ i. list_of space.labels root key t i) length_lists
+        (outside space.labels key))
 
     pub some_leaves : (i : ℕ) → IsRowOutside space.labels key i → t.entry i s <ℤ pos 0 →
         (r : ℕ) × Leaves space.labels root key t s r

@@ -123,7 +123,8 @@ module _ (rows cone : List Row)
         }
 
     pub forms_from_rows : ((m : ℕ) → m < length rows → (get_or rows m no_row).linear ≡ false →
-        P (get_or rows m no_row).entries) → (i : ℕ) → Contains (left_rows cone (length rows) j n) i → P (label_form rows i)
+        P (get_or rows m no_row).entries) → (i : ℕ) → Contains (left_rows cone (length rows) j n) i →
+        P (label_form rows i)
     forms_from_rows h i c =
         let o = other_only i c in
         let l = o.some in

@@ -62,7 +62,8 @@ key_entry space key t d i s c m l =
 module _ (space : Space) (root key new : List ℕ) (t u : Table) (f : IsLexFeasible space root key t)
     (e : IsRowDictionary space new u) (s r : ℕ) (c : Contains key s) (x : Exchanges key new r s)
     (l : Leaves space.labels root key t s r) where
-  gaps_nonnegative : (i : ℕ) → Contains (rows_in space.labels) i → IsNonnegative (map (gap key t s r i) (places space root))
+  gaps_nonnegative : (i : ℕ) → Contains (rows_in space.labels) i →
+      IsNonnegative (map (gap key t s r i) (places space root))
   gaps_nonnegative i row =
       by_sign (IsNonnegative (map (gap key t s r i) (places space root))) (t.entry i s) more none less
     where
@@ -120,7 +121,8 @@ module _ (space : Space) (root key : List ℕ) (t : Table) where
   neighbour_exchanges s new d n =
       subst (λ l. Exchanges key l n.r s) (sym n.exchange) (exchanges key s n.r d.ascending n.leaves.row.outside)
 
-  pub neighbour_dictionary : (s : ℕ) (new : List ℕ) → IsRowDictionary space key t → IsNeighbour space.labels root key t s new →
+  pub neighbour_dictionary : (s : ℕ) (new : List ℕ) → IsRowDictionary space key t →
+      IsNeighbour space.labels root key t s new →
       (u : Table) × IsRowDictionary space new u
   neighbour_dictionary s new d n =
       subst (λ l. (u : Table) × IsRowDictionary space l u) (sym n.exchange)
@@ -151,6 +153,7 @@ module _ (space : Space) (root key : List ℕ) (t : Table) where
       less_zero y h z = omega (arith, lin)
 
   pub one_neighbour : (home : Table) → IsRowDictionary space root home → IsRowDictionary space key t → (s : ℕ)
-      (new other : List ℕ) → IsNeighbour space.labels root key t s new → IsNeighbour space.labels root key t s other → new ≡ other
+      (new other : List ℕ) → IsNeighbour space.labels root key t s new → IsNeighbour space.labels root key t s other →
+      new ≡ other
   one_neighbour home h d s new other n m =
       n.exchange ∙ ap (exchanged_key key s) (one_row home h d s n.r m.r n.leaves m.leaves) ∙ sym m.exchange

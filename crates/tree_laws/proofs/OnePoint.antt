@@ -19,7 +19,8 @@ use Rattle.tree_laws.proofs.PointValues.{row_at_direction, is_key_point, zero_co
 module _ (space : Space) (root : List ℕ) (y : Vector) where
   -- a row of the key is one of the other key, if those after it that are in the other are in the key
   module _ (key other : List ℕ) (t u : Table) (d : IsRowDictionary space key t) (e : IsRowDictionary space other u)
-      (shown : ShowsPoint space.labels root other u) (at : IsAtPoint space key y) (there : IsAtPoint space other y) where
+      (shown : ShowsPoint space.labels root other u) (at : IsAtPoint space key y)
+      (there : IsAtPoint space other y) where
     one_way : (pre xs : List ℕ) (x : ℕ) → order space.labels root ≡ pre ++ x ∷ xs →
         ((k : ℕ) → Contains xs k → Contains other k → Contains key k) → Contains key x → Contains other x
     one_way pre xs x is later c =

@@ -45,23 +45,29 @@ module _ (space : Space) where
 
   module _ (root : List ℕ) where
     -- ---- members
-    pub outside_has : (k : ℕ) → Contains (rows_in space.labels) k → (Contains root k → ⊥) → Contains (outside space.labels root) k
+    pub outside_has : (k : ℕ) → Contains (rows_in space.labels) k → (Contains root k → ⊥) →
+        Contains (outside space.labels root) k
     outside_has k c n = filter_kept (λ k. not (is_member k root)) (rows_in space.labels) k c (not_member k root n)
 
-    pub outside_only : (k : ℕ) → Contains (outside space.labels root) k → Contains (rows_in space.labels) k × (Contains root k → ⊥)
+    pub outside_only : (k : ℕ) → Contains (outside space.labels root) k →
+        Contains (rows_in space.labels) k × (Contains root k → ⊥)
     outside_only k c =
         let h = filter_only (λ k. not (is_member k root)) (rows_in space.labels) k c in (h.0, no_member k root h.1)
 
-    pub within_has : (k : ℕ) → Contains (rows_in space.labels) k → Contains root k → Contains (within space.labels root) k
+    pub within_has : (k : ℕ) → Contains (rows_in space.labels) k → Contains root k →
+        Contains (within space.labels root) k
     within_has k c m = filter_kept (λ k. is_member k root) (rows_in space.labels) k c (member_has k root m)
 
-    pub within_only : (k : ℕ) → Contains (within space.labels root) k → Contains (rows_in space.labels) k × Contains root k
-    within_only k c = let h = filter_only (λ k. is_member k root) (rows_in space.labels) k c in (h.0, member_only k root h.1)
+    pub within_only : (k : ℕ) → Contains (within space.labels root) k →
+        Contains (rows_in space.labels) k × Contains root k
+    within_only k c =
+        let h = filter_only (λ k. is_member k root) (rows_in space.labels) k c in (h.0, member_only k root h.1)
 
     pub order_has : (k : ℕ) → Contains (rows_in space.labels) k → Contains (order space.labels root) k
     order_has k c =
         ⊎_elim
-        (λ (m : Contains root k). Contains-append_right (outside space.labels root) (within space.labels root) k (within_has k c m))
+        (λ (m : Contains root k). Contains-append_right (outside space.labels root) (within space.labels root) k
+        (within_has k c m))
         (λ (n : Contains root k → ⊥).
         Contains-append_left (outside space.labels root) (within space.labels root) k (outside_has k c n))
         (contains_or root k)
@@ -113,7 +119,8 @@ module _ (space : Space) where
           IsEarlier space.labels root k j
       earlier_transitive k i j h g = before_transitive (order space.labels root) k i j order_distinct h g
 
-    pub earlier_rows : (k i : ℕ) → IsEarlier space.labels root k i → Contains (rows_in space.labels) k × Contains (rows_in space.labels) i
+    pub earlier_rows : (k i : ℕ) → IsEarlier space.labels root k i →
+        Contains (rows_in space.labels) k × Contains (rows_in space.labels) i
     earlier_rows k i h =
         let m = precedes_members (order space.labels root) k i h in (order_only k m.0, order_only i m.1)
 
@@ -121,7 +128,8 @@ module _ (space : Space) where
         IsEarlier space.labels root k i ⊎ IsEarlier space.labels root i k
     one_is_earlier k i c d n = one_before_other (order space.labels root) k i (order_has k c) (order_has i d) n
 
-    pub outside_is_earlier : (k i : ℕ) → Contains (outside space.labels root) k → Contains (within space.labels root) i →
+    pub outside_is_earlier : (k i : ℕ) → Contains (outside space.labels root) k →
+        Contains (within space.labels root) i →
         IsEarlier space.labels root k i
     outside_is_earlier k i c d = before_across (outside space.labels root) (within space.labels root) k i c d
 
@@ -133,7 +141,8 @@ module _ (space : Space) where
 
     pub earlier_cases : (k i : ℕ) → IsEarlier space.labels root k i →
         Precedes (outside space.labels root) k i
-        ⊎ ((Contains (outside space.labels root) k × Contains (within space.labels root) i) ⊎ Precedes (within space.labels root) k i)
+        ⊎ ((Contains (outside space.labels root) k × Contains (within space.labels root) i)
+        ⊎ Precedes (within space.labels root) k i)
     earlier_cases k i h = before_cases (outside space.labels root) (within space.labels root) k i h
 
     -- ---- outside the root, and in it, the smaller row is earlier
@@ -144,14 +153,17 @@ module _ (space : Space) where
       pub within_ascending : IsAscending (within space.labels root)
       within_ascending = ascending_filter (λ k. is_member k root) (rows_in space.labels) ascending
 
-      pub smaller_outside : (k i : ℕ) → Contains (outside space.labels root) k → Contains (outside space.labels root) i → k < i →
+      pub smaller_outside : (k i : ℕ) → Contains (outside space.labels root) k →
+          Contains (outside space.labels root) i → k < i →
           IsEarlier space.labels root k i
       smaller_outside k i c d l =
           earlier_outside k i (smaller_is_before (outside space.labels root) k i outside_ascending c d l)
 
-      pub smaller_within : (k i : ℕ) → Contains (within space.labels root) k → Contains (within space.labels root) i → k < i →
+      pub smaller_within : (k i : ℕ) → Contains (within space.labels root) k → Contains (within space.labels root) i →
+          k < i →
           IsEarlier space.labels root k i
-      smaller_within k i c d l = earlier_within k i (smaller_is_before (within space.labels root) k i within_ascending c d l)
+      smaller_within k i c d l =
+          earlier_within k i (smaller_is_before (within space.labels root) k i within_ascending c d l)
 
       -- what is earlier than a row outside the root is a smaller one outside it
       pub earlier_than_outside : (k i : ℕ) → IsEarlier space.labels root k i → (Contains root i → ⊥) →
@@ -164,7 +176,8 @@ module _ (space : Space) where
           ))
           (λ (r : (Contains (outside space.labels root) k × Contains (within space.labels root) i)
           ⊎ Precedes (within space.labels root) k i). absurd (⊎_elim
-          (λ (c : Contains (outside space.labels root) k × Contains (within space.labels root) i). n (within_only i c.1).1)
+          (λ (c : Contains (outside space.labels root) k × Contains (within space.labels root) i).
+          n (within_only i c.1).1)
           (λ (p : Precedes (within space.labels root) k i).
           n (within_only i (precedes_members (within space.labels root) k i p).1).1) r))
           (earlier_cases k i h)

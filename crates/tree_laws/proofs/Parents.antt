@@ -49,7 +49,8 @@ module _ (space : Space) (root key : List ℕ) (t : Table) (d : IsRowDictionary 
       let w = negative_row p.s p.enters.column p.enters.may in w.4 (all w.0 w.2)
 
   -- where a column enters, some row leaves
-  pub some_parent : (s : ℕ) → Enters space.labels root key t s → (parent : List ℕ) × IsParent space.labels root key t parent
+  pub some_parent : (s : ℕ) → Enters space.labels root key t s →
+      (parent : List ℕ) × IsParent space.labels root key t parent
   some_parent s e =
       let w = negative_row s e.column e.may in
       let l = some_leaves space root key t s w.0 (record { row = w.1; outside = w.4 }) w.3 in (
@@ -87,10 +88,12 @@ module _ (space : Space) (root key : List ℕ) (home t : Table) (h : IsLexFeasib
   row_ends : (q : ℕ) → Contains (backwards (within space.labels root)) q → IsZero (level_list space root key t q)
   row_ends q m =
       subst (λ xs. IsZero (t.constant q ∷ xs)) (sym (same_places (level key t q) (outside space.labels root)))
-      (ends_of_lists home.denominator (backwards (within space.labels root)) key (outside space.labels root) t.entry home.constant
+      (ends_of_lists home.denominator (backwards (within space.labels root)) key
+      (outside space.labels root) t.entry home.constant
       (λ c k. level root home c (Some k)) t.constant (λ q k. level key t q (Some k))
       h.dictionary.dictionary.writes.positive
-      (λ c i. subst (λ xs. IsNonnegative (home.constant c ∷ xs)) (same_places (level root home c) (outside space.labels root))
+      (λ c i. subst (λ xs. IsNonnegative (home.constant c ∷ xs))
+      (same_places (level root home c) (outside space.labels root))
       (levels_nonnegative space root root home h c (key_row space key t f.dictionary c i)))
       (λ q i. subst (λ xs. IsNonnegative (t.constant q ∷ xs)) (same_places (level key t q) (outside space.labels root))
       (levels_nonnegative space root key t f q (backwards_within_only space root q i).0))
@@ -145,7 +148,8 @@ root_or_child space root key home t h f =
     (none_or_enters space root t key f.dictionary.rows)
 
 -- two parents of one key, by whichever tables
-pub one_parent : (space : Space) (root key parent other : List ℕ) (home t u : Table) → AreDistinct (rows_in space.labels) →
+pub one_parent : (space : Space) (root key parent other : List ℕ) (home t u : Table) →
+    AreDistinct (rows_in space.labels) →
     IsRowDictionary space root home → IsRowDictionary space key t → IsRowDictionary space key u →
     IsParent space.labels root key t parent → IsParent space.labels root key u other → parent ≡ other
 one_parent space root key parent other home t u distinct h d e p q =

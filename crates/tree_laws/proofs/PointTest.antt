@@ -62,7 +62,8 @@ module _ (space : Space) (root key : List ℕ) (home t : Table) (h : IsRowDictio
             (λ m. shown i o z k m (outside_is_earlier space root k i c (within_has space root i o.row r)))),
       ))
 
-  list_at_zero : (i : ℕ) → IsRowOutside space.labels key i → t.constant i ≡ pos 0 → IsPositive (list_of space.labels root key t i)
+  list_at_zero : (i : ℕ) → IsRowOutside space.labels key i → t.constant i ≡ pos 0 →
+      IsPositive (list_of space.labels root key t i)
   list_at_zero i o z =
       subst IsPositive (sym (list_is_levels space root key t i o.outside)) (inr (
         z,

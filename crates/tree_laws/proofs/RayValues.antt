@@ -54,13 +54,15 @@ module _ (space : Space) (key : List ℕ) (t : Table) (d : IsRowDictionary space
       (along_value i l ∙ zero_times (t.entry i s) (space.form s · y) e)
       (positive_nonzero t.denominator d.dictionary.writes.positive)
 
-  pub nonnegative_entry : (i : ℕ) → Contains (rows_in space.labels) i → pos 0 ≤ℤ (space.form i · y) → pos 0 ≤ℤ t.entry i s
+  pub nonnegative_entry : (i : ℕ) → Contains (rows_in space.labels) i → pos 0 ≤ℤ (space.form i · y) →
+      pos 0 ≤ℤ t.entry i s
   nonnegative_entry i l g =
       nonnegative_factor (space.form s · y) (t.entry i s) along.here
       (subst (λ (v : ℤ). pos 0 ≤ℤ v) (sym (turned i l))
       (nonnegative_product t.denominator (space.form i · y) d.dictionary.writes.positive g))
 
-  pub nonnegative_along : (i : ℕ) → Contains (rows_in space.labels) i → pos 0 ≤ℤ t.entry i s → pos 0 ≤ℤ (space.form i · y)
+  pub nonnegative_along : (i : ℕ) → Contains (rows_in space.labels) i → pos 0 ≤ℤ t.entry i s →
+      pos 0 ≤ℤ (space.form i · y)
   nonnegative_along i l g =
       nonnegative_factor t.denominator (space.form i · y) d.dictionary.writes.positive
       (subst (λ (v : ℤ). pos 0 ≤ℤ v) (turned i l)

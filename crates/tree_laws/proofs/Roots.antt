@@ -39,7 +39,8 @@ module _ (space : Space) (root : List ℕ) (home : Table) (h : IsFeasibleRoot sp
   root_is_feasible = record {
     dictionary = h.dictionary;
     lists = λ i o. positive_unless_zero (list_of space.labels root root home i)
-        (first_nonnegative (home.constant i) (map (listed_at root home i) (outside space.labels root)) (h.constants i o.row)
+        (first_nonnegative (home.constant i) (map (listed_at root home i) (outside space.labels root))
+        (h.constants i o.row)
         (none_negative (listed_at root home i) (outside space.labels root) (root_number i)))
         (list_is_nonzero space root root home home h.dictionary h.dictionary i o);
   }

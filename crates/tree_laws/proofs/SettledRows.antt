@@ -1,7 +1,7 @@
 -- A key at which each row that is 0 at y, if it is not in the key, follows from those in the key that stand after it in
 -- a list. It is made from the key of the root: row by row from the end of the list on, each takes the place of a label
--- in whose column it is not 0, if there is one that is not among those after it which are 0 at y. Rows that are not 0 at
--- y may come in so; of the whole order none is left in the key (SomePoint).
+-- in whose column it is not 0, if there is one that is not among those after it which are 0 at y. Rows that are not 0
+-- at y may come in so; of the whole order none is left in the key (SomePoint).
 use Rattle.std.proofs.Common.{◌≡◌, ◌≢◌, ◌⊎◌, inl, inr, ⊎_elim, ℕ, List, [], ◌∷◌, ℤ, pos, subst, arith}
 use Rattle.std.specs.Prelude.{◌<ℤ◌}
 use Rattle.std.specs.List.{Contains}

@@ -140,7 +140,8 @@ module _ (space : Space) (root key other : List ℕ) (home t u : Table) (h : IsR
         by n true e (inl z) =
             level_is_nonzero space root other home u h g.dictionary k (record { row = rows k q; outside = n })
             (zero_at (level other u k) (places space root)
-            (subst (λ xs. IsZero (level other u k None ∷ xs)) (sym (same_places (level other u k) (outside space.labels root)))
+            (subst (λ xs. IsZero (level other u k None ∷ xs))
+            (sym (same_places (level other u k) (outside space.labels root)))
             z))
         by n true e (inr z) =
             positive_nonzero t.denominator f.dictionary.dictionary.writes.positive

@@ -22,7 +22,8 @@ use Rattle.tree_laws.proofs.OneRay as ray
 use Rattle.tree_laws.proofs.SomeRay.{some_ray_key}
 
 module _ (space : Space) (root : List ℕ) (home : Table) (y : Vector) (extreme : IsExtremeIn space y) where
-  pub point_once : IsRowDictionary space root home → AreDistinct (rows_in space.labels) → pos 0 <ℤ (space.infinity · y) →
+  pub point_once : IsRowDictionary space root home → AreDistinct (rows_in space.labels) →
+      pos 0 <ℤ (space.infinity · y) →
       IsPointOnce space root y
   point_once h distinct up =
       let k = some_key space root home h distinct y extreme up in

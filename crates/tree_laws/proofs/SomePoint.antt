@@ -124,7 +124,8 @@ pub record HasPointKey (space : Space) (root : List ℕ) (y : Vector) : Type 0 w
 pub some_key : (space : Space) (root : List ℕ) (home : Table) → IsRowDictionary space root home →
     AreDistinct (rows_in space.labels) → (y : Vector) → IsExtremeIn space y → pos 0 <ℤ (space.infinity · y) →
     HasPointKey space root y
-some_key space root home h u y extreme up = by (settle space y root home h (order space.labels root) (order_only space root))
+some_key space root home h u y extreme up =
+    by (settle space y root home h (order space.labels root) (order_only space root))
   where
     by : Settles space y (order space.labels root) → HasPointKey space root y
     by b = record {

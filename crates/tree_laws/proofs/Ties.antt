@@ -119,7 +119,8 @@ module _ (space : Space) (root key : List ℕ) (home t : Table) (h : IsRowDictio
 
   -- so the ratio test has no ties
   pub no_ties : (i j : ℕ) → IsRowOutside space.labels key i → IsRowOutside space.labels key j → i ≢ j → (p q : ℤ) →
-      IsZero (gaps p (list_of space.labels root key t i) q (list_of space.labels root key t j)) → (p ≡ pos 0) × (q ≡ pos 0)
+      IsZero (gaps p (list_of space.labels root key t i) q (list_of space.labels root key t j)) →
+      (p ≡ pos 0) × (q ≡ pos 0)
   unfolding AreOpposite
   no_ties i j o r n p q z = (
     no_combination p (neg_ℤ q) i j o r n opposite,

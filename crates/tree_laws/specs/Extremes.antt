@@ -10,8 +10,8 @@ use Rattle.poly_model.specs.LexOrder.{rows_in}
 use Rattle.poly_model.specs.Tree.{IsExtremeIn}
 use Rattle.dictionary_laws.specs.Keys.{AreDistinct}
 
--- a vector of the cone is extreme exactly where it is extreme in the main space, and shown. No label of a row may be that
--- of a coordinate
+-- a vector of the cone is extreme exactly where it is extreme in the main space, and shown. No label of a row may be
+-- that of a coordinate
 abbrev pub ExtremesOfMain : Type 0
 ExtremesOfMain =
     (p : Polyhedron) (free : List ℕ) → AreFreeColumns (cone_of p) free → length (cone_of p).rows < 8192 → (y : Vector) →

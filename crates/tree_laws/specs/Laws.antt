@@ -11,14 +11,17 @@ use Rattle.poly_model.specs.Tree.{IsRowDictionary, IsRowOutside, IsLexFeasible, 
 abbrev pub ListsAreNotZero : Type 0
 ListsAreNotZero =
     (space : Space) (root key : List ℕ) (home t : Table) → IsRowDictionary space root home →
-    IsRowDictionary space key t → (i : ℕ) → IsRowOutside space.labels key i → IsZero (list_of space.labels root key t i) → ⊥
+    IsRowDictionary space key t → (i : ℕ) → IsRowOutside space.labels key i →
+    IsZero (list_of space.labels root key t i) → ⊥
 
 -- and those of two such rows differ, whatever multiples are taken
 abbrev pub NoTies : Type 0
 NoTies =
     (space : Space) (root key : List ℕ) (home t : Table) → IsRowDictionary space root home →
-    IsRowDictionary space key t → (i j : ℕ) → IsRowOutside space.labels key i → IsRowOutside space.labels key j → i ≢ j → (p q : ℤ) →
-    IsZero (gaps p (list_of space.labels root key t i) q (list_of space.labels root key t j)) → (p ≡ pos 0) × (q ≡ pos 0)
+    IsRowDictionary space key t → (i j : ℕ) → IsRowOutside space.labels key i → IsRowOutside space.labels key j →
+    i ≢ j → (p q : ℤ) →
+    IsZero (gaps p (list_of space.labels root key t i) q (list_of space.labels root key t j)) →
+    (p ≡ pos 0) × (q ≡ pos 0)
 
 -- u is the dictionary of the key with r in the place of s: its lists from those of t, and its entry at (s, r)
 pub record AreExchangedLists (space : Space) (root key : List ℕ) (t : Table) (s r : ℕ) (u : Table) : Type 0 where
@@ -54,12 +57,14 @@ pub record IsFeasibleNeighbour (space : Space) (root new : List ℕ) : Type 0 wh
 abbrev pub NeighboursAreFeasible : Type 0
 NeighboursAreFeasible =
     (space : Space) (root key new : List ℕ) (home t : Table) → IsRowDictionary space root home →
-    IsLexFeasible space root key t → (s : ℕ) → IsNeighbour space.labels root key t s new → IsFeasibleNeighbour space root new
+    IsLexFeasible space root key t → (s : ℕ) → IsNeighbour space.labels root key t s new →
+    IsFeasibleNeighbour space root new
 
 -- the ratio test gives one row at most, so there is one neighbour at most in a column, by whichever tables of the key
 pub record GivesOne (space : Space) (root key : List ℕ) (t u : Table) (s : ℕ) : Type 0 where
   pub row : (r q : ℕ) → Leaves space.labels root key t s r → Leaves space.labels root key u s q → r ≡ q
-  pub neighbour : (new other : List ℕ) → IsNeighbour space.labels root key t s new → IsNeighbour space.labels root key u s other →
+  pub neighbour : (new other : List ℕ) → IsNeighbour space.labels root key t s new →
+      IsNeighbour space.labels root key u s other →
       new ≡ other
 
 abbrev pub OneNeighbour : Type 0

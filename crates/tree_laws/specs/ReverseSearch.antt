@@ -20,7 +20,8 @@ pub record IsSearched (space : Space) (root : List ℕ) (home : Table) : Type 0 
   pub parent_feasible : (key parent : List ℕ) (t : Table) → IsLexFeasible space root key t →
       IsParent space.labels root key t parent → IsFeasibleNeighbour space root parent
   pub one_parent : (key parent other : List ℕ) (t u : Table) → IsLexFeasible space root key t →
-      IsLexFeasible space root key u → IsParent space.labels root key t parent → IsParent space.labels root key u other →
+      IsLexFeasible space root key u → IsParent space.labels root key t parent →
+      IsParent space.labels root key u other →
       parent ≡ other
   pub child_is_neighbour : (key parent : List ℕ) (t u : Table) → IsLexFeasible space root key t →
       IsLexFeasible space root parent u → (p : IsParent space.labels root key t parent) →
@@ -37,7 +38,8 @@ pub record IsSearched (space : Space) (root : List ℕ) (home : Table) : Type 0 
 -- under every feasible root, in a space where each row stands once
 abbrev pub ReverseSearch : Type 0
 ReverseSearch =
-    (space : Space) (root : List ℕ) (home : Table) → AreDistinct (rows_in space.labels) → IsFeasibleRoot space root home →
+    (space : Space) (root : List ℕ) (home : Table) → AreDistinct (rows_in space.labels) →
+    IsFeasibleRoot space root home →
     IsSearched space root home
 
 -- so it is in the spaces in which a polyhedron is searched, of the phases main and first

@@ -20,7 +20,8 @@ pub record IsShownOnce (space : Space) (root : List ℕ) (y : Vector) : Type 0 w
 -- each extreme vector is
 abbrev pub EachIsShownOnce : Type 0
 EachIsShownOnce =
-    (space : Space) (root : List ℕ) (home : Table) → IsFeasibleRoot space root home → AreDistinct (rows_in space.labels) →
+    (space : Space) (root : List ℕ) (home : Table) → IsFeasibleRoot space root home →
+    AreDistinct (rows_in space.labels) →
     (y : Vector) → IsExtremeIn space y → IsShownOnce space root y
 
 -- and nothing else is shown

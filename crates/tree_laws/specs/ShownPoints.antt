@@ -47,5 +47,6 @@ pub record IsPointOnce (space : Space) (root : List ℕ) (y : Vector) : Type 0 w
 -- after it, and the point test could fail at every cobasis
 abbrev pub ExtremePointIsShownOnce : Type 0
 ExtremePointIsShownOnce =
-    (space : Space) (root : List ℕ) (home : Table) → IsRowDictionary space root home → AreDistinct (rows_in space.labels) →
+    (space : Space) (root : List ℕ) (home : Table) → IsRowDictionary space root home →
+    AreDistinct (rows_in space.labels) →
     (y : Vector) → IsExtremeIn space y → pos 0 <ℤ (space.infinity · y) → IsPointOnce space root y

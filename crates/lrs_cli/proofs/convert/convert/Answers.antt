@@ -1,38 +1,51 @@
-use Rattle.std.proofs.Common.{◌≡◌, refl, subst}
-use Rattle.std.specs.Prelude.{⊤}
+use Rattle.std.proofs.Common.{◌≡◌, Err, inl, inr, refl, subst, ⊎_elim}
+use Rattle.std.specs.Result.{IsErrOf}
 use Rattle.poly_model.specs.Systems.{cone_of}
 use Rattle.poly_model.specs.Extreme.{IsFeasible}
-use Rattle.poly_model.specs.Overflows.{Passes}
 use Rattle.poly_reader.specs.declared.bad.BadFile.{BadFile}
-use Rattle.lrs_cli.specs.Answers.{Told, IsBadFile, WritesWhole}
+use Rattle.poly_reader.specs.declared.bad.ReadStop.{ReadStop}
+use Rattle.poly_reader.specs.declared.bad.ReadStop.TheVariants.{Fault, Bad}
+use Rattle.plain_enum.specs.Plain.{PassesInCone}
+use Rattle.lrs_cli.specs.declared.status.Status.{Status}
+use Rattle.lrs_cli.specs.Answers.{Lists, WritesWhole, WritesPart}
+use Rattle.lrs_cli.proofs.AnswerLemmas.{answers_memory, answers_read_fault, answers_bad_file}
+use Rattle.lrs_cli.proofs.EndLemmas.{ends}
 use Rattle.lrs_cli.proofs.FaultLemmas.{described, fault_of_source, text_of_source}
 use Rattle.lrs_cli.proofs.convert.convert.Goals as goal
 
-pub returns-in-Ok-clause-done : goal.returns-in-Ok-clause-done
-returns-in-Ok-clause-done g c rows lines e =
-    described (WritesWhole (g.O.Sink.written c.args.out.now) (g.O.Sink.written c.print_listing.new.out) rows lines)
-    c.in-Ok.poly (g.I.Source.left c.args.input.now)
-    (text_of_source _ _ c.in-Ok.poly c.in-Ok.ensures.ok) (c.print_listing.ensures.done rows lines e)
+pub returns-in-Ok-clause-answers : goal.returns-in-Ok-clause-answers
+returns-in-Ok-clause-answers g c =
+    let source = g.I.Source.left c.args.input.now in
+    let old = g.O.Sink.written c.args.out.now in
+    let new = g.O.Sink.written c.print_listing.new.out in
+    let poly = c.in-Ok.poly in
+    let text = text_of_source _ _ poly c.in-Ok.ensures.ok in
+    let listing = c.print_listing.ensures in
+    record {
+      done = λ rows lines e. (c.in-Ok.ensures.ok.ends, described (WritesWhole old new rows lines) poly source text (listing.done rows lines e));
+      infeasible = λ e. described (λ p. IsFeasible (cone_of p) → ⊥) poly source text (listing.infeasible e);
+      overflow = λ o e. described (λ p. PassesInCone p o) poly source text (listing.overflow o e);
+      stopped = λ s. described (WritesPart old new) poly source text (listing.stopped s);
+      printed = λ s. ⊎_elim (λ k. inl k)
+          (λ f. inr (described (λ p. IsFeasible (cone_of p)) poly source text f)) (listing.printed s);
+      bad_file = λ f e. absurd (subst Lists e listing.lists);
+      read_fault = λ e. absurd (subst Lists e listing.lists);
+      reads = λ n. c.in-Ok.ensures.same (λ e. cc);
+      write_fault = listing.write_fault;
+      writes = listing.writes;
+      unwritten = listing.unwritten;
+      complete = λ known n m. ends source known c.print_listing.result listing.lists (λ e. m (listing.write_fault e))
+          (λ o e. described (λ p. PassesInCone p o) poly source text (listing.overflow o e));
+    }
 
-pub returns-in-Ok-clause-infeasible : goal.returns-in-Ok-clause-infeasible
-returns-in-Ok-clause-infeasible g c e =
-    described (λ p. IsFeasible (cone_of p) → ⊥) c.in-Ok.poly (g.I.Source.left c.args.input.now)
-    (text_of_source _ _ c.in-Ok.poly c.in-Ok.ensures.ok)
-    (c.print_listing.ensures.infeasible e)
+-- a text that describes no polyhedron is no fault of reading
+bad_is_no_fault : {T : Type 0} (stop : ReadStop) (f : BadFile) → stop ≡ Bad f → IsErrOf {T = T} {E = ReadStop} (Err stop) Fault → ⊥
+bad_is_no_fault stop f is e = cc
 
-pub returns-in-Ok-clause-overflow : goal.returns-in-Ok-clause-overflow
-returns-in-Ok-clause-overflow g c o e =
-    described (λ p. Passes p o) c.in-Ok.poly (g.I.Source.left c.args.input.now)
-    (text_of_source _ _ c.in-Ok.poly c.in-Ok.ensures.ok)
-    (c.print_listing.ensures.overflow o e)
-
-pub returns-in-Ok-clause-polyhedral : goal.returns-in-Ok-clause-polyhedral
-returns-in-Ok-clause-polyhedral g c l =
-    described (λ p. ⊤) c.in-Ok.poly (g.I.Source.left c.args.input.now)
-    (text_of_source _ _ c.in-Ok.poly c.in-Ok.ensures.ok) tt
-
-pub returns-in-Err-Bad-clause-bad : goal.returns-in-Err-Bad-clause-bad
-returns-in-Err-Bad-clause-bad g c f e =
+pub returns-in-Err-Bad-clause-answers : goal.returns-in-Err-Bad-clause-answers
+returns-in-Err-Bad-clause-answers g c =
     let found = (rw c.in-Err-Bad.field-0-is at c.in-Err-Bad.ensures.bad) c.in-Err-Bad.f refl in
-    let same : c.in-Err-Bad.f ≡ f = cc in
-    subst (λ (x : BadFile). Told (g.I.Source.left c.args.input.now) (IsBadFile x)) same (fault_of_source _ _ c.in-Err-Bad.f found)
+    let reads = c.in-Err-Bad.ensures.same
+    (bad_is_no_fault c.in-Err-Bad.field-0 c.in-Err-Bad.f c.in-Err-Bad.field-0-is) in
+    rw c.in-Err-Bad.f-is
+    (answers_bad_file _ _ _ refl refl c.in-Err-Bad.f reads (fault_of_source _ _ c.in-Err-Bad.f found))

@@ -1,4 +1,6 @@
-use Rattle.std.proofs.Common.{◌≡◌, sym, ◌∙◌}
+use Rattle.std.proofs.Common.{◌≡◌, refl, subst, sym, ◌∙◌}
+use Rattle.poly_model.specs.declared.overflow.Overflow.{Overflow}
+use Rattle.plain_enum.specs.Plain.{PassesInCone}
 use Rattle.lrs_cli.proofs.convert.print_cone.Goals as goal
 
 pub returns-in-Ok-clause-done : goal.returns-in-Ok-clause-done
@@ -16,3 +18,10 @@ returns-in-Ok-clause-done g c rows lines e p file feasible =
       };
       written = whole.2;
     }
+
+pub returns-in-Err-Overflow-clause-overflow : goal.returns-in-Err-Overflow-clause-overflow
+returns-in-Err-Overflow-clause-overflow g c o e p file =
+    let found = (rw c.in-Err-Overflow.field-0-is at c.in-Err-Overflow.ensures.overflow) c.in-Err-Overflow.overflow refl
+    p file in
+    let same : c.in-Err-Overflow.overflow ≡ o = cc in
+    subst (λ (x : Overflow). PassesInCone p x) same found

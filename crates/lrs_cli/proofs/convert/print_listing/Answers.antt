@@ -1,6 +1,6 @@
 use Rattle.std.proofs.Common.{◌≡◌, true, false, subst, refl, sym, ◌∙◌}
 use Rattle.poly_model.specs.declared.overflow.Overflow.{Overflow}
-use Rattle.poly_model.specs.Overflows.{Passes}
+use Rattle.plain_enum.specs.Plain.{PassesInCone}
 use Rattle.lrs_cli.proofs.NothingWritten.{part_of_nothing}
 use Rattle.lrs_cli.proofs.convert.print_listing.Goals as goal
 
@@ -30,4 +30,4 @@ returns-in-Err-Overflow-clause-overflow g c o e =
     let found = (rw c.in-Err-Overflow.field-0-is at c.in-Err-Overflow.ensures.overflow) c.in-Err-Overflow.overflow refl
     p c.in-Ok.ensures in
     let same : c.in-Err-Overflow.overflow ≡ o = cc in
-    subst (λ (x : Overflow). Passes p x) same found
+    subst (λ (x : Overflow). PassesInCone p x) same found

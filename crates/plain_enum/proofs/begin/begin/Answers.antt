@@ -1,23 +1,33 @@
 use Rattle.std.proofs.Common.{Err, true, sym, ap, subst, ◌∙◌}
 use Rattle.std.specs.List.{Contains}
+use Rattle.dictionary.specs.Views.{Dictionary}
 use Rattle.linearity.specs.Elimination.{IsDictionaryOf}
 use Rattle.plain_enum.specs.Begin.{IsBegun}
-use Rattle.plain_enum.proofs.Begun.{same_overflow, Passes, new_rows, first_of, second_of, is_begun}
+use Rattle.plain_enum.proofs.Begun.{same_overflow, TriesAll, new_rows, first_of, second_of, is_begun}
 use Rattle.plain_enum.proofs.begin.begin.Goals as goal
 
 pub returns-in-Err-clause-overflow : goal.returns-in-Err-clause-overflow
 returns-in-Err-clause-overflow c o h p file =
-    c.in-Err.ensures.passes o (ap (λ x. Err x) (same_overflow c.in-Err.overflow o h)) p file
-    (first_of c.args.sys.now c.in-Ok.at c.in-Ok.ensures c.n-n.ensures.value c.n-n.ensures.some c.n-n.ensures.narrow
-    c.rows-rows.ensures.value c.rows-rows.ensures.few p file)
+    let is = ap (λ x. Err x) (same_overflow c.in-Err.overflow o h) in
+    record {
+      phase = c.in-Err.ensures.passing_phase o is ∙ c.in-Ok.ensures.phase_is;
+      passes = c.in-Err.ensures.passes o is p file
+          (first_of c.args.sys.now c.in-Ok.at c.in-Ok.ensures c.n-n.ensures.value c.n-n.ensures.some c.n-n.ensures.narrow
+          c.rows-rows.ensures.value c.rows-rows.ensures.few p file);
+    }
 
 pub returns-in-Err-enter_rows-clause-overflow : goal.returns-in-Err-enter_rows-clause-overflow
 returns-in-Err-enter_rows-clause-overflow c o h p file =
-    c.in-Err-enter_rows.ensures.passes o (ap (λ x. Err x) (same_overflow c.in-Err-enter_rows.overflow o h)) p file
-    (subst (IsDictionaryOf p) (sym c.in-Ok-copy.ensures)
-    (second_of c.args.sys.now c.in-Ok.at c.in-Ok.ensures c.n-n.ensures.value c.n-n.ensures.some c.n-n.ensures.narrow
-    c.rows-rows.ensures.value c.rows-rows.ensures.few p file c.enter_rows.new.at
-    (c.in_default-enter_rows.ensures.entered p file)))
+    let is = ap (λ x. Err x) (same_overflow c.in-Err-enter_rows.overflow o h) in
+    record {
+      phase = c.in-Err-enter_rows.ensures.passing_phase o is ∙ ap (λ (d : Dictionary). d.phase) c.in-Ok-copy.ensures
+          ∙ c.enter_rows.ensures.phase ∙ c.in-Ok.ensures.phase_is;
+      passes = c.in-Err-enter_rows.ensures.passes o is p file
+          (subst (IsDictionaryOf p) (sym c.in-Ok-copy.ensures)
+          (second_of c.args.sys.now c.in-Ok.at c.in-Ok.ensures c.n-n.ensures.value c.n-n.ensures.some c.n-n.ensures.narrow
+          c.rows-rows.ensures.value c.rows-rows.ensures.few p file c.enter_rows.new.at
+          (c.in_default-enter_rows.ensures.entered p file)));
+    }
 
 pub returns-in-Ok-with_room-clause-begun : goal.returns-in-Ok-with_room-clause-begun
 returns-in-Ok-with_room-clause-begun c p file =
@@ -29,7 +39,7 @@ returns-in-Ok-with_room-clause-begun c p file =
     (is_begun c.args.sys.now c.in-Ok.at c.in-Ok.ensures c.n-n.ensures.value c.n-n.ensures.some c.n-n.ensures.narrow
     c.rows-rows.ensures.value c.rows-rows.ensures.few p file at last c.in-Ok-with_room.begun.free.items
     (c.in_default-enter_rows.ensures.entered p file)
-    (subst (λ d. Passes c.args.sys.now p true d last) c.in-Ok-copy.ensures
+    (subst (λ d. TriesAll c.args.sys.now p true d last) c.in-Ok-copy.ensures
     (c.in_default-enter_rows-2.ensures.entered p file))
     c.enter_rows.ensures.phase
     (λ k m l. subst (λ d. Contains d.key k) c.in-Ok-copy.ensures (c.enter_rows-2.ensures.fewer k m l))

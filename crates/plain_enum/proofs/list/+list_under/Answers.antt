@@ -18,7 +18,7 @@ rows-init g t c =
       depth = c.in-Some.ensures.cases.1;
       vector = c.requires.vector;
       kind = c.requires.kind;
-      later = omega arith;
+      same = refl;
       written = loop_start c.args.sys.now c.args.free.now c.args.at.now c.args.from (length c.args.deeper.now)
           c.args.shown.rows (g.S.Sink.written c.args.out.now) c.args.shown.few;
     }
@@ -92,7 +92,7 @@ rows-preserved g t c =
         depth = omega (arith, ap length w.others-is, w.in_ok-shown-in-Some.ensures.depth, c.rows.invariant.depth);
         vector = ap length w.vector-is ∙ w.in_ok-shown-in-Some.ensures.vector;
         kind = ap (λ s. s.listing) w.shown-is ∙ w.in_ok-shown-in-Some.ensures.kind;
-        later = omega (arith, ap g.S.Sink.faults w.out-is, w.in_ok-shown-in-Some.ensures.later, c.rows.invariant.later);
+        same = ap g.S.Sink.faults w.out-is ∙ w.in_ok-shown-in-Some.ensures.same (λ h. cc) ∙ c.rows.invariant.same;
         written = λ p cone fixed left prefix at.
             subst (λ (s : Shown). IsInLoop c.args.sys.now c.args.free.now c.args.at.now (length c.args.deeper.now)
             p cone fixed left prefix c.args.shown.rows s.rows
@@ -114,7 +114,7 @@ rows-preserved g t c =
         depth = omega (arith, ap length w.others-is, c.rows.invariant.depth);
         vector = ap length w.vector-is ∙ c.rows.invariant.vector;
         kind = ap (λ s. s.listing) w.shown-is ∙ c.rows.invariant.kind;
-        later = omega (arith, ap g.S.Sink.faults w.out-is, c.rows.invariant.later);
+        same = ap g.S.Sink.faults w.out-is ∙ c.rows.invariant.same;
         written = λ p cone fixed left prefix at.
             subst (λ (s : Shown). IsInLoop c.args.sys.now c.args.free.now c.args.at.now (length c.args.deeper.now)
             p cone fixed left prefix c.args.shown.rows s.rows

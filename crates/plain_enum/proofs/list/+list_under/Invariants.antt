@@ -1,4 +1,4 @@
-use Rattle.std.proofs.Common.{◌≡◌, ◌+◌, ◌≤◌, length}
+use Rattle.std.proofs.Common.{◌≡◌, ◌+◌, length}
 use Rattle.std.specs.List.{All}
 use Rattle.plain_enum.specs.Listed.{HasShapeOf}
 use Rattle.plain_enum.proofs.LoopUnder.{InLoop}
@@ -16,7 +16,7 @@ invariant-rows g l =
       depth : length l.others + 1 ≡ length l.fn.deeper;
       vector : length l.vector ≡ l.sys.n;
       kind : l.shown.listing ≡ l.sys.kind;
-      later : g.S.Sink.faults l.fn.out ≤ g.S.Sink.faults l.out;
+      same : g.S.Sink.faults l.out ≡ g.S.Sink.faults l.fn.out;
       written : InLoop l.sys l.free l.at l.fn.from (length l.fn.deeper) l.fn.shown.rows l.shown.rows
           (g.S.Sink.written l.fn.out) (g.S.Sink.written l.out) l.i;
     }

@@ -1,5 +1,6 @@
 use Rattle.std.proofs.Common.{◌≡◌, ◌≤◌, refl, ap, subst, ◌∙◌}
 use Rattle.std.specs.Io.KnownBytes.{Appends}
+use Rattle.poly_model.specs.Limits.{most_columns}
 use Rattle.poly_model.specs.ListingText.{row_text}
 use Rattle.poly_io.specs.Written.{AppendsPart}
 use Rattle.listing_laws.specs.Prefixes.{IsUnder}
@@ -16,7 +17,7 @@ pub returns-in_default-shown_side-clause-written : goal.returns-in_default-shown
 returns-in_default-shown_side-clause-written g c p cone fixed left marks at =
     writes_none c.args.sys.now.kind (g.S.Sink.written c.args.out.now) c.args.shown (IsUnder cone marks) c.args.shown.few
     (nothing_here c.args.sys.now c.args.free.now c.args.at.now c.args.from p cone fixed left marks at
-    (subst (λ n. n ≤ 256) c.n-n.ensures.value c.n-n.ensures.narrow) c.in-Some.col.0
+    (subst (λ n. n ≤ most_columns) c.n-n.ensures.value c.n-n.ensures.narrow) c.in-Some.col.0
     c.in-Some.ensures.some (c.in_default-shown_side.ensures.none refl))
 
 pub returns-in-Ok-clause-written : goal.returns-in-Ok-clause-written
@@ -33,7 +34,7 @@ returns-in-Ok-clause-written g c p cone fixed left marks at =
     _
     (vector_on side (primitive_column now col n)) (IsUnder cone marks) c.saturating_add.ensures
     (one_here c.args.sys.now c.args.free.now now c.args.from p cone fixed left marks at
-    (subst (λ w. w ≤ 256) c.n-n.ensures.value c.n-n.ensures.narrow) col c.in-Some.ensures.some
+    (subst (λ w. w ≤ most_columns) c.n-n.ensures.value c.n-n.ensures.narrow) col c.in-Some.ensures.some
     side c.in-Some-shown_side.ensures.some)
     (subst (λ t. Appends (g.S.Sink.written c.args.out.now) (g.S.Sink.written c.row.new.out) t) text c.in-Ok.ensures.text.whole)
 
@@ -50,6 +51,6 @@ returns-in-Err-clause-written g c p cone fixed left marks at =
     writes_part c.args.sys.now.kind c.args.shown.rows (g.S.Sink.written c.args.out.now) (g.S.Sink.written c.row.new.out) _
     (vector_on side (primitive_column now col n)) (IsUnder cone marks)
     (one_here c.args.sys.now c.args.free.now now c.args.from p cone fixed left marks at
-    (subst (λ w. w ≤ 256) c.n-n.ensures.value c.n-n.ensures.narrow) col c.in-Some.ensures.some
+    (subst (λ w. w ≤ most_columns) c.n-n.ensures.value c.n-n.ensures.narrow) col c.in-Some.ensures.some
     side c.in-Some-shown_side.ensures.some)
     (subst (λ t. AppendsPart (g.S.Sink.written c.args.out.now) (g.S.Sink.written c.row.new.out) t) text c.in-Err.ensures.text.part)

@@ -1,0 +1,67 @@
+-- The main theorem: what `lrs` answers, and what it has then read and written.
+use Rattle.std.specs.Prelude.{◌≡◌, ◌⊎◌, ◌+◌, ℕ, List, Option}
+use Rattle.std.specs.Io.KnownBytes.{IsAtEnd}
+use Rattle.command_line.specs.declared.lines.Line.TheVariants.{Convert}
+use Rattle.command_line.specs.Lines.{IsAccepted, IsLine}
+use Rattle.poly_io.specs.Causes.{Rose}
+use Rattle.poly_io.specs.Taken.{TakesAtMost}
+use Rattle.poly_model.specs.declared.overflow.Overflow.{Overflow as Passed}
+use Rattle.poly_reader.specs.Limits.{most_file_bytes}
+use Rattle.poly_reader.specs.declared.bad.BadFile.{BadFile as Fault}
+use Rattle.lrs_cli.specs.declared.status.Status.{Status}
+use Rattle.lrs_cli.specs.declared.status.Status.TheVariants.{Done, Usage, BadFile, Infeasible, Overflow, ReadFault, WriteFault, OutOfMemory}
+use Rattle.lrs_cli.specs.Answers.{Told, Knows, IsListed, IsPartlyListed, IsFeasibleFile, IsInfeasibleFile, IsOverflow, IsBadFile, HasNoObstacle, StopsListing, WritesNothing, Ends}
+
+-- the input and the output at a moment: the bytes that are left and that were written, where they are told, and how
+-- often a read and a write has failed
+pub record Streams : Type 0 where
+  pub left : Option (List ℕ)
+  pub read_faults : ℕ
+  pub written : Option (List ℕ)
+  pub write_faults : ℕ
+
+abbrev pub streams : Option (List ℕ) → ℕ → Option (List ℕ) → ℕ → Streams
+streams left read_faults written write_faults = record {
+  left = left;
+  read_faults = read_faults;
+  written = written;
+  write_faults = write_faults;
+}
+
+-- The answer of `convert`. `Unwritten` says that the output is as it was.
+pub record AnswersConvert (before after : Streams) (Unwritten : Type 0) (answer : Status) : Type 0 where
+  -- done: the input was read to its end. Its text describes a polyhedron that has a point, and a listing of it was
+  -- written, of so many rows and lines
+  pub done : (rows lines : ℕ) → answer ≡ Done rows lines →
+      IsAtEnd after.left × Told before.left (IsListed before.written after.written rows lines)
+  -- infeasible: the polyhedron has no point
+  pub infeasible : answer ≡ Infeasible → Told before.left IsInfeasibleFile
+  -- overflow: a product that a pivot needs passes, at a dictionary of its cone
+  pub overflow : (o : Passed) → answer ≡ Overflow o → Told before.left (IsOverflow o)
+  -- an overflow, a write fault: what was written is the beginning of a listing. It is none, or the polyhedron has a point
+  pub stopped : StopsListing answer → Told before.left (IsPartlyListed before.written after.written)
+  pub printed : StopsListing answer → Unwritten ⊎ Told before.left IsFeasibleFile
+  -- bad file: the text describes no polyhedron, and that is its first fault
+  pub bad_file : (f : Fault) → answer ≡ BadFile f → Told before.left (IsBadFile f)
+  -- read fault, write fault: a read, a write failed; with every other answer none has
+  pub read_fault : answer ≡ ReadFault → Rose before.read_faults after.read_faults
+  pub reads : ¬ (answer ≡ ReadFault) → after.read_faults ≡ before.read_faults
+  pub write_fault : answer ≡ WriteFault → Rose before.write_faults after.write_faults
+  pub writes : ¬ (answer ≡ WriteFault) → after.write_faults ≡ before.write_faults
+  -- nothing was written but for done, an overflow, a write fault
+  pub unwritten : WritesNothing answer → Unwritten
+  -- of a text that describes a polyhedron without a product that passes, where nothing fails: done, infeasible, or want
+  -- of memory
+  pub complete : Knows before.left HasNoObstacle → ¬ (Rose before.read_faults after.read_faults) →
+      ¬ (Rose before.write_faults after.write_faults) → Ends answer
+
+-- The answer to some words. `Unread` says that the input is as it was.
+pub record Answers (words : List (List ℕ)) (before after : Streams) (Unread Unwritten : Type 0) (answer : Status) : Type 0 where
+  -- usage: the words are no accepted line. Then nothing was read or written. Only want of memory hides it
+  pub usage : answer ≡ Usage → ¬ (IsAccepted words)
+  pub accepted : ¬ (answer ≡ Usage) → ¬ (answer ≡ OutOfMemory) → IsAccepted words
+  pub unasked : ¬ (IsAccepted words) → Unread × Unwritten
+  -- one command so far
+  pub convert : IsLine words Convert → AnswersConvert before after Unwritten answer
+  -- at most one byte more than a file may have was taken
+  pub taken : TakesAtMost before.left after.left (most_file_bytes + 1)
