@@ -90,7 +90,8 @@ pub opening_read : (last : ℕ) (kind : Kind) (n k : ℕ) (rows : List FileRow) 
     ≡ Ok (record { kind = other_kind kind; words = body_words (size_line_of k) kind n rows })
 opening_read last kind n zero rows lt =
     let all = title kind ∷ body 2 kind n rows in
-    let first = goes_on H all all (body 2 kind n rows) (title kind) tt refl (title_begins kind) (title_passes kind) (starts all) in
+    let first = goes_on H all all (body 2 kind n rows) (title kind) tt refl (title_begins kind) (title_passes kind)
+    (starts all) in
     begun_at last 2 kind (other_kind kind) n rows all (rw (title_says kind) at first)
 opening_read last kind n (suc k) rows lt =
     let front = linearity (suc k) ∷ body 3 kind n rows in
@@ -103,7 +104,8 @@ opening_read last kind n (suc k) rows lt =
 
 -- ---- the linear rows
 
-body_names : (number : ℕ) (kind : Kind) (n : ℕ) (rows : List FileRow) → names_of (head_of (body number kind n rows)) ≡ []
+body_names : (number : ℕ) (kind : Kind) (n : ℕ) (rows : List FileRow)
+    → names_of (head_of (body number kind n rows)) ≡ []
 body_names number kind n rows =
     at_begin (body number kind n rows) (numbered_lines (number + 1) (size_words n ∷ matrix_lines kind rows))
     (numbered number (codes "begin" ∷ [])) refl refl

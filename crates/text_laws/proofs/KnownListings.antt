@@ -121,7 +121,13 @@ unfolding title_text number_text numbers_text linearity_text size_text head_text
 negative_first = refl
 
 -- a vector with a common divisor loses it
-divided : reading (listing_text V 2 [] ((pos 2 ∷ pos 4 ∷ []) ∷ []))
-    ≡ Ok (record { kind = H; n = 2; rows = record { entries = pos 1 ∷ pos 2 ∷ []; linear = false } ∷ []; text = listing_text V 2 [] ((pos 2 ∷ pos 4 ∷ []) ∷ []) })
-unfolding title_text number_text numbers_text linearity_text size_text head_text entry_text entries_text vector_text row_text end_text digits reading checked_marks lines_from pieces firsts each head_of body_of are_counts line_fault names_on opening_of rows_of width_of type_fault size_of matrix_of late_fault number_of name_fault with_names value_of count_of numbers_in first_fault row_fault row_of rows_from gcd_in gcd_of lcm_of lowest common_den scaled is_wide_row
+doubled : List Vector
+doubled = (pos 2 ∷ pos 4 ∷ []) ∷ []
+
+halved : List FileRow
+halved = record { entries = pos 1 ∷ pos 2 ∷ []; linear = false } ∷ []
+
+divided : reading (listing_text V 2 [] doubled)
+    ≡ Ok (record { kind = H; n = 2; rows = halved; text = listing_text V 2 [] doubled })
+unfolding doubled halved title_text number_text numbers_text linearity_text size_text head_text entry_text entries_text vector_text row_text end_text digits reading checked_marks lines_from pieces firsts each head_of body_of are_counts line_fault names_on opening_of rows_of width_of type_fault size_of matrix_of late_fault number_of name_fault with_names value_of count_of numbers_in first_fault row_fault row_of rows_from gcd_in gcd_of lcm_of lowest common_den scaled is_wide_row
 divided = refl

@@ -26,9 +26,11 @@ has_infinity : (p : Polyhedron) → p.kind ≡ H → Contains (cone_of p).rows (
 unfolding infinity
 has_infinity p e =
     Contains-append_right (file_rows p) (added_row p.kind p.n (file_rows p)) (infinity p.n)
-    (subst (λ (k : Kind). Contains (added_row k p.n (file_rows p)) (infinity p.n)) (sym e) (Contains-first (infinity p.n) []))
+    (subst (λ (k : Kind). Contains (added_row k p.n (file_rows p)) (infinity p.n)) (sym e)
+    (Contains-first (infinity p.n) []))
 
-line_begins : (p : Polyhedron) (kind : Kind) (j : ℕ) (y : Vector) → p.kind ≡ kind → IsLine (cone_of p) j y → BeginsAsLine kind y
+line_begins : (p : Polyhedron) (kind : Kind) (j : ℕ) (y : Vector) → p.kind ≡ kind → IsLine (cone_of p) j y
+    → BeginsAsLine kind y
 unfolding infinity
 line_begins p V j y e h = tt
 line_begins p H j y e h =

@@ -92,7 +92,8 @@ others_ended kind (v ∷ shown) =
     ∙ rw (others_ended kind shown, row_line kind v) refl
 
 rows_ended : (kind : Kind) (lines shown : List Vector) → AllByRecursion (BeginsAsLine kind) lines
-    → flat_map vector_text lines ++ (flat_map (row_text kind) shown ++ end_text) ≡ with_line_feeds (row_lines kind (listed_rows lines shown))
+    → flat_map vector_text lines ++ (flat_map (row_text kind) shown ++ end_text)
+    ≡ with_line_feeds (row_lines kind (listed_rows lines shown))
 rows_ended kind [] shown h = others_ended kind shown
 rows_ended kind (v ∷ lines) shown h =
     append_assoc (vector_text v) (flat_map vector_text lines) (flat_map (row_text kind) shown ++ end_text)
@@ -101,7 +102,8 @@ rows_ended kind (v ∷ lines) shown h =
 in_parts : (f s r f' s' r' : List ℕ) → f ≡ f' → s ≡ s' → r ≡ r' → (f ++ s) ++ r ≡ f' ++ (s' ++ r')
 in_parts f s r f' s' r' a b c = rw (a, b, c) (append_assoc f' s' r')
 
-ended_both : (lines more : List (List ℕ)) → with_line_feeds (lines ++ more) ≡ with_line_feeds lines ++ with_line_feeds more
+ended_both : (lines more : List (List ℕ))
+    → with_line_feeds (lines ++ more) ≡ with_line_feeds lines ++ with_line_feeds more
 ended_both lines more = flat_map-append (λ (line : List ℕ). line ++ 10 ∷ []) lines more
 
 pub listing_ended : (kind : Kind) (n : ℕ) (lines shown : List Vector) → AllByRecursion (BeginsAsLine kind) lines
@@ -114,7 +116,8 @@ listing_ended kind n lines shown h =
     (flat_map vector_text lines ++ (flat_map (row_text kind) shown ++ end_text))
     (with_line_feeds (front_lines kind k)) (with_line_feeds (codes "begin" ∷ size_line n ∷ [])) (with_line_feeds rows)
     (front_ended kind k) (size_ended n) (rows_ended kind lines shown h)
-    ∙ ap (λ (l : List ℕ). with_line_feeds (front_lines kind k) ++ l) (sym (ended_both (codes "begin" ∷ size_line n ∷ []) rows))
+    ∙ ap (λ (l : List ℕ). with_line_feeds (front_lines kind k) ++ l)
+    (sym (ended_both (codes "begin" ∷ size_line n ∷ []) rows))
     ∙ sym (ended_both (front_lines kind k) (codes "begin" ∷ size_line n ∷ rows))
 
 -- ---- each line has its words

@@ -56,7 +56,8 @@ rest_left number (f ∷ row) rest = rest_left number row rest
 -- ---- the rows
 
 pub rows_read : (last number n : ℕ) (kind : Kind) (rows : List FileRow) → AllByRecursion (IsReadRow kind n) rows
-    → rows_from last (other_kind kind) n (map (λ (row : FileRow). row.linear) rows) (matrix_words number kind rows) ≡ Ok rows
+    → rows_from last (other_kind kind) n (map (λ (row : FileRow). row.linear) rows) (matrix_words number kind rows)
+    ≡ Ok rows
 unfolding rows_from
 rows_read last number n kind [] h = refl
 rows_read last number n kind (row ∷ rows) h =
@@ -73,7 +74,8 @@ rows_read last number n kind (row ∷ rows) h =
 
 row_counted : (last n count number : ℕ) (row : List Fraction) (rest : List Word) → AllByRecursion IsPrintable row
     → count + length row ≤ most_file_rows * n
-    → matrix_of last None n count (numbered number (words_of row) ++ rest) ≡ matrix_of last None n (count + length row) rest
+    → matrix_of last None n count (numbered number (words_of row) ++ rest)
+    ≡ matrix_of last None n (count + length row) rest
 row_counted last n count number [] rest h le =
     ap (λ (c : ℕ). matrix_of last None n c rest) (by count)
   where
@@ -83,7 +85,8 @@ row_counted last n count number (f ∷ row) rest h le =
     let w : Word = record { text = number_word f; line = number } in
     let words = numbered number (words_of row) ++ rest in
     let below : (count == most_file_rows * n) ≡ false = ne_eqb count (most_file_rows * n) (λ e. omega arith) in
-    sym (one_number last None n count w (w ∷ words) words refl (number_word_not_end f h.0) below (rw (number_read f h.0) refl))
+    sym (one_number last None n count w (w ∷ words) words refl (number_word_not_end f h.0) below
+    (rw (number_read f h.0) refl))
     ∙ row_counted last n (count + 1) number row rest h.1 (omega arith)
     ∙ ap (λ (c : ℕ). matrix_of last None n c rest) (by count (length row))
   where

@@ -23,7 +23,8 @@ number_words i k = map decimal (range_with_len i k)
 
 -- ---- the words name the rows
 
-pub names_read : (line i k : ℕ) → i + k < 2 ^ 127 → map (name_at line) (numbered line (number_words i k)) ≡ row_names line i k
+pub names_read : (line i k : ℕ) → i + k < 2 ^ 127
+    → map (name_at line) (numbered line (number_words i k)) ≡ row_names line i k
 names_read line i zero lt = refl
 names_read line i (suc k) lt = rw ((decimal_is i (omega arith)).value, names_read line (i + 1) k (omega arith)) refl
 
@@ -63,23 +64,28 @@ not_named_behind line i (suc k) row le =
 -- ---- their marks
 
 marks_of_others : (f : ℕ → Bool) (i : ℕ) (shown : List Vector) → ((row : ℕ) → i ≤ row → f row ≡ false)
-    → map f (range_with_len i (length (map nonlinear_row shown))) ≡ map (λ (row : FileRow). row.linear) (map nonlinear_row shown)
+    → map f (range_with_len i (length (map nonlinear_row shown)))
+    ≡ map (λ (row : FileRow). row.linear) (map nonlinear_row shown)
 marks_of_others f i [] h = refl
 marks_of_others f i (v ∷ shown) h =
     rw (h i (omega arith), marks_of_others f (i + 1) shown (λ row le. h row (omega arith))) refl
 
 marks_of_rows : (f : ℕ → Bool) (i : ℕ) (lines shown : List Vector)
-    → ((row : ℕ) → i ≤ row → row < i + length lines → f row ≡ true) → ((row : ℕ) → i + length lines ≤ row → f row ≡ false)
-    → map f (range_with_len i (length (listed_rows lines shown))) ≡ map (λ (row : FileRow). row.linear) (listed_rows lines shown)
+    → ((row : ℕ) → i ≤ row → row < i + length lines → f row ≡ true)
+    → ((row : ℕ) → i + length lines ≤ row → f row ≡ false)
+    → map f (range_with_len i (length (listed_rows lines shown)))
+    ≡ map (λ (row : FileRow). row.linear) (listed_rows lines shown)
 marks_of_rows f i [] shown h k = marks_of_others f i shown (λ row le. k row (omega arith))
 marks_of_rows f i (v ∷ lines) shown h k =
     rw (
       h i (omega arith) (omega arith),
-      marks_of_rows f (i + 1) lines shown (λ row le lt. h row (omega arith) (omega arith)) (λ row le. k row (omega arith)),
+      marks_of_rows f (i + 1) lines shown (λ row le lt. h row (omega arith) (omega arith))
+          (λ row le. k row (omega arith)),
     ) refl
 
 pub marks_read : (m line : ℕ) (lines shown : List Vector) → m ≡ length (listed_rows lines shown) → length lines ≤ m
-    → checked_marks m (row_names line 1 (length lines)) ≡ Ok (map (λ (row : FileRow). row.linear) (listed_rows lines shown))
+    → checked_marks m (row_names line 1 (length lines))
+    ≡ Ok (map (λ (row : FileRow). row.linear) (listed_rows lines shown))
 unfolding checked_marks
 marks_read m line lines shown e le =
     let k = length lines in

@@ -89,7 +89,10 @@ numerator_read p (suc (suc q)) lt =
 denominator_behind : (p q : ℕ) → p < 2 ^ 127 → q < 2 ^ 127 → denominator_of (decimal p ++ 47 ∷ decimal q) ≡ Some q
 denominator_behind p q lt below =
     let h = decimal_is p lt in
-    rw (any_behind (decimal p) (47 ∷ decimal q) (no_slash (decimal p) h.digits), after_slash (decimal p) (decimal q) h.digits)
+    rw (
+      any_behind (decimal p) (47 ∷ decimal q) (no_slash (decimal p) h.digits),
+      after_slash (decimal p) (decimal q) h.digits,
+    )
     (count_of_is q (decimal q) (decimal_is q below))
 
 denominator_read : (p q : ℕ) → p < 2 ^ 127 → q < 2 ^ 127 → denominator_of (sizes_text p q) ≡ Some q
@@ -115,7 +118,8 @@ no_sign (b ∷ text) more some h =
     let minus : (b == 45) ≡ false = ne_eqb b 45 (λ e. omega (arith, w.0)) in
     (minus, rw (plus, minus) refl)
 
-number_from_parts : (negative : Bool) (p q : ℕ) (text : List ℕ) → is_negative text ≡ negative → unsigned text ≡ sizes_text p q
+number_from_parts : (negative : Bool) (p q : ℕ) (text : List ℕ) → is_negative text ≡ negative
+    → unsigned text ≡ sizes_text p q
     → p < 2 ^ 127 → 0 < q → q < 2 ^ 127 → number_of text ≡ Ok (lowest (signed negative p) (pos q))
 unfolding number_of
 number_from_parts negative p q text sign rest lt some below =
@@ -150,7 +154,12 @@ plain_byte : (b : ℕ) → is_number_byte b ≡ true → is_plain b ≡ true
 plain_byte b h =
     let k = and_parts (nat_le 45 b) (nat_le b 57) h in
     let low = leb-true 45 b k.0 in
-    rw (ne_eqb b 32 (λ e. omega arith), ne_eqb b 9 (λ e. omega arith), ne_eqb b 13 (λ e. omega arith), ne_eqb b 10 (λ e. omega arith)) refl
+    rw (
+      ne_eqb b 32 (λ e. omega arith),
+      ne_eqb b 9 (λ e. omega arith),
+      ne_eqb b 13 (λ e. omega arith),
+      ne_eqb b 10 (λ e. omega arith),
+    ) refl
 
 decimal_bytes : (n : ℕ) → n < 2 ^ 127 → list_all is_number_byte (decimal n) ≡ true
 decimal_bytes n lt = all_weaker is_digit is_number_byte from_digit (decimal n) (decimal_is n lt).digits

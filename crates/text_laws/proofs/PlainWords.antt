@@ -63,13 +63,15 @@ pieces_from_word : (word : List ℕ) (words : List (List ℕ)) → IsPlainWord w
     → pieces (word ++ spaced words) ≡ word ∷ words
 unfolding pieces
 pieces_from_word word words h k =
-    ap (λ (l : List (List ℕ)). filter is_nonempty l) (split_words word words h.bytes k) ∙ kept_words (word ∷ words) (h, k)
+    ap (λ (l : List (List ℕ)). filter is_nonempty l) (split_words word words h.bytes k)
+    ∙ kept_words (word ∷ words) (h, k)
 
 pieces_spaced : (words : List (List ℕ)) → AllByRecursion IsPlainWord words → pieces (spaced words) ≡ words
 unfolding pieces
 pieces_spaced [] h = refl
 pieces_spaced (word ∷ words) h =
-    ap (λ (l : List (List ℕ)). filter is_nonempty l) (split_words word words h.0.bytes h.1) ∙ kept_words (word ∷ words) h
+    ap (λ (l : List (List ℕ)). filter is_nonempty l) (split_words word words h.0.bytes h.1)
+    ∙ kept_words (word ∷ words) h
 
 inside_spaced : (words : List (List ℕ)) → AllByRecursion IsPlainWord words → list_all is_inside (spaced words) ≡ true
 inside_spaced [] h = refl
@@ -128,7 +130,8 @@ split_first : (line rest : List ℕ) → list_all is_inside line ≡ true
     → slice_split is_newline ((line ++ 10 ∷ []) ++ rest) ≡ line ∷ slice_split is_newline rest
 split_first line rest h =
     ap (λ (l : List ℕ). slice_split is_newline l) (append_assoc line (10 ∷ []) rest)
-    ∙ slice_split_at is_newline line 10 rest (All-from_recursion (λ (b : ℕ). is_newline b ≡ false) line (no_newlines line h)) refl
+    ∙ slice_split_at is_newline line 10 rest
+    (All-from_recursion (λ (b : ℕ). is_newline b ≡ false) line (no_newlines line h)) refl
 
 pub lines_are : (number : ℕ) (words : List (List (List ℕ))) (lines : List (List ℕ)) → HaveWords words lines
     → lines_from number (slice_split is_newline (with_line_feeds lines)) ≡ numbered_lines number words

@@ -54,7 +54,8 @@ entries_spaced (y ∷ ys) =
     rw (append-nil (signed_decimal y))
     (ap (λ (l : List ℕ). (32 ∷ signed_decimal y) ++ l) (entries_spaced ys))
 
-coordinates_spaced : (first : ℤ) (ys : Vector) → coordinates_text first ys ≡ spaced (words_of (coordinate_fractions first ys))
+coordinates_spaced : (first : ℤ) (ys : Vector)
+    → coordinates_text first ys ≡ spaced (words_of (coordinate_fractions first ys))
 unfolding coordinates_text fraction_text entry_text
 coordinates_spaced first [] = refl
 coordinates_spaced first (y ∷ ys) =
@@ -109,7 +110,8 @@ coordinates_printable first [] lt k h = tt
 coordinates_printable first (y ∷ ys) lt k h =
     (lowest_printable y first lt h.0 k, coordinates_printable first ys lt k h.1)
 
-pub row_printable : (kind : Kind) (v : Vector) → AllByRecursion IsNum v → AllByRecursion IsPrintable (row_fractions kind v)
+pub row_printable : (kind : Kind) (v : Vector) → AllByRecursion IsNum v
+    → AllByRecursion IsPrintable (row_fractions kind v)
 unfolding is_point
 row_printable V v h = wholes_printable v h
 row_printable H [] h = tt

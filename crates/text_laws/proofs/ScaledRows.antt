@@ -52,7 +52,8 @@ both_times a b c d [] (x ∷ u) v r h k = absurd h
 both_times a b c d (f ∷ row) [] v r h k = absurd h
 both_times a b c d (f ∷ row) (x ∷ u) [] r h k = absurd k
 both_times a b c d (f ∷ row) (x ∷ u) (y ∷ v) r h k =
-    let first = one_factor (pos a) (pos b) (pos c) (pos d) x y f.num f.den (positive_nonzero f.den r.0.positive) h.0 k.0 in
+    let first = one_factor (pos a) (pos b) (pos c) (pos d) x y f.num f.den
+    (positive_nonzero f.den r.0.positive) h.0 k.0 in
     let others = both_times a b c d row u v r.1 h.1 k.1 in
     cc
 
@@ -88,7 +89,8 @@ scaled_back : (c d : ℕ) (row : List Fraction) (v : Vector) → 0 < c → 0 < d
 scaled_back c d row v lc ld r h small =
     let s = scaled_direction row r in
     let (a, b, la, lb, t) = s.multiple in
-    same_smallest (b * c) (d * a) (scaled row) v (product_positive b c lb lc) (product_positive d a ld la) s.smallest small
+    same_smallest (b * c) (d * a) (scaled row) v (product_positive b c lb lc)
+    (product_positive d a ld la) s.smallest small
     (both_times a b c d row (scaled row) v r t h)
 
 -- ---- a row is the multiple of its fractions by its first entry, or by 1
@@ -103,7 +105,8 @@ wholes_times (y ∷ ys) = (by y, wholes_times ys)
 coordinates_times : (n : ℕ) (ys : Vector) → 0 < n → IsTimes n 1 (coordinate_fractions (pos n) ys) ys
 coordinates_times n [] lt = tt
 coordinates_times n (y ∷ ys) lt = (
-  by y (lowest y (pos n)).num (lowest y (pos n)).den (lowest_ratio y (pos n) (positive_nonzero (pos n) (omega (arith, lin)))),
+  by y (lowest y (pos n)).num (lowest y (pos n)).den
+      (lowest_ratio y (pos n) (positive_nonzero (pos n) (omega (arith, lin)))),
   coordinates_times n ys lt,
 )
   where
@@ -161,7 +164,8 @@ row_scaled V v p h small = wholes_scaled v p h small
 row_scaled H [] p h small = wholes_scaled [] p h small
 row_scaled H (pos zero ∷ ys) p h small = wholes_scaled (pos zero ∷ ys) p h small
 row_scaled H (pos (suc n) ∷ ys) p h small =
-    scaled_to (suc n) (suc n) (whole (pos 1) ∷ coordinate_fractions (pos (suc n)) ys) (pos (suc n) ∷ ys) (omega arith) (omega arith) h.0
+    scaled_to (suc n) (suc n) (whole (pos 1) ∷ coordinate_fractions (pos (suc n)) ys) (pos (suc n) ∷ ys) (omega arith)
+    (omega arith) h.0
     (reduced_from_printable (whole (pos 1) ∷ coordinate_fractions (pos (suc n)) ys) p)
     (first_times (suc n), coordinates_times (suc n) ys (omega arith))
     (one-dvd (suc n), coordinates_multiple (suc n) ys) h small

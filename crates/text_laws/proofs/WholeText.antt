@@ -54,7 +54,8 @@ reading_is text kind n m rows h =
 -- ---- the rows of a listing
 
 lines_are_read : (kind : Kind) (n : ℕ) (lines : List Vector) (rows : List FileRow) → AllByRecursion (IsSmallest n) lines
-    → AllByRecursion (AllByRecursion IsNum) lines → AllByRecursion (BeginsAsLine kind) lines → AllByRecursion (IsReadRow kind n) rows
+    → AllByRecursion (AllByRecursion IsNum) lines → AllByRecursion (BeginsAsLine kind) lines
+    → AllByRecursion (IsReadRow kind n) rows
     → AllByRecursion (IsReadRow kind n) (map linear_row lines ++ rows)
 lines_are_read kind n [] rows h k l more = more
 lines_are_read kind n (v ∷ lines) rows h k l more =
@@ -90,7 +91,8 @@ rows_are_read_back kind n lines shown w r =
       marks = map (λ (row : FileRow). row.linear) rows;
       short = rw (le-ltb most_file_bytes (length text) w.bytes) refl;
       opening = rw these (opening_read (last_line text) kind n k rows (omega (arith, w.rows)));
-      size = size_read (last_line text) (size_line_of k) n (matrix_words (size_line_of k + 1) kind rows) w.some_columns w.columns;
+      size = size_read (last_line text) (size_line_of k) n
+          (matrix_words (size_line_of k + 1) kind rows) w.some_columns w.columns;
       counted = rw from_zero at counted_from;
       quotient = mul-div_cancel m w.some_columns;
       checked =

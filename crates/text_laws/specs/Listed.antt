@@ -28,7 +28,7 @@ nonlinear_row v = record { entries = v; linear = false }
 abbrev pub listed_rows : List Vector → List Vector → List FileRow
 listed_rows lines shown = map linear_row lines ++ map nonlinear_row shown
 
--- the polyhedron of the listing of an input file of this kind: of the other kind, with the vectors as they stand
+-- what the listing of an input file of this kind is read as: a file of the other kind, with the vectors as they stand
 abbrev pub listed_polyhedron : Kind → ℕ → List Vector → List Vector → Polyhedron
 listed_polyhedron kind n lines shown = record {
   kind = other_kind kind;
@@ -39,12 +39,13 @@ listed_polyhedron kind n lines shown = record {
 
 -- ---- what a file may hold
 
--- a row, or at least one where the listing is a V file, that of an H file
+-- so many rows are enough: the listing of an H file is a V file, and that has a row
 abbrev pub HasEnough : Kind → ℕ → Type 0
 HasEnough H m = 0 < m
 HasEnough V m = Unit {0}
 
--- the listing of an input file of this kind is within the limits of a file, and each number within 127 bits and a sign
+-- the listing of an input file of this kind has no more columns, rows and bytes than a file may have, and no number
+-- of more than 127 bits and a sign
 pub record IsWithinLimits (kind : Kind) (n : ℕ) (lines shown : List Vector) : Type 0 where
   pub some_columns : 0 < n
   pub columns : n ≤ most_columns
@@ -70,7 +71,7 @@ abbrev pub BeginsAsRow : Kind → Vector → Type 0
 BeginsAsRow H v = pos 0 ≤ℤ at 0 v
 BeginsAsRow V v = Unit {0}
 
--- the vectors can be the rows of a file
+-- the lines and the shown vectors can be the rows of a file
 pub record AreRows (kind : Kind) (n : ℕ) (lines shown : List Vector) : Type 0 where
   pub enough : HasEnough kind (length lines + length shown)
   pub line_sizes : AllByRecursion (IsSmallest n) lines
