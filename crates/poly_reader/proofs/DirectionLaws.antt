@@ -18,7 +18,7 @@ use Rattle.poly_reader.specs.Laws.{IsTimes, IsDirectionOf, AreReduced}
 use Rattle.poly_reader.proofs.Multiples.{dvd_from_coprime, dvd-lcm_left, dvd-lcm_right, lcm-dvd, lcm_at_least}
 
 -- n is a multiple of each denominator
-abbrev IsMultipleOfEach : ℕ → List Fraction → Type 0
+abbrev pub IsMultipleOfEach : ℕ → List Fraction → Type 0
 IsMultipleOfEach n row = AllByRecursion (λ (f : Fraction). size_of_den f ∣ n) row
 
 den_positive : (f : Fraction) → IsReduced f → 0 < size_of_den f
@@ -55,6 +55,11 @@ den_from-dvd : (q m : ℕ) (row : List Fraction) → AreReduced row → q ∣ m 
 den_from-dvd q m [] h k l = k
 den_from-dvd q m (f ∷ row) h k l =
     den_from-dvd (lcm_of q (size_of_den f)) m row h.1 (lcm-dvd q (size_of_den f) m (den_positive f h.0) k l.0) l.1
+
+-- the least common denominator divides each multiple of the denominators
+pub common_den-dvd : (m : ℕ) (row : List Fraction) → AreReduced row → IsMultipleOfEach m row → common_den row ∣ m
+unfolding common_den
+common_den-dvd m row h l = den_from-dvd 1 m row h (one-dvd m) l
 
 -- ---- each entry is a positive multiple of its fraction
 

@@ -1,0 +1,13 @@
+pub mod Decimals
+pub mod PlainWords
+pub mod NumberTexts
+pub mod PrintedRows
+pub mod ScaledRows
+pub mod ReadRows
+pub mod MatrixRead
+pub mod NamedRows
+pub mod ListingLines
+pub mod HeadRead
+pub mod WholeText
+pub mod ListedRows
+pub mod KnownListings
