@@ -190,14 +190,16 @@ module _ (p : Polyhedron) (few : length (cone_of p).rows < 8192) (d : Dictionary
           (subst (λ ks. Contains ks i) (sym (main_labels p.kind p fixed)) (subst (λ ks. Contains ks i) is.labels c))
           (cond-true (is_row i) (not (row_of rows i).linear) true r ∙ not_from_false (row_of rows i).linear e)
 
-      pub row_stays : (k : ℕ) → Contains d.key k → is_row k ≡ true → (row_of rows k).linear ≡ false → Contains main_key k
+      pub row_stays : (k : ℕ) → Contains d.key k → is_row k ≡ true → (row_of rows k).linear ≡ false →
+          Contains main_key k
       row_stays k c r e =
           filter_kept (stays p free) d.key k c
           (cond-true (is_row k) (not (row_of rows k).linear) (not (is_member (k - 8192) free)) r
           ∙ not_from_false (row_of rows k).linear e)
 
       -- a coordinate stays where its column is not free
-      pub coordinate_stays : (k : ℕ) → Contains d.key k → 8192 ≤ k → (Contains free (k - 8192) → ⊥) → Contains main_key k
+      pub coordinate_stays : (k : ℕ) → Contains d.key k → 8192 ≤ k → (Contains free (k - 8192) → ⊥) →
+          Contains main_key k
       coordinate_stays k c high n =
           filter_kept (stays p free) d.key k c
           (cond-false (is_row k) (not (row_of rows k).linear) (not (is_member (k - 8192) free)) (le-ltb k 8192 high)

@@ -7,6 +7,7 @@ use Rattle.linearity.proofs.lines.lines_of.Given as goal
 abbrev pub invariant-labels : goal.invariant-labels
 invariant-labels l =
     record {
-      value : l.lines.items ≡ map (λ k. primitive_column l.at k l.n) (coordinates_in (take l.label-index l.label-items));
+      value : l.lines.items
+          ≡ map (λ k. primitive_column l.at k l.n) (coordinates_in (take l.label-index l.label-items));
       few : length l.lines.items ≤ l.label-index;
     }
