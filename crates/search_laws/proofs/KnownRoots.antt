@@ -145,4 +145,5 @@ root_is_given = record {
 
 -- and no other
 only_root : (other : List ℕ) → GivesByPhaseOne half_line start other → 2 ∷ [] ≡ other
-only_root other g = given_one half_line start (no_row_zero third) (rows_are_distinct third) (2 ∷ []) other root_is_given g
+only_root other g =
+    given_one half_line start (no_row_zero third) (rows_are_distinct third) (2 ∷ []) other root_is_given g
