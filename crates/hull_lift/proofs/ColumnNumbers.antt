@@ -14,7 +14,7 @@ use Rattle.dictionary_laws.proofs.Values.{terms, value_along}
 use Rattle.dictionary_laws.proofs.Filters.{member_only}
 use Rattle.dictionary.specs.Views.{Dictionary, IsDictionaryIn, table_of}
 use Rattle.hull_lift.specs.Facets.{constant_label, number_in, infinity_in, coordinate_in}
-use Rattle.hull_lift.specs.Laws.{IsAlong, IsAtPoint}
+use Rattle.hull_lift.specs.Laws.{IsAlong, IsZeroOnCobasis}
 
 -- the form of coordinate j: that of its label, or that at infinity where it has none
 abbrev pub form_of_coordinate : Space → ℕ → Vector
@@ -43,27 +43,34 @@ module _ (space : Space) (d : Dictionary) (is : IsDictionaryIn space d) where
       (j : ℕ) → Has col y x j
   by_label col y x h k j =
       let i = coordinate_label j in
-      let all = either (is_member i space.labels) d.denominator x (space.form i) space.infinity y (number_in d col i) (infinity_in d col)
+      let all = either (is_member i space.labels) d.denominator x (space.form i) space.infinity y
+      (number_in d col i) (infinity_in d col)
       (λ e. h i (member_only i space.labels e)) (λ e. k) in
-      subst (λ ks. d.denominator *ℤ (form_of_coordinate space j · y) ≡ (if is_member i ks then number_in d col i else infinity_in d col) *ℤ x)
+      subst (λ ks. d.denominator *ℤ (form_of_coordinate space j · y)
+      ≡ (if is_member i ks then number_in d col i else infinity_in d col) *ℤ x)
       (sym is.labels) all
 
   pub along : (col : ℕ) → Contains d.key col → col ≢ constant_label → (z : Vector) → IsAlong space d col z →
       (j : ℕ) → Has col z (space.form col · z) j
   along col c n z a =
       let entry : (i : ℕ) → number_in d col i ≡ Table.entry (table_of d) i col =
-      λ i. cond-false (col == constant_label) (Table.constant (table_of d) i) (Table.entry (table_of d) i col) (ne_eqb col constant_label n) in
-      let none : infinity_in d col ≡ pos 0 = cond-false (col == constant_label) d.denominator (pos 0) (ne_eqb col constant_label n) in
+      λ i. cond-false (col == constant_label) (Table.constant (table_of d) i) (Table.entry (table_of d) i col)
+      (ne_eqb col constant_label n) in
+      let none : infinity_in d col ≡ pos 0 =
+      cond-false (col == constant_label) d.denominator (pos 0) (ne_eqb col constant_label n) in
       by_label col z (space.form col · z)
-      (λ i l. value_along space d.key is.dictionary.cobasis (table_of d) is.dictionary.writes i l col c z a.direction a.others
+      (λ i l. value_along space d.key is.dictionary.cobasis (table_of d) is.dictionary.writes i l col
+      c z a.direction a.others
       ∙ ap (λ t. t *ℤ (space.form col · z)) (sym (entry i)))
       (times_zero d.denominator (space.infinity · z) a.direction.level
       ∙ sym (zero_times (infinity_in d col) (space.form col · z) none))
 
-  pub at_point : (y : Vector) → IsAtPoint space d y → (j : ℕ) → Has constant_label y (space.infinity · y) j
+  pub at_point : (y : Vector) → IsZeroOnCobasis space d y → (j : ℕ) → Has constant_label y (space.infinity · y) j
   at_point y a =
       by_label constant_label y (space.infinity · y)
-      (λ i l. no_sum (d.denominator *ℤ (space.form i · y)) (Table.constant (table_of d) i *ℤ (space.infinity · y)) (sum_over d.key (terms space (table_of d) i y))
+      (λ i l. no_sum (d.denominator *ℤ (space.form i · y)) (Table.constant (table_of d) i *ℤ (space.infinity · y))
+      (sum_over d.key (terms space (table_of d) i y))
       (is.dictionary.writes.values i l y a.inside)
-      (sum_zero d.key (terms space (table_of d) i y) (λ k c. times_zero (Table.entry (table_of d) i k) (space.form k · y) (a.zero k c))))
+      (sum_zero d.key (terms space (table_of d) i y)
+      (λ k c. times_zero (Table.entry (table_of d) i k) (space.form k · y) (a.zero k c))))
       refl

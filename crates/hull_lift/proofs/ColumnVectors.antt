@@ -25,7 +25,8 @@ scaled f e x a (y ∷ v) h =
     cc
 
 module _ (p : Polyhedron) (space : Space) (d : Dictionary) (is : IsDictionaryIn space d) where
-  in_column : (col : ℕ) (y : Vector) (x : ℤ) → IsOver p space y → ((j : ℕ) → Has space d is col y x j) → IsInColumn p space d col y x
+  in_column : (col : ℕ) (y : Vector) (x : ℤ) → IsOver p space y → ((j : ℕ) → Has space d is col y x j) →
+      IsInColumn p space d col y x
   in_column col y x over has = record {
     vector = over.vector;
     width = over.width;
@@ -41,6 +42,8 @@ module _ (p : Polyhedron) (space : Space) (d : Dictionary) (is : IsDictionaryIn 
 
 pub column_vectors : ColumnVectors
 column_vectors p phase space n of d is = record {
-  ray = λ col c m z a. in_column p space d is col z (space.form col · z) (over_phase p phase space n of z a.direction.inside) (along space d is col c m z a);
-  point = λ y a. in_column p space d is constant_label y (space.infinity · y) (over_phase p phase space n of y a.inside) (at_point space d is y a);
+  ray = λ col c m z a. in_column p space d is col z (space.form col · z)
+      (over_phase p phase space n of z a.direction.inside) (along space d is col c m z a);
+  point = λ y a. in_column p space d is constant_label y (space.infinity · y)
+      (over_phase p phase space n of y a.inside) (at_point space d is y a);
 }

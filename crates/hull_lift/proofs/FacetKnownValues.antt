@@ -9,7 +9,7 @@ use Rattle.poly_model.specs.declared.kind.Kind.TheVariants.{V}
 use Rattle.poly_model.specs.declared.overflow.Phase.TheVariants.{Cone, Main}
 use Rattle.poly_model.specs.Systems.{System}
 use Rattle.dictionary.specs.Views.{Dictionary}
-use Rattle.hull_lift.specs.Facets.{constant_label, column_of, IsTouchedAt, IsShownAt}
+use Rattle.hull_lift.specs.Facets.{constant_label, column_of, IsTouchedAt, IsShownColumn}
 
 -- ---- the H file
 
@@ -67,7 +67,7 @@ facets = record {
 facet : column_of facets 2 2 ≡ pos 0 ∷ pos 1 ∷ []
 facet = refl
 
-is_facet : IsShownAt half_line facets 2
+is_facet : IsShownColumn half_line facets 2
 is_facet = (1, record { from_one = omega arith; within = omega arith; point = refl; zero = refl })
 
 -- 1 >= 0, which only the ray touches
@@ -80,5 +80,5 @@ untouched (suc zero) t = let e = t.zero in omega (arith, ints, e)
 untouched (suc (suc zero)) t = let e : false ≡ true = t.point in cc
 untouched (suc (suc (suc i))) t = let l = t.within in omega arith
 
-is_no_facet : IsShownAt half_line facets 1 → ⊥
+is_no_facet : IsShownColumn half_line facets 1 → ⊥
 is_no_facet (i, t) = untouched i t

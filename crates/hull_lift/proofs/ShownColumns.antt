@@ -38,14 +38,16 @@ module _ (p : Polyhedron) (space : Space) (d : Dictionary) (is : IsDictionaryIn 
     (c : IsInColumn p space d col z (space.form col · z)) where
   -- the value of a row's label at z is that of the row at the vector
   row_value : (i : ℕ) → Contains d.labels i → i ≤ length (cone_of p).rows →
-      d.denominator *ℤ ((row_of (cone_of p).rows i).entries · c.vector) ≡ Table.entry (table_of d) i col *ℤ (space.form col · z)
+      d.denominator *ℤ ((row_of (cone_of p).rows i).entries · c.vector)
+      ≡ Table.entry (table_of d) i col *ℤ (space.form col · z)
   row_value i l w =
       let label : Contains space.labels i = subst (λ ks. Contains ks i) is.labels l in
       let row : is_row i ≡ true = lt-ltb i 8192 (omega arith) in
       let form : label_form (cone_of p).rows i ≡ (row_of (cone_of p).rows i).entries =
       cond-true (is_row i) (row_of (cone_of p).rows i).entries (coordinate (i - 8192)) row in
       ap (λ t. d.denominator *ℤ t) (ap (λ (g : Vector). g · c.vector) (sym form) ∙ sym (c.values i label))
-      ∙ value_along space d.key is.dictionary.cobasis (table_of d) is.dictionary.writes i label col in_key z a.direction a.others
+      ∙ value_along space d.key is.dictionary.cobasis (table_of d) is.dictionary.writes i label col
+      in_key z a.direction a.others
 
   there : HasPointRows (cone_of p) d → (i : ℕ) × IsTouchedAt (cone_of p) d col i → TouchesPoint (cone_of p) c.vector
   there points (i, t) =
@@ -76,7 +78,8 @@ module _ (p : Polyhedron) (space : Space) (d : Dictionary) (is : IsDictionaryIn 
           from_one = omega arith;
           within = within;
           point = point;
-          zero = zero_back d.denominator _ (Table.entry (table_of d) i col) (space.form col · z) n (row_value i label within)
+          zero = zero_back d.denominator _ (Table.entry (table_of d) i col) (space.form col · z) n
+              (row_value i label within)
               (ap (λ (r : Row). r.entries · c.vector) same ∙ t.tight);
         },
       )

@@ -30,15 +30,17 @@ pub record IsOver (p : Polyhedron) (space : Space) (y : Vector) : Type 0 where
 -- ---- labels
 
 -- coordinate j is a label, from the first on
-coordinate_is_label : (m first n j : ℕ) → first ≤ j → j < n → Contains (labels_of m first n) (coordinate_label j)
+pub coordinate_is_label : (m first n j : ℕ) → first ≤ j → j < n → Contains (labels_of m first n) (coordinate_label j)
 coordinate_is_label m first n j l h =
-    Contains-append_right (range_with_len 1 m) (map coordinate_label (range_with_len first (n - first))) (coordinate_label j)
+    Contains-append_right (range_with_len 1 m) (map coordinate_label (range_with_len first (n - first)))
+    (coordinate_label j)
     (map_has coordinate_label (range_with_len first (n - first)) j (range_has first (n - first) j l (omega arith)))
 
 -- it is left, since it is no row
 coordinate_is_left : (rows : List Row) (j : ℕ) → is_left rows (coordinate_label j) ≡ true
 coordinate_is_left rows j =
-    cond-false (is_row (coordinate_label j)) (not (row_of rows (coordinate_label j)).linear) true (le-ltb (coordinate_label j) 8192 (omega arith))
+    cond-false (is_row (coordinate_label j)) (not (row_of rows (coordinate_label j)).linear) true
+    (le-ltb (coordinate_label j) 8192 (omega arith))
 
 -- a label that is a row has the number of one
 row_number : (m first n k : ℕ) → Contains (labels_of m first n) k → is_row k ≡ true → (1 ≤ k) × (k < 1 + m)
@@ -53,7 +55,7 @@ row_number m first n k c e =
     (Contains-append_cases (range_with_len 1 m) (map coordinate_label (range_with_len first (n - first))) k c)
 
 -- the rows of the file stand in the cone too
-same_form : (p : Polyhedron) (first n k : ℕ) → Contains (labels_of (length (file_rows p)) first n) k →
+pub same_form : (p : Polyhedron) (first n k : ℕ) → Contains (labels_of (length (file_rows p)) first n) k →
     label_form (file_rows p) k ≡ label_form (cone_of p).rows k
 same_form p first n k c =
     ⊎_elim
@@ -90,18 +92,22 @@ module _ (p : Polyhedron) (fixed : List Vector) (labels : List ℕ) where
   abbrev directions : Space
   directions = with_labels (without_constants p.n fixed (cone_of p).rows) labels
 
-  not_there : (P : Type 0) (j : ℕ) → Contains labels (coordinate_label j) → is_member (coordinate_label j) labels ≡ false → P
+  not_there : (P : Type 0) (j : ℕ) → Contains labels (coordinate_label j) →
+      is_member (coordinate_label j) labels ≡ false → P
   not_there P j c e = absurd (let h = member_has (coordinate_label j) labels c in cc)
 
   vectors_form : HasFrom 1 p.n labels → (j : ℕ) → j < p.n → form_of_coordinate vectors j ≡ coordinate j
   vectors_form has zero l =
-      cond_both (is_member (coordinate_label 0) labels) (label_form (file_rows p) (coordinate_label 0)) (coordinate 0) (λ g. g ≡ coordinate 0)
+      cond_both (is_member (coordinate_label 0) labels) (label_form (file_rows p) (coordinate_label 0))
+      (coordinate 0) (λ g. g ≡ coordinate 0)
       (λ e. coordinate_form (file_rows p) 0) (λ e. refl)
   vectors_form has (suc j) l =
-      cond_both (is_member (coordinate_label (suc j)) labels) (label_form (file_rows p) (coordinate_label (suc j))) (coordinate 0) (λ g. g ≡ coordinate (suc j))
+      cond_both (is_member (coordinate_label (suc j)) labels) (label_form (file_rows p) (coordinate_label (suc j)))
+      (coordinate 0) (λ g. g ≡ coordinate (suc j))
       (λ e. coordinate_form (file_rows p) (suc j)) (not_there _ (suc j) (has (suc j) (omega arith) l))
 
-  over_vectors : HasFrom 1 p.n labels → ((k : ℕ) → Contains labels k → Contains (labels_of (length (file_rows p)) 1 p.n) k) →
+  over_vectors : HasFrom 1 p.n labels →
+      ((k : ℕ) → Contains labels k → Contains (labels_of (length (file_rows p)) 1 p.n) k) →
       (y : Vector) → IsInside vectors y → IsOver p vectors y
   over_vectors has old y i = record {
     vector = y;
@@ -112,7 +118,8 @@ module _ (p : Polyhedron) (fixed : List Vector) (labels : List ℕ) where
 
   directions_form : HasFrom 0 p.n labels → (j : ℕ) → j < p.n → form_of_coordinate directions j ≡ in_front (coordinate j)
   directions_form has j l =
-      cond_both (is_member (coordinate_label j) labels) (in_front (label_form (cone_of p).rows (coordinate_label j))) (coordinate 0) (λ g. g ≡ in_front (coordinate j))
+      cond_both (is_member (coordinate_label j) labels) (in_front (label_form (cone_of p).rows (coordinate_label j)))
+      (coordinate 0) (λ g. g ≡ in_front (coordinate j))
       (λ e. ap in_front (coordinate_form (cone_of p).rows j)) (not_there _ j (has j (omega arith) l))
 
   over_directions : HasFrom 0 p.n labels → (y : Vector) → IsInside directions y → IsOver p directions y
@@ -121,28 +128,34 @@ module _ (p : Polyhedron) (fixed : List Vector) (labels : List ℕ) where
     vector = v;
     width = let w = i.width in omega arith;
     values = λ k c. with_front (label_form (cone_of p).rows k) x v;
-    coordinates = λ j l. ap (λ (g : Vector). g · (x ∷ v)) (directions_form has j l) ∙ with_front (coordinate j) x v ∙ coordinate_reads j v;
+    coordinates = λ j l. ap (λ (g : Vector). g · (x ∷ v)) (directions_form has j l) ∙ with_front (coordinate j) x v
+        ∙ coordinate_reads j v;
   }
 
-over_cut : (kind : Kind) (p : Polyhedron) (fixed : List Vector) (labels : List ℕ) → HasFrom (first_coordinate kind) p.n labels →
+over_cut : (kind : Kind) (p : Polyhedron) (fixed : List Vector) (labels : List ℕ) →
+    HasFrom (first_coordinate kind) p.n labels →
     ((k : ℕ) → Contains labels k → Contains (cut_space kind p fixed).labels k) →
-    (y : Vector) → IsInside (with_labels (cut_space kind p fixed) labels) y → IsOver p (with_labels (cut_space kind p fixed) labels) y
+    (y : Vector) → IsInside (with_labels (cut_space kind p fixed) labels) y →
+    IsOver p (with_labels (cut_space kind p fixed) labels) y
 over_cut H p fixed labels has old = over_vectors p fixed labels has old
 over_cut V p fixed labels has old = over_directions p fixed labels has
 
-has_coordinates : (kind : Kind) (p : Polyhedron) (fixed : List Vector) → HasFrom (first_coordinate kind) p.n (cut_space kind p fixed).labels
+has_coordinates : (kind : Kind) (p : Polyhedron) (fixed : List Vector) →
+    HasFrom (first_coordinate kind) p.n (cut_space kind p fixed).labels
 has_coordinates H p fixed = coordinate_is_label (length (file_rows p)) 1 p.n
 has_coordinates V p fixed = coordinate_is_label (length (cone_of p).rows) 0 p.n
 
 -- ---- the phases
 
-over_main : (p : Polyhedron) (free : List ℕ) (y : Vector) → IsInside (main_space p free) y → IsOver p (main_space p free) y
+over_main : (p : Polyhedron) (free : List ℕ) (y : Vector) → IsInside (main_space p free) y →
+    IsOver p (main_space p free) y
 over_main p free =
     let fixed = map coordinate free ++ linear_rows (file_rows p) in
     let labels = (cut_space p.kind p fixed).labels in
     let left = is_left (cone_of p).rows in
     over_cut p.kind p fixed (filter left labels)
-    (λ j l h. filter_kept left labels (coordinate_label j) (has_coordinates p.kind p fixed j l h) (coordinate_is_left (cone_of p).rows j))
+    (λ j l h. filter_kept left labels (coordinate_label j) (has_coordinates p.kind p fixed j l h)
+    (coordinate_is_left (cone_of p).rows j))
     (λ k c. (filter_only left labels k c).0)
 
 pub over_phase : (p : Polyhedron) (phase : Phase) (space : Space) → phase ≢ First → IsSpaceOf p phase space →

@@ -2,6 +2,7 @@
 use Rattle.std.specs.Prelude.{◌≡◌, ◌⊎◌, ℕ, ◌<◌, ◌≤◌, ◌==◌, true, if◌then◌else◌, ℤ, pos, map, length}
 use Rattle.std.specs.List.{Contains, range_with_len}
 use Rattle.poly_num.specs.Vectors.{Vector}
+use Rattle.poly_num.specs.Divisors.{quotients, gcd_of_all}
 use Rattle.poly_model.specs.declared.kind.Kind.{Kind}
 use Rattle.poly_model.specs.declared.kind.Kind.TheVariants.{H, V}
 use Rattle.poly_model.specs.Systems.{System, row_of}
@@ -35,6 +36,10 @@ coordinate_in d col j =
 abbrev pub column_of : Dictionary → ℕ → ℕ → Vector
 column_of d col n = map (coordinate_in d col) (range_with_len 0 n)
 
+-- the same without common divisor
+abbrev pub primitive_column : Dictionary → ℕ → ℕ → Vector
+primitive_column d col n = quotients (column_of d col n) (pos (gcd_of_all (column_of d col n)))
+
 -- each point row has its number as a label of the dictionary
 abbrev pub HasPointRows : System → Dictionary → Type 0
 HasPointRows sys d =
@@ -52,5 +57,5 @@ abbrev pub IsShownAs : Kind → System → Dictionary → ℕ → Type 0
 IsShownAs H sys d col = Unit {0}
 IsShownAs V sys d col = (i : ℕ) × IsTouchedAt sys d col i
 
-abbrev pub IsShownAt : System → Dictionary → ℕ → Type 0
-IsShownAt sys d col = IsShownAs sys.kind sys d col
+abbrev pub IsShownColumn : System → Dictionary → ℕ → Type 0
+IsShownColumn sys d col = IsShownAs sys.kind sys d col

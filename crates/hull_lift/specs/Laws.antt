@@ -9,7 +9,7 @@ use Rattle.poly_model.specs.Systems.{Polyhedron, cone_of}
 use Rattle.poly_model.specs.Spaces.{Space, IsInside, IsDirection, IsSpaceOf, label_form}
 use Rattle.poly_model.specs.Extreme.{IsShown}
 use Rattle.dictionary.specs.Views.{Dictionary, IsDictionaryIn}
-use Rattle.hull_lift.specs.Facets.{constant_label, column_of, HasPointRows, IsShownAt}
+use Rattle.hull_lift.specs.Facets.{constant_label, column_of, HasPointRows, IsShownColumn}
 
 -- z is a direction at which all labels of the cobasis but col are 0
 pub record IsAlong (space : Space) (d : Dictionary) (col : ℕ) (z : Vector) : Type 0 where
@@ -17,7 +17,7 @@ pub record IsAlong (space : Space) (d : Dictionary) (col : ℕ) (z : Vector) : T
   pub others : (k : ℕ) → Contains d.key k → k ≢ col → space.form k · z ≡ pos 0
 
 -- y is a vector of the space at which all labels of the cobasis are 0
-pub record IsAtPoint (space : Space) (d : Dictionary) (y : Vector) : Type 0 where
+pub record IsZeroOnCobasis (space : Space) (d : Dictionary) (y : Vector) : Type 0 where
   pub inside : IsInside space y
   pub zero : (k : ℕ) → Contains d.key k → space.form k · y ≡ pos 0
 
@@ -34,7 +34,7 @@ pub record IsInColumn (p : Polyhedron) (space : Space) (d : Dictionary) (col : �
 pub record HasColumns (p : Polyhedron) (space : Space) (d : Dictionary) : Type 0 where
   pub ray : (col : ℕ) → Contains d.key col → col ≢ constant_label → (z : Vector) → IsAlong space d col z →
       IsInColumn p space d col z (space.form col · z)
-  pub point : (y : Vector) → IsAtPoint space d y → IsInColumn p space d constant_label y (space.infinity · y)
+  pub point : (y : Vector) → IsZeroOnCobasis space d y → IsInColumn p space d constant_label y (space.infinity · y)
 
 -- so it is in all phases but that which has one unknown more
 abbrev pub ColumnVectors : Type 0
@@ -49,4 +49,4 @@ ShownColumns =
     length (cone_of p).rows < 8192 → (p.kind ≡ V → HasPointRows (cone_of p) d) →
     (col : ℕ) → Contains d.key col → (z : Vector) → IsAlong space d col z → space.form col · z ≢ pos 0 →
     (c : IsInColumn p space d col z (space.form col · z)) →
-    IsShownAt (cone_of p) d col ↔ IsShown p.kind (cone_of p) c.vector
+    IsShownColumn (cone_of p) d col ↔ IsShown p.kind (cone_of p) c.vector

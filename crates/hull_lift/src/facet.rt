@@ -1,10 +1,10 @@
 //! The vectors of the columns of a dictionary, and which of them are shown.
 ghost use Rattle.std.specs.Prelude.{◌≡◌, ◌<◌, ◌≤◌, ◌↔◌, pos, length, IsTrue};
 ghost use Rattle.std.specs.List.{Contains};
-ghost use Rattle.poly_num.specs.Divisors.{MakesPrimitive, quotients, gcd_of_all};
+ghost use Rattle.poly_num.specs.Divisors.{MakesPrimitive};
 ghost use Rattle.poly_model.specs.Limits.{most_columns};
 ghost use Rattle.poly_model.specs.declared.kind.Kind.TheVariants.{V};
-ghost use Rattle.hull_lift.specs.Facets.{IsColumn, number_in, infinity_in, coordinate_in, column_of, HasPointRows, IsTouchedAt, IsShownAs, IsShownAt};
+ghost use Rattle.hull_lift.specs.Facets.{IsColumn, number_in, infinity_in, coordinate_in, column_of, primitive_column, HasPointRows, IsTouchedAt, IsShownAs, IsShownColumn};
 
 use dictionary::Dict;
 use poly_model::{Kind, Label, System};
@@ -19,7 +19,7 @@ use poly_num::{Num, primitive};
 pub fn facet_row(dict: &Dict, col: Label, out: &mut [Num])
     requires column { IsColumn dict.now col.0 }
     requires narrow { length out.old ≤ most_columns }
-    ensures value { out.new ≡ quotients (column_of dict.now col.0 (length out.old)) (pos (gcd_of_all (column_of dict.now col.0 (length out.old)))) }
+    ensures value { out.new ≡ primitive_column dict.now col.0 (length out.old) }
     ensures primitive { MakesPrimitive (column_of dict.now col.0 (length out.old)) out.new }
 {
     write_column(dict, col, out);
@@ -80,7 +80,7 @@ fn infinity_in(dict: &Dict, col: Label) -> Num
 pub fn is_shown(sys: &System, dict: &Dict, col: Label) -> bool
     requires column { sys.now.kind ≡ V → Contains dict.now.key col.0 }
     requires points { sys.now.kind ≡ V → HasPointRows sys.now dict.now }
-    ensures { IsTrue result ↔ IsShownAt sys.now dict.now col.0 }
+    ensures { IsTrue result ↔ IsShownColumn sys.now dict.now col.0 }
 {
     match sys.kind() {
         Kind::H => true,

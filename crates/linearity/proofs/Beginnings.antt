@@ -56,7 +56,8 @@ row_count_within true m = omega arith
 row_count_within false m = omega arith
 
 module _ (sys : System) (phase : Phase) (d : Dictionary) (p : Polyhedron) (early : (phase ≡ Cone) ⊎ (phase ≡ Prepare))
-    (file : sys ≡ cone_of p) (some : 0 < p.n) (narrow : p.n ≤ most_columns) (few : length sys.rows < 8192) (new : IsNew sys phase d) where
+    (file : sys ≡ cone_of p) (some : 0 < p.n) (narrow : p.n ≤ most_columns) (few : length sys.rows < 8192)
+    (new : IsNew sys phase d) where
   in_space : (space : Space) → IsSpaceOf p phase space → HasPoints space → IsDictionaryOf p d
   in_space space is points = record {
     few = subst (λ (s : System). length s.rows < 8192) file few;

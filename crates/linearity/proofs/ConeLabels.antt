@@ -1,22 +1,21 @@
 -- The labels of the phases Cone and Prepare: which rows and coordinates of the cone have one, and directions of the
 -- space at which they have the values that their forms have at a vector over the cone's coordinates.
-use Rattle.std.proofs.Common.{◌≡◌, ◌⊎◌, inl, inr, ⊎_elim, ℕ, suc, ◌+◌, ◌-◌, ◌<◌, ◌≤◌, true, false, List, [], ◌∷◌, pos, map, length, get_or, length-append, refl, sym, ap, subst, ◌∙◌, arith}
+use Rattle.std.proofs.Common.{◌≡◌, ◌⊎◌, inl, inr, ⊎_elim, ℕ, suc, ◌+◌, ◌-◌, ◌<◌, ◌≤◌, false, List, [], ◌∷◌, pos, map, length, get_or, length-append, refl, sym, ap, subst, ◌∙◌, arith}
 use Rattle.std.specs.List.{Contains, range_with_len}
-use Rattle.std.proofs.lemmas.Bool.{cases_lt, cases_Bool, cond-true, cond-false, ltb-true}
+use Rattle.std.proofs.lemmas.Bool.{cases_lt}
 use Rattle.std.proofs.lemmas.List.{get_or-append-add}
-use Rattle.std.proofs.lemmas.List.Elements.{Contains-append_left, Contains-append_right, Contains-append_cases}
+use Rattle.std.proofs.lemmas.List.Elements.{Contains-append_left, Contains-append_cases}
 use Rattle.poly_num.specs.Vectors.{Vector, ◌·◌}
 use Rattle.poly_model.specs.declared.kind.Kind.{Kind}
 use Rattle.poly_model.specs.declared.kind.Kind.TheVariants.{H, V}
 use Rattle.poly_model.specs.declared.overflow.Phase.{Phase}
 use Rattle.poly_model.specs.declared.overflow.Phase.TheVariants.{Cone, Prepare}
 use Rattle.poly_model.specs.Systems.{Row, no_row, row_of, first_unit, Polyhedron, file_rows, added_row, cone_of}
-use Rattle.poly_model.specs.Cones.{at, coordinate}
-use Rattle.poly_model.specs.Spaces.{Space, IsDirection, IsSpaceOf, coordinate_label, is_row, label_form, labels_of, with_constants, cut_space, cone_space, prepare_space}
+use Rattle.poly_model.specs.Cones.{at}
+use Rattle.poly_model.specs.Spaces.{Space, IsDirection, IsSpaceOf, coordinate_label, label_form, labels_of, with_constants, cut_space, cone_space, prepare_space}
 use Rattle.linear_laws.proofs.Entries.{coordinate_reads}
-use Rattle.dictionary_laws.proofs.Filters.{range_only, range_has, map_only, map_has}
-use Rattle.dictionary.proofs.ConeRows.{row_in_cone}
-use Rattle.hull_lift.proofs.SpaceVectors.{with_front}
+use Rattle.dictionary_laws.proofs.Filters.{range_only, range_has, map_only}
+use Rattle.hull_lift.proofs.SpaceVectors.{coordinate_is_label, same_form, with_front}
 
 -- coordinate 0 is no label: constants are read off the vectors there
 abbrev pub HasNoFirst : List ℕ → Type 0
@@ -53,12 +52,6 @@ has_row m first n i l h =
     Contains-append_left (range_with_len 1 m) (map coordinate_label (range_with_len first (n - first))) i
     (range_has 1 m i l (omega arith))
 
-has_coordinate : (m first n j : ℕ) → first ≤ j → j < n → Contains (labels_of m first n) (coordinate_label j)
-has_coordinate m first n j l h =
-    Contains-append_right (range_with_len 1 m) (map coordinate_label (range_with_len first (n - first)))
-    (coordinate_label j)
-    (map_has coordinate_label (range_with_len first (n - first)) j (range_has first (n - first) j l (omega arith)))
-
 -- a label is that of a row or of a coordinate
 label_cases : (m first n k : ℕ) → Contains (labels_of m first n) k →
     ((1 ≤ k) × (k ≤ m)) ⊎ ((8192 + first ≤ k) × (k < 8192 + n))
@@ -94,8 +87,8 @@ over_cone p few =
     record {
       labels = record {
         each_row = λ i l h. inl (has_row m 0 p.n i l h);
-        each_coordinate = λ j h. inl (has_coordinate m 0 p.n j (omega arith) h);
-        at_infinity = λ none some. absurd (none (has_coordinate m 0 p.n 0 (omega arith) some));
+        each_coordinate = λ j h. inl (coordinate_is_label m 0 p.n j (omega arith) h);
+        at_infinity = λ none some. absurd (none (coordinate_is_label m 0 p.n 0 (omega arith) some));
         rows_only = row_among m 0 p.n;
         below = λ k. label_below m 0 p.n k few;
       };
@@ -135,22 +128,6 @@ module _ (p : Polyhedron) (kind : p.kind ≡ H) (few : length (cone_of p).rows <
       (λ (r : (8192 + 1 ≤ coordinate_label 0) × (coordinate_label 0 < 8192 + p.n)). let l = r.0 in omega arith)
       (label_cases q 1 p.n (coordinate_label 0) c)
 
-  -- a label has the form that it has in the cone
-  form_in_cone : (k : ℕ) → Contains (labels_of q 1 p.n) k → label_form (file_rows p) k ≡ label_form (cone_of p).rows k
-  form_in_cone k c =
-      ⊎_elim
-      (λ (e : is_row k ≡ true).
-      let r = row_among q 1 p.n k c (ltb-true k 8192 e) in
-      let l = r.0 in
-      let h = r.1 in
-      cond-true (is_row k) (row_of (file_rows p) k).entries (coordinate (k - 8192)) e
-      ∙ ap (λ (row : Row). row.entries) (sym (row_in_cone p k l (omega arith)))
-      ∙ sym (cond-true (is_row k) (row_of (cone_of p).rows k).entries (coordinate (k - 8192)) e))
-      (λ (e : is_row k ≡ false).
-      cond-false (is_row k) (row_of (file_rows p) k).entries (coordinate (k - 8192)) e
-      ∙ sym (cond-false (is_row k) (row_of (cone_of p).rows k).entries (coordinate (k - 8192)) e))
-      (cases_Bool (is_row k))
-
   over_file : IsOverCone p (with_constants p.n [] (file_rows p))
   over_file = record {
     labels = record {
@@ -160,7 +137,7 @@ module _ (p : Polyhedron) (kind : p.kind ≡ H) (few : length (cone_of p).rows <
           (cases_lt i (q + 1));
       each_coordinate = λ j h. ⊎_elim
           (λ (r : j < 1). inr (omega arith, no_first))
-          (λ (r : 1 ≤ j). inl (has_coordinate q 1 p.n j r h))
+          (λ (r : 1 ≤ j). inl (coordinate_is_label q 1 p.n j r h))
           (cases_lt j 1);
       at_infinity = λ none some. (q + 1, omega arith, omega (arith, one_more), last_row (q + 1) (omega arith));
       rows_only = λ k c h.
@@ -173,7 +150,7 @@ module _ (p : Polyhedron) (kind : p.kind ≡ H) (few : length (cone_of p).rows <
         inside = record { width = l; fixed = tt };
         level = coordinate_reads 0 w ∙ level no_first;
       };
-      values = λ k c. ap (λ (g : Vector). g · w) (form_in_cone k c);
+      values = λ k c. ap (λ (g : Vector). g · w) (same_form p 1 p.n k c);
     };
   }
 

@@ -45,7 +45,7 @@ pub record ReadsCone (p : Polyhedron) (d : Dictionary) : Type 0 where
       ≡ sum_over d.key (λ k. Table.entry (table_of d) i k *ℤ (label_form (cone_of p).rows k · w))
 
 -- x times the value is the entry times x
-value_by_factor : (x e v a c : ℤ) → x ≢ pos 0 → e *ℤ v ≡ x *ℤ a → e *ℤ v ≡ c *ℤ x → a ≡ c
+pub value_by_factor : (x e v a c : ℤ) → x ≢ pos 0 → e *ℤ v ≡ x *ℤ a → e *ℤ v ≡ c *ℤ x → a ≡ c
 value_by_factor x e v a c n h k = cancel x a c n (sym h ∙ k ∙ mul_comm c x)
 
 module _ (p : Polyhedron) (d : Dictionary) (is : IsDictionaryOf p d) where

@@ -38,7 +38,8 @@ module _ (p : Polyhedron) where
   module _ (i k : ℕ) (d : Dictionary) (o : Overflow) (of : IsDictionaryOf p d) (phase : d.phase ≡ Prepare)
       (over : OverflowsFor d i k o) where
     -- the pivot of a row that enters, where all rows that have entered are such
-    due : IsEntering p start i → ((l : ℕ) → Contains d.key l → l < 8192 → IsEntering p start l) → IsDue p o (IsAskedBefore p o)
+    due : IsEntering p start i → ((l : ℕ) → Contains d.key l → l < 8192 → IsEntering p start l) →
+        IsDue p o (IsAskedBefore p o)
     due entering entered =
         let at = overflows_at p d i k o of over.can over.overflow in
         record {
@@ -72,7 +73,8 @@ module _ (p : Polyhedron) where
         due
         (inr (
           point,
-          next_in_start p of.few d is free columns inside point i tried start is_start k over.can.label low e over.column
+          next_in_start p of.few d is free columns inside point i tried start is_start k over.can.label
+              low e over.column
               (least_is_not_free p d of i k over.can.label low over.column),
         ))
         (λ l c few.
@@ -83,7 +85,8 @@ module _ (p : Polyhedron) where
         (cases_Bool (row_of rows l).linear))
 
   -- ---- where a pass has stopped
-  module _ (sys : System) (i : ℕ) (old new : Dictionary) (o : Overflow) (file : sys ≡ cone_of p) (of : IsDictionaryOf p old)
+  module _ (sys : System) (i : ℕ) (old new : Dictionary) (o : Overflow) (file : sys ≡ cone_of p)
+      (of : IsDictionaryOf p old)
       (phase : new.phase ≡ Prepare) where
     pub due_in_first : IsEliminated rows false 1 old → StopsAt sys false i old new o → IsDue p o (IsAskedBefore p o)
     due_in_first untried stops =

@@ -43,7 +43,8 @@ module _ (p : Polyhedron) (d : Dictionary) (is : IsDictionaryOf p d) where
         ∙ w.beyond (k - 8192) (omega arith)
 
     -- the terms of a label that is 0 at the coordinates before j: only that of j can be other than 0
-    term : (i : ℕ) → ((k : ℕ) → Contains d.key k → 8192 ≤ k → k < coordinate_label j → Table.entry (table_of d) i k ≡ pos 0) →
+    term : (i : ℕ) →
+        ((k : ℕ) → Contains d.key k → 8192 ≤ k → k < coordinate_label j → Table.entry (table_of d) i k ≡ pos 0) →
         (k : ℕ) → Contains d.key k → k ≢ coordinate_label j →
         Table.entry (table_of d) i k *ℤ (label_form rows k · w.vector) ≡ pos 0
     term i earlier k c n =
@@ -61,7 +62,8 @@ module _ (p : Polyhedron) (d : Dictionary) (is : IsDictionaryOf p d) where
         (cases_lt k 8192)
 
     -- outside the key, with no coordinate before it at which it is not 0, it would be 0 at the vector
-    not_outside : ((k : ℕ) → Contains d.labels (coordinate_label j) → Contains d.key k → 8192 ≤ k → k < coordinate_label j →
+    not_outside : ((k : ℕ) → Contains d.labels (coordinate_label j) → Contains d.key k → 8192 ≤ k →
+        k < coordinate_label j →
         Table.entry (table_of d) (coordinate_label j) k ≡ pos 0) → (Contains d.key (coordinate_label j) → ⊥) → ⊥
     not_outside earlier out =
         w.here (⊎_elim

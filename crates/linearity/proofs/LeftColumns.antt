@@ -12,12 +12,13 @@ use Rattle.poly_model.specs.Dictionaries.{Table}
 use Rattle.poly_model.specs.FreeColumns.{IsFree}
 use Rattle.linear_laws.proofs.Entries.{within_from_entry}
 use Rattle.linear_laws.proofs.Tails.{length-take}
+use Rattle.cone_laws.proofs.FeasibleLemmas.{first_unit_reads}
 use Rattle.dictionary_laws.proofs.Members.{contains_or}
 use Rattle.dictionary.specs.Views.{Dictionary, table_of}
 use Rattle.hull_lift.specs.Facets.{column_of}
 use Rattle.linearity.specs.Elimination.{IsDictionaryOf, IsEliminated}
 use Rattle.linearity.proofs.ConeLabels.{HasNoFirst}
-use Rattle.linearity.proofs.RowValues.{past_end, first_unit_reads, combined, row_form, coordinate_value, tight_rows}
+use Rattle.linearity.proofs.RowValues.{past_end, combined, row_form, coordinate_value, tight_rows}
 use Rattle.linearity.proofs.ConeReadings.{ReadsCone, cone_readings}
 use Rattle.linearity.proofs.FreeLabels.{free_in_key}
 

@@ -16,8 +16,8 @@ use Rattle.linear_laws.proofs.Entries.{at-scale, at-zero}
 use Rattle.linear_laws.proofs.Members.{Contains-first, Contains-later}
 use Rattle.dictionary_laws.proofs.Filters.{filter_only}
 use Rattle.dictionary.specs.Views.{Dictionary}
-use Rattle.hull_lift.specs.Facets.{column_of}
-use Rattle.linearity.specs.Columns.{is_coordinate, coordinates_in, columns_in, primitive_column, coordinate_vectors}
+use Rattle.hull_lift.specs.Facets.{column_of, primitive_column}
+use Rattle.linearity.specs.Columns.{is_coordinate, coordinates_in, columns_in, coordinate_vectors}
 use Rattle.linearity.specs.Elimination.{IsDictionaryOf, IsEliminated}
 use Rattle.linearity.specs.Laws.{EliminationLeavesLines}
 use Rattle.linearity.proofs.ConeReadings.{cone_readings}
@@ -39,7 +39,7 @@ module _ (p : Polyhedron) (d : Dictionary) (is : IsDictionaryOf p d)
     z = column_of d (coordinate_label j) p.n
 
     abbrev y : Vector
-    y = primitive_column d p.n (coordinate_label j)
+    y = primitive_column d (coordinate_label j) p.n
 
     positive : pos 0 <ℤ d.denominator
     positive = (cone_readings p d is).positive
@@ -83,11 +83,11 @@ module _ (p : Polyhedron) (d : Dictionary) (is : IsDictionaryOf p d)
   }
 
   free_lines : AreLinesOf (cone_of p) (columns_in d.key) (coordinate_vectors d p.n)
-  free_lines = lines_of p (primitive_column d p.n) (coordinates_in d.key) (λ k c.
+  free_lines = lines_of p (λ k. primitive_column d k p.n) (coordinates_in d.key) (λ k c.
       let h = filter_only is_coordinate d.key k c in
       let l = coordinate_only k h.1 in
       let label : coordinate_label (k - 8192) ≡ k = omega arith in
-      subst (λ i. IsLine (cone_of p) (k - 8192) (primitive_column d p.n i)) label
+      subst (λ i. IsLine (cone_of p) (k - 8192) (primitive_column d i p.n)) label
       (line_from_left (k - 8192) (subst (Contains d.key) (sym label) h.0)))
 
 pub elimination_leaves_lines : EliminationLeavesLines

@@ -49,7 +49,8 @@ row_label m j n k c e =
     let g = (coordinate_keys j n).coordinates k d in let l = ltb-true k 8192 e in absurd (omega arith))
     (Contains-append_cases (range_with_len 1 m) (coordinate_key j n) k c)
 
-cut_labels_ascend : (kind : Kind) (p : Polyhedron) → length (cone_of p).rows < 8192 → IsAscending (cut_space kind p []).labels
+cut_labels_ascend : (kind : Kind) (p : Polyhedron) → length (cone_of p).rows < 8192 →
+    IsAscending (cut_space kind p []).labels
 cut_labels_ascend H p few =
     labels_ascend (length (file_rows p)) 1 p.n
     (omega (arith, few, length-append (file_rows p) (added_row p.kind p.n (file_rows p))))
@@ -63,7 +64,8 @@ cut_row_label H p k c e =
 cut_row_label V p k c e = row_label (length (cone_of p).rows) 0 p.n k c e
 
 -- the labels of the main space, whichever its kind
-main_labels : (kind : Kind) (p : Polyhedron) (fixed : List Vector) → (cut_space kind p fixed).labels ≡ (cut_space kind p []).labels
+main_labels : (kind : Kind) (p : Polyhedron) (fixed : List Vector) →
+    (cut_space kind p fixed).labels ≡ (cut_space kind p []).labels
 main_labels H p fixed = refl
 main_labels V p fixed = refl
 
@@ -108,11 +110,13 @@ module _ (p : Polyhedron) (few : length (cone_of p).rows < 8192) (d : Dictionary
   row_within i c l =
       let h = (cut_row_label p.kind p i (subst (λ ks. Contains ks i) is.labels c) (lt-ltb i 8192 l)).1 in omega arith
 
-  pub row_is_equation : (i : ℕ) → Contains d.labels i → i < 8192 → (row_of rows i).linear ≡ true → Contains (equation_labels p) i
+  pub row_is_equation : (i : ℕ) → Contains d.labels i → i < 8192 → (row_of rows i).linear ≡ true →
+      Contains (equation_labels p) i
   row_is_equation i c l e = is_equation i (subst (λ ks. Contains ks i) is.labels c) (lt-ltb i 8192 l) e
 
   -- a label of the key that is no equation stands behind every equation
-  behind_equation : (i k : ℕ) → Contains (equation_labels p) i → Contains d.key k → (Contains (equation_labels p) k → ⊥) →
+  behind_equation : (i k : ℕ) → Contains (equation_labels p) i → Contains d.key k →
+      (Contains (equation_labels p) k → ⊥) →
       IsBehind rows i k
   behind_equation i k c m n =
       ⊎_elim
@@ -124,7 +128,8 @@ module _ (p : Polyhedron) (few : length (cone_of p).rows < 8192) (d : Dictionary
       (cases_Bool (is_row k))
 
   -- where the linear rows have been tried, the equations are settled
-  pub equations_settled : ((i : ℕ) → Contains d.labels i → i < 8192 → (row_of rows i).linear ≡ true → IsSettled rows d i) →
+  pub equations_settled : ((i : ℕ) → Contains d.labels i → i < 8192 → (row_of rows i).linear ≡ true →
+      IsSettled rows d i) →
       AreSettled d.key (table_of d) (equation_labels p)
   equations_settled tried i k c m n =
       ⊎_elim
@@ -134,73 +139,79 @@ module _ (p : Polyhedron) (few : length (cone_of p).rows < 8192) (d : Dictionary
       (λ (h : Contains d.key i → ⊥).
       let q = equation_only p i c in
       let l = q.within in
-      tried i (dict_label i (equation_in p few_in_file [] p.kind i q)) (omega (arith, few_in_file)) (linear_equation i c) h k m
+      tried i (dict_label i (equation_in p few_in_file [] p.kind i q)) (omega (arith, few_in_file))
+      (linear_equation i c) h k m
       (behind_equation i k c m n))
       (contains_or d.key i)
 
   -- ---- rows before one of them have been tried, and the free columns are left
   module _ (free : List ℕ) (columns : AreFreeColumns (cone_of p) free)
       (inside : (j : ℕ) → Contains free j → Contains d.key (coordinate_label j))
-      (point : HasPointOn (prepare_space p) (equation_labels p)) (from : ℕ) (tried : IsEliminated rows true from d) where
-    pub can_enter : CanEnterMain p free d.key (table_of d)
-    can_enter = record {
-      columns = columns;
-      free_inside = inside;
-      settled = equations_settled (λ i c l e. tried.settled i c l (inl e));
-      point = point;
-    }
+      (point : HasPointOn (prepare_space p) (equation_labels p)) (from : ℕ) (tried : IsEliminated rows true from d)
+    where
+      pub can_enter : CanEnterMain p free d.key (table_of d)
+      can_enter = record {
+        columns = columns;
+        free_inside = inside;
+        settled = equations_settled (λ i c l e. tried.settled i c l (inl e));
+        point = point;
+      }
 
-    pub enters : EntersMain p free d.key (table_of d)
-    enters = main_dictionary p free d.key (table_of d) few_in_file is.dictionary can_enter
+      pub enters : EntersMain p free d.key (table_of d)
+      enters = main_dictionary p free d.key (table_of d) few_in_file is.dictionary can_enter
 
-    abbrev pub main_key : List ℕ
-    main_key = filter (stays p free) d.key
+      abbrev pub main_key : List ℕ
+      main_key = filter (stays p free) d.key
 
-    abbrev labels : List ℕ
-    labels = (main_space p free).labels
+      abbrev labels : List ℕ
+      labels = (main_space p free).labels
 
-    abbrev fixed : List Vector
-    fixed = map coordinate free ++ equations p
+      abbrev fixed : List Vector
+      fixed = map coordinate free ++ equations p
 
-    pub rows_ascend : IsAscending (filter is_row labels)
-    rows_ascend =
-        ascending_filter is_row labels (ascending_filter (is_left rows) (cut_space p.kind p fixed).labels
-        (subst IsAscending (sym (main_labels p.kind p fixed)) (cut_labels_ascend p.kind p few)))
+      pub rows_ascend : IsAscending (filter is_row labels)
+      rows_ascend =
+          ascending_filter is_row labels (ascending_filter (is_left rows) (cut_space p.kind p fixed).labels
+          (subst IsAscending (sym (main_labels p.kind p fixed)) (cut_labels_ascend p.kind p few)))
 
-    -- a row is left, and stays in the key, where it is not linear
-    left_row : (i : ℕ) → Contains labels i → is_row i ≡ true → Contains (prepare_space p).labels i × ((row_of rows i).linear ≡ false)
-    left_row i c r =
-        let h = filter_only (is_left rows) (cut_space p.kind p fixed).labels i c in (
-          subst (λ ks. Contains ks i) (main_labels p.kind p fixed) h.0,
-          not-true (row_of rows i).linear (sym (cond-true (is_row i) (not (row_of rows i).linear) true r) ∙ h.1),
-        )
+      -- a row is left, and stays in the key, where it is not linear
+      left_row : (i : ℕ) → Contains labels i → is_row i ≡ true →
+          Contains (prepare_space p).labels i × ((row_of rows i).linear ≡ false)
+      left_row i c r =
+          let h = filter_only (is_left rows) (cut_space p.kind p fixed).labels i c in (
+            subst (λ ks. Contains ks i) (main_labels p.kind p fixed) h.0,
+            not-true (row_of rows i).linear (sym (cond-true (is_row i) (not (row_of rows i).linear) true r) ∙ h.1),
+          )
 
-    pub row_is_left : (i : ℕ) → Contains d.labels i → is_row i ≡ true → (row_of rows i).linear ≡ false → Contains labels i
-    row_is_left i c r e =
-        filter_kept (is_left rows) (cut_space p.kind p fixed).labels i
-        (subst (λ ks. Contains ks i) (sym (main_labels p.kind p fixed)) (subst (λ ks. Contains ks i) is.labels c))
-        (cond-true (is_row i) (not (row_of rows i).linear) true r ∙ not_from_false (row_of rows i).linear e)
+      pub row_is_left : (i : ℕ) → Contains d.labels i → is_row i ≡ true → (row_of rows i).linear ≡ false →
+          Contains labels i
+      row_is_left i c r e =
+          filter_kept (is_left rows) (cut_space p.kind p fixed).labels i
+          (subst (λ ks. Contains ks i) (sym (main_labels p.kind p fixed)) (subst (λ ks. Contains ks i) is.labels c))
+          (cond-true (is_row i) (not (row_of rows i).linear) true r ∙ not_from_false (row_of rows i).linear e)
 
-    pub row_stays : (k : ℕ) → Contains d.key k → is_row k ≡ true → (row_of rows k).linear ≡ false → Contains main_key k
-    row_stays k c r e =
-        filter_kept (stays p free) d.key k c
-        (cond-true (is_row k) (not (row_of rows k).linear) (not (is_member (k - 8192) free)) r
-        ∙ not_from_false (row_of rows k).linear e)
+      pub row_stays : (k : ℕ) → Contains d.key k → is_row k ≡ true → (row_of rows k).linear ≡ false →
+          Contains main_key k
+      row_stays k c r e =
+          filter_kept (stays p free) d.key k c
+          (cond-true (is_row k) (not (row_of rows k).linear) (not (is_member (k - 8192) free)) r
+          ∙ not_from_false (row_of rows k).linear e)
 
-    -- a coordinate stays where its column is not free
-    pub coordinate_stays : (k : ℕ) → Contains d.key k → 8192 ≤ k → (Contains free (k - 8192) → ⊥) → Contains main_key k
-    coordinate_stays k c high n =
-        filter_kept (stays p free) d.key k c
-        (cond-false (is_row k) (not (row_of rows k).linear) (not (is_member (k - 8192) free)) (le-ltb k 8192 high)
-        ∙ not_from_false (is_member (k - 8192) free)
-        (false_from_ne_true (is_member (k - 8192) free) (λ e. n (member_only (k - 8192) free e))))
+      -- a coordinate stays where its column is not free
+      pub coordinate_stays : (k : ℕ) → Contains d.key k → 8192 ≤ k → (Contains free (k - 8192) → ⊥) →
+          Contains main_key k
+      coordinate_stays k c high n =
+          filter_kept (stays p free) d.key k c
+          (cond-false (is_row k) (not (row_of rows k).linear) (not (is_member (k - 8192) free)) (le-ltb k 8192 high)
+          ∙ not_from_false (is_member (k - 8192) free)
+          (false_from_ne_true (is_member (k - 8192) free) (λ e. n (member_only (k - 8192) free e))))
 
-    -- a row that has been tried and is outside the key is 0 at the labels behind it
-    pub main_settled : (i : ℕ) → Contains labels i → is_row i ≡ true → i < from → (Contains main_key i → ⊥) →
-        (k : ℕ) → Contains d.key k → IsBehind rows i k → Table.entry (table_of d) i k ≡ pos 0
-    main_settled i c r l n k m behind =
-        let here = left_row i c r in
-        tried.settled i (dict_label i here.0) (ltb-true i 8192 r) (inr l) (λ q. n (row_stays i q r here.1)) k m behind
+      -- a row that has been tried and is outside the key is 0 at the labels behind it
+      pub main_settled : (i : ℕ) → Contains labels i → is_row i ≡ true → i < from → (Contains main_key i → ⊥) →
+          (k : ℕ) → Contains d.key k → IsBehind rows i k → Table.entry (table_of d) i k ≡ pos 0
+      main_settled i c r l n k m behind =
+          let here = left_row i c r in
+          tried.settled i (dict_label i here.0) (ltb-true i 8192 r) (inr l) (λ q. n (row_stays i q r here.1)) k m behind
 
   -- ---- all rows have been tried
   module _ (ascending : IsAscending d.key) (free : AreFreeColumns (cone_of p) (columns_in d.key))

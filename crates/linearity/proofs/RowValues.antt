@@ -1,19 +1,19 @@
--- Values at a vector over the coordinates of a cone: of the row at infinity, of the forms of labels, of all rows; and
--- how a vector at which a row is 0 combines the row's entries.
-use Rattle.std.proofs.Common.{◌≡◌, ℕ, zero, suc, ◌-◌, ◌<◌, ◌≤◌, ℤ, pos, ◌*ℤ◌, neg_ℤ, List, [], ◌∷◌, map, length, take, replicate, refl, sym, ap, subst, ◌∙◌, arith}
+-- Values at a vector over the coordinates of a cone: of the forms of labels, of all rows; and how a vector at which a
+-- row is 0 combines the row's entries.
+use Rattle.std.proofs.Common.{◌≡◌, ℕ, zero, suc, ◌-◌, ◌<◌, ◌≤◌, ℤ, pos, ◌*ℤ◌, neg_ℤ, List, [], ◌∷◌, map, length, take, refl, sym, ap, subst, ◌∙◌, arith}
 use Rattle.std.specs.List.{All}
-use Rattle.std.proofs.lemmas.Int.{ints}
 use Rattle.std.proofs.lemmas.Bool.{cond-true, lt-ltb}
 use Rattle.std.proofs.lemmas.List.{get_or_default}
 use Rattle.poly_num.specs.Vectors.{Vector, ◌·◌}
-use Rattle.poly_num.proofs.Ring.{lin, zero_mul}
+use Rattle.poly_num.proofs.Ring.{lin}
 use Rattle.poly_num.proofs.VectorLemmas.{dot_comm, dot-neg}
-use Rattle.poly_model.specs.Systems.{no_row, row_of, first_unit, Polyhedron, cone_of}
+use Rattle.poly_model.specs.Systems.{no_row, row_of, Polyhedron, cone_of}
 use Rattle.poly_model.proofs.RowLemmas.{row_from_one}
 use Rattle.poly_model.specs.Cones.{at, coordinate, IsTight}
 use Rattle.poly_model.specs.Spaces.{coordinate_label, is_row, label_form}
 use Rattle.linear_laws.proofs.Entries.{coordinate_reads}
 use Rattle.linear_laws.proofs.Tails.{dot_to_entry}
+use Rattle.cone_laws.proofs.FeasibleLemmas.{first_unit_reads}
 use Rattle.dictionary_laws.proofs.CoordinateSpaces.{coordinate_form}
 use Rattle.linearity.proofs.ConeLabels.{HasConeLabels, IsLevel}
 
@@ -24,16 +24,6 @@ past_end zero [] l = refl
 past_end (suc i) [] l = refl
 past_end zero (x ∷ v) l = absurd (omega arith)
 past_end (suc i) (x ∷ v) l = past_end i v (omega arith)
-
-zeros_at : (m : ℕ) (w : Vector) → replicate m (pos 0) · w ≡ pos 0
-zeros_at zero w = refl
-zeros_at (suc m) [] = refl
-zeros_at (suc m) (x ∷ w) = omega (arith, lin, zero_mul x, zeros_at m w)
-
--- the row at infinity reads the first entry
-pub first_unit_reads : (n : ℕ) (w : Vector) → first_unit n · w ≡ at 0 w
-first_unit_reads n [] = refl
-first_unit_reads n (x ∷ w) = omega (arith, ints, zeros_at (n - 1) w)
 
 -- a row that is 0 at a vector, which is D at entry j and 0 beyond: the earlier entries, turned, combine D times its own
 pub combined : (j : ℕ) (D : ℤ) (z g : Vector) → j < length z → at j z ≡ D → ((i : ℕ) → j < i → at i z ≡ pos 0) →

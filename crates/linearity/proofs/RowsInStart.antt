@@ -23,7 +23,8 @@ use Rattle.linearity.proofs.MainStart.{key_in_labels, enters, main_key, rows_asc
 module _ (p : Polyhedron) (few : length (cone_of p).rows < 8192) (d : Dictionary)
     (is : IsDictionaryIn (prepare_space p) d) (free : List ℕ) (columns : AreFreeColumns (cone_of p) free)
     (inside : (j : ℕ) → Contains free j → Contains d.key (coordinate_label j))
-    (point : HasPointOn (prepare_space p) (equation_labels p)) (from : ℕ) (tried : IsEliminated (cone_of p).rows true from d)
+    (point : HasPointOn (prepare_space p) (equation_labels p)) (from : ℕ)
+    (tried : IsEliminated (cone_of p).rows true from d)
     (start : List ℕ) (is_start : IsStartCobasis (main_space p free) start) where
   abbrev rows : List Row
   rows = (cone_of p).rows
@@ -40,8 +41,8 @@ module _ (p : Polyhedron) (few : length (cone_of p).rows < 8192) (d : Dictionary
   writes : Writes space key (table_of d)
   writes = (enters p few d is free columns inside point from tried).writes
 
-  -- where the rows before i are to have been tried and c is a label of the key behind each of them, they are 0 at its dual
-  -- direction
+  -- where the rows before i are to have been tried and c is a label of the key behind each of them, they are 0 at its
+  -- dual direction
   zero_before : (i c : ℕ) → i ≤ from → Contains d.key c → Contains key c →
       ((j : ℕ) → is_row j ≡ true → j < i → IsBehind rows j c × (j ≢ c)) → (w : Dual space [] key c) →
       (j : ℕ) → Contains space.labels j → is_row j ≡ true → j < i → space.form j · w.vector ≡ pos 0
@@ -52,7 +53,8 @@ module _ (p : Polyhedron) (few : length (cone_of p).rows < 8192) (d : Dictionary
       zero_factor d.denominator (space.form j · w.vector)
       (value_at space key cobasis (table_of d) writes j label c m w
       ∙ zero_times (Table.entry (table_of d) j c) (space.form c · w.vector)
-      (main_settled p few d is free columns inside point from tried j label r (omega arith) q c old (before j r less).0))
+      (main_settled p few d is free columns inside point from tried j label r (omega arith) q c old
+      (before j r less).0))
       (positive_nonzero d.denominator writes.positive))
       (contains_or key j)
 
@@ -63,7 +65,8 @@ module _ (p : Polyhedron) (few : length (cone_of p).rows < 8192) (d : Dictionary
       let m = row_stays p few d is free columns inside point from tried k c r e in
       let w = dual_of space key cobasis k m in
       let earlier : k < from =
-      ⊎_elim (λ (t : (row_of rows k).linear ≡ true). absurd (both_ways (row_of rows k).linear e t)) (λ (l : k < from). l)
+      ⊎_elim (λ (t : (row_of rows k).linear ≡ true). absurd (both_ways (row_of rows k).linear e t))
+      (λ (l : k < from). l)
       (tried.taken k c low) in
       start_has space start is_start (rows_ascend p few d is free columns inside point from tried) k
       (row_is_left p few d is free columns inside point from tried k (key_in_labels p few d is k c) r e) r

@@ -52,7 +52,8 @@ is_marked n form before (x ∷ ks) (false ∷ ms) f a k c y l v zero here =
     is_marked n form before ks ms f.1 a.1 k d y l v (λ j m. zero j (Contains-later j x ks m)) here)
     (contains_cases x ks k c)
 
-pub start_has : (space : Space) (start : List ℕ) → IsStartCobasis space start → IsAscending (filter is_row space.labels) →
+pub start_has : (space : Space) (start : List ℕ) → IsStartCobasis space start →
+    IsAscending (filter is_row space.labels) →
     (k : ℕ) → Contains space.labels k → is_row k ≡ true → (y : Vector) → IsDirection space y →
     ((j : ℕ) → Contains space.labels j → is_row j ≡ true → j < k → space.form j · y ≡ pos 0) →
     space.form k · y ≢ pos 0 → Contains start k
@@ -129,7 +130,8 @@ module _ (space : Space) (key : List ℕ) (t : Table) (cobasis : IsCobasis space
       ⊎_elim
       (λ (e : in_key i ≡ true).
       let c = member_only i key e in
-      subst (λ b. IsFirstBasis space.n (rows_before before) (space.form i ∷ map space.form rows) (b ∷ map in_key rows)) (sym e) (
+      subst (λ b. IsFirstBasis space.n (rows_before before) (space.form i ∷ map space.form rows)
+      (b ∷ map in_key rows)) (sym e) (
         is_new before i c (within i (Contains-first i rows)),
         first (i ∷ before) rows a.1
             (λ k m. labels k (Contains-later k i rows m))
@@ -147,7 +149,8 @@ module _ (space : Space) (key : List ℕ) (t : Table) (cobasis : IsCobasis space
       ))
       (λ (e : in_key i ≡ false).
       let n : Contains key i → ⊥ = λ c. let f = member_has i key c in cc in
-      subst (λ b. IsFirstBasis space.n (rows_before before) (space.form i ∷ map space.form rows) (b ∷ map in_key rows)) (sym e) (
+      subst (λ b. IsFirstBasis space.n (rows_before before) (space.form i ∷ map space.form rows)
+      (b ∷ map in_key rows)) (sym e) (
         (let here = labels i (Contains-first i rows) in
             follows before i here.0 here.1 n
             (λ k q l. ⊎_elim

@@ -9,7 +9,7 @@ use Rattle.poly_model.specs.Overflows.{Passes, IsPassing}
 use Rattle.poly_model.specs.Spaces.{IsSpaceOf}
 use Rattle.poly_model.specs.Dictionaries.{IsDictionary}
 use Rattle.dictionary.specs.Views.{Dictionary, CanPivot, IsPivot, IsOverflow, table_of}
-use Rattle.linearity.specs.Columns.{HasNoColumn}
+use Rattle.linearity.specs.Columns.{IsZeroAtCoordinates}
 use Rattle.linearity.specs.Elimination.{IsDictionaryOf}
 use Rattle.linearity.specs.Turns.{KeepsShape, EntersFor, OverflowsFor, IsEntered, Eliminates, StopsAt}
 use Rattle.linearity.proofs.Turns.{passed_over, no_column, enters}
@@ -40,7 +40,7 @@ entered_shape : (old new : Dictionary) (i : ℕ) → i < 8192 → IsEntered old 
 entered_shape old new i few h =
     ⊎_elim
     (λ (e : (k : ℕ) × EntersFor old i k new). pivot_shape old new i e.0 few e.1.pivot)
-    (λ (e : HasNoColumn old i × (new ≡ old)). subst (KeepsShape old) (sym e.1) (shape_stays old))
+    (λ (e : IsZeroAtCoordinates old i × (new ≡ old)). subst (KeepsShape old) (sym e.1) (shape_stays old))
     h
 
 -- whether the row has entered, or nothing has changed
@@ -122,7 +122,7 @@ module _ (sys : System) (others : Bool) where
   }
 
   module _ (i : ℕ) (few : i < 8192) (n : (row_of sys.rows i).linear ≢ others) (old : Dictionary) where
-    stays : HasNoColumn old i → Eliminates sys others i (i + 1) old old
+    stays : IsZeroAtCoordinates old i → Eliminates sys others i (i + 1) old old
     stays none = record {
       dictionary = λ p file h. h;
       eliminated = λ p file h e. no_column sys.rows others i old e n none;
@@ -140,5 +140,6 @@ module _ (sys : System) (others : Bool) where
     tries_one new h =
         ⊎_elim
         (λ (e : (k : ℕ) × EntersFor old i k new). enters_for new e.0 e.1)
-        (λ (e : HasNoColumn old i × (new ≡ old)). subst (Eliminates sys others i (i + 1) old) (sym e.1) (stays e.0))
+        (λ (e : IsZeroAtCoordinates old i × (new ≡ old)).
+        subst (Eliminates sys others i (i + 1) old) (sym e.1) (stays e.0))
         h

@@ -8,7 +8,7 @@ use Rattle.poly_model.specs.Dictionaries.{Table}
 use Rattle.dictionary_laws.specs.Exchange.{exchanged_entry}
 use Rattle.dictionary_laws.specs.Keys.{Exchanges}
 use Rattle.dictionary.specs.Views.{Dictionary, IsDictionaryIn, CanPivot, IsPivot, table_of}
-use Rattle.linearity.specs.Columns.{IsLeastColumn, HasNoColumn}
+use Rattle.linearity.specs.Columns.{IsLeastColumn, IsZeroAtCoordinates}
 use Rattle.linearity.specs.Elimination.{IsSettled, IsTried, IsEliminated}
 use Rattle.linearity.proofs.ZerosAfter.{zero_by_row, zero_by_column, zero_after}
 
@@ -68,7 +68,7 @@ module _ (rows : List Row) (others : Bool) (i : ℕ) (d : Dictionary) (e : IsEli
   passed_over is = stays (λ l few h. e.settled i l few (tried_otherwise rows i others (is l) h))
 
   -- a row that is 0 at every coordinate in the cobasis
-  pub no_column : (row_of rows i).linear ≢ others → HasNoColumn d i → IsEliminated rows others (i + 1) d
+  pub no_column : (row_of rows i).linear ≢ others → IsZeroAtCoordinates d i → IsEliminated rows others (i + 1) d
   no_column n none =
       stays (λ l few h outside k c behind.
       ⊎_elim

@@ -2,11 +2,10 @@
 use Rattle.std.specs.Prelude.{◌≡◌, ◌≢◌, ℕ, ◌-◌, ◌<◌, ◌≤◌, Bool, not, pos, List, map}
 use Rattle.std.specs.List.{Contains, filter}
 use Rattle.poly_num.specs.Vectors.{Vector}
-use Rattle.poly_num.specs.Divisors.{quotients, gcd_of_all}
 use Rattle.poly_model.specs.Spaces.{is_row}
 use Rattle.poly_model.specs.Dictionaries.{Table}
 use Rattle.dictionary.specs.Views.{Dictionary, table_of}
-use Rattle.hull_lift.specs.Facets.{column_of}
+use Rattle.hull_lift.specs.Facets.{primitive_column}
 
 -- a label that is no row's
 abbrev pub is_coordinate : ℕ → Bool
@@ -20,13 +19,9 @@ coordinates_in key = filter is_coordinate key
 abbrev pub columns_in : List ℕ → List ℕ
 columns_in key = map (λ k. k - 8192) (coordinates_in key)
 
--- the vector of a column, of n entries, without common divisor
-abbrev pub primitive_column : Dictionary → ℕ → ℕ → Vector
-primitive_column d n k = quotients (column_of d k n) (pos (gcd_of_all (column_of d k n)))
-
--- the vectors of the coordinates in the cobasis
+-- the vectors of n entries along the columns of the coordinates in the cobasis, without common divisor
 abbrev pub coordinate_vectors : Dictionary → ℕ → List Vector
-coordinate_vectors d n = map (primitive_column d n) (coordinates_in d.key)
+coordinate_vectors d n = map (λ k. primitive_column d k n) (coordinates_in d.key)
 
 -- the least coordinate in the cobasis at which row i is not 0
 pub record IsLeastColumn (d : Dictionary) (i k : ℕ) : Type 0 where
@@ -36,5 +31,5 @@ pub record IsLeastColumn (d : Dictionary) (i k : ℕ) : Type 0 where
   pub least : (j : ℕ) → Contains d.key j → 8192 ≤ j → j < k → Table.entry (table_of d) i j ≡ pos 0
 
 -- row i is 0 at every coordinate in the cobasis
-abbrev pub HasNoColumn : Dictionary → ℕ → Type 0
-HasNoColumn d i = (k : ℕ) → Contains d.key k → 8192 ≤ k → Table.entry (table_of d) i k ≡ pos 0
+abbrev pub IsZeroAtCoordinates : Dictionary → ℕ → Type 0
+IsZeroAtCoordinates d i = (k : ℕ) → Contains d.key k → 8192 ≤ k → Table.entry (table_of d) i k ≡ pos 0

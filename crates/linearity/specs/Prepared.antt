@@ -33,14 +33,14 @@ pub record Preparation : Type 0 where
   pub dictionary : Dictionary
 
 -- a dictionary of the file's rows at which all rows have been tried; the equations have a common point
-pub record IsReduced (p : Polyhedron) (d : Dictionary) : Type 0 where
+pub record EndsElimination (p : Polyhedron) (d : Dictionary) : Type 0 where
   pub consistent : AreConsistent p
   pub phase : d.phase ≡ Prepare
   pub of : IsDictionaryOf p d
   pub tried : IsEliminated (cone_of p).rows true (length (cone_of p).rows + 1) d
 
--- the same where no row has been tried
-pub record IsUnreduced (p : Polyhedron) (d : Dictionary) : Type 0 where
+-- a dictionary of the file's rows at which no row has been tried
+pub record BeginsElimination (p : Polyhedron) (d : Dictionary) : Type 0 where
   pub phase : d.phase ≡ Prepare
   pub of : IsDictionaryOf p d
   pub untried : IsEliminated (cone_of p).rows false 1 d

@@ -4,7 +4,7 @@ use Rattle.std.specs.List.{Contains}
 use Rattle.poly_model.specs.declared.overflow.Overflow.{Overflow}
 use Rattle.poly_model.specs.Systems.{System, Polyhedron, row_of, cone_of}
 use Rattle.dictionary.specs.Views.{Dictionary, CanPivot, IsPivot, IsOverflow}
-use Rattle.linearity.specs.Columns.{IsLeastColumn, HasNoColumn}
+use Rattle.linearity.specs.Columns.{IsLeastColumn, IsZeroAtCoordinates}
 use Rattle.linearity.specs.Elimination.{IsDictionaryOf, IsEliminated}
 
 -- the phase, the labels and the count of columns stay, and no coordinate enters the cobasis
@@ -28,7 +28,7 @@ pub record OverflowsFor (d : Dictionary) (i k : ℕ) (o : Overflow) : Type 0 whe
 
 -- row i has entered for such a coordinate, or there is none
 abbrev pub IsEntered : Dictionary → ℕ → Dictionary → Type 0
-IsEntered old i new = ((k : ℕ) × EntersFor old i k new) ⊎ (HasNoColumn old i × (new ≡ old))
+IsEntered old i new = ((k : ℕ) × EntersFor old i k new) ⊎ (IsZeroAtCoordinates old i × (new ≡ old))
 
 -- where the rows before `from` had been tried in a pass, those before `to` have been, at a dictionary of the same
 -- polyhedron

@@ -6,7 +6,7 @@ ghost use Rattle.poly_model.specs.Dictionaries.{Table};
 ghost use Rattle.poly_model.specs.Overflows.{Passes};
 ghost use Rattle.poly_model.specs.Systems.{Polyhedron, cone_of, row_of};
 ghost use Rattle.dictionary.specs.Views.{table_of, CanPivot};
-ghost use Rattle.linearity.specs.Columns.{IsLeastColumn, HasNoColumn};
+ghost use Rattle.linearity.specs.Columns.{IsLeastColumn, IsZeroAtCoordinates};
 ghost use Rattle.linearity.specs.Elimination.{IsDictionaryOf, IsEliminated, tries_others};
 ghost use Rattle.linearity.specs.Turns.{KeepsShape, OverflowsFor, IsEntered, Eliminates, StopsAt};
 
@@ -52,7 +52,7 @@ fn least_column(at: &Dict, row: Label) -> Option<Label>
     requires row { row.0 < 8192 }
     ensures some { IfSome result (λ k. IsLeastColumn at.now row.0 k.0) }
     ensures pivots { IfSome result (λ k. CanPivot at.now row.0 k.0) }
-    ensures none { IsNone result → HasNoColumn at.now row.0 }
+    ensures none { IsNone result → IsZeroAtCoordinates at.now row.0 }
 {
     let key = at.key();
     'labels: for label in key.labels() {
@@ -111,8 +111,9 @@ fn try_row(at: &mut Dict, sys: &System, i: u32, pass: Pass) -> Result<(), Overfl
 }
 
 /// Tries rows of a system for the cobasis, in ascending order: each enters for the least coordinate at which it is not
-/// 0, where there is one (Gauss). The first pass tries the linear rows, the second one the others. Rows that are no labels of the dictionary are passed over (the row at infinity, where the dictionary has
-/// constants). Where a pivot overflows, the rows before it have been tried. Takes no memory.
+/// 0, where there is one (Gauss). The first pass tries the linear rows, the second one the others. Rows that are no
+/// labels of the dictionary are passed over (the row at infinity, where the dictionary has constants). Where a pivot
+/// overflows, the rows before it have been tried. Takes no memory.
 pub fn enter_rows(at: &mut Dict, sys: &System, pass: Pass) -> Result<(), Overflow>
     ensures entered { IfOk result (λ _. (p : Polyhedron) → sys.now ≡ cone_of p → IsDictionaryOf p at.old →
         IsEliminated sys.now.rows (tries_others pass) 1 at.old →

@@ -19,8 +19,8 @@ pub use lines::{free_columns, lines_of};
 pub use prepared::Prepared;
 pub use preparing::{PrepareStop, prepare};
 
-/// Where every row has been tried, the coordinates that are left in the cobasis are the free columns, and the vectors of
-/// their columns, without common divisor, are the lines.
+/// Where every row has been tried, the coordinates that are left in the cobasis are the free columns, and the vectors
+/// of their columns, without common divisor, are the lines.
 pub fn elimination_leaves_lines()
     ensures { EliminationLeavesLines }
 {}

@@ -3,7 +3,8 @@ ghost use Rattle.std.specs.Prelude.{◌≡◌, ◌≤◌, IfOk, IsTrue, length};
 ghost use Rattle.std.specs.List.{Contains};
 ghost use Rattle.poly_model.specs.Limits.{most_columns};
 ghost use Rattle.poly_model.specs.Keys.{IsAscending};
-ghost use Rattle.linearity.specs.Columns.{is_coordinate, columns_in, primitive_column, coordinate_vectors};
+ghost use Rattle.hull_lift.specs.Facets.{primitive_column};
+ghost use Rattle.linearity.specs.Columns.{is_coordinate, columns_in, coordinate_vectors};
 
 use dictionary::Dict;
 use hull_lift::facet_row;
@@ -56,7 +57,7 @@ pub fn lines_of(alloc: Global, at: &Dict, n: u32) -> Result<Lines, OutOfMemory>
 fn line_at(alloc: Global, at: &Dict, col: Label, n: u32) -> Result<Vector, OutOfMemory>
     requires column { Contains at.now.key col.0 }
     requires narrow { n ≤ most_columns }
-    ensures { IfOk result (λ line. line ≡ primitive_column at.now n col.0) }
+    ensures { IfOk result (λ line. line ≡ primitive_column at.now col.0 n) }
 {
     let mut vector = Vec::new(alloc);
     vector.resize(n as usize, Num::ZERO)?;

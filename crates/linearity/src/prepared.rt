@@ -5,8 +5,8 @@ use dictionary::Dict;
 use poly_model::{Key, Lines};
 use std::marker::Model;
 
-/// The lines of a cone, its free columns, and the dictionary of the start cobasis in the phase `Main`: the reduced
-/// system, in which the equations hold and the free coordinates are 0.
+/// The lines of a cone, its free columns, and the dictionary of the start cobasis in the phase `Main`: of what
+/// is left of the system where the equations hold and the free coordinates are 0.
 #[derive(Drop)]
 pub struct Prepared {
     pub(crate) lines: Lines,

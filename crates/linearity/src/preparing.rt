@@ -9,7 +9,7 @@ ghost use Rattle.dictionary.specs.Views.{table_of};
 ghost use Rattle.poly_model.specs.Limits.{most_cone_rows};
 ghost use Rattle.poly_model.specs.Equations.{AreConsistent};
 ghost use Rattle.poly_model.specs.Due.{IsDue, IsAskedBefore};
-ghost use Rattle.linearity.specs.Prepared.{HasNoConstants, IsPrepared, IsReduced, IsUnreduced};
+ghost use Rattle.linearity.specs.Prepared.{HasNoConstants, IsPrepared, EndsElimination, BeginsElimination};
 
 use crate::eliminate::{Pass, enter_rows};
 use crate::lines::{free_columns, lines_of};
@@ -18,8 +18,8 @@ use dictionary::Dict;
 use poly_model::{Label, OutOfMemory, Overflow, Phase, System};
 use std::alloc::Global;
 
-/// Why a system could not be prepared: its equations have no common point, a number of a dictionary would pass 127 bits,
-/// or there was no memory.
+/// Why a system could not be prepared: its equations have no common point, a number of a dictionary would pass 127
+/// bits, or there was no memory.
 #[derive(Clone, Copy, PartialEq, Eq, Debug)]
 pub enum PrepareStop {
     Inconsistent,
@@ -47,7 +47,7 @@ pub fn prepare(alloc: Global, sys: &System) -> Result<Prepared, PrepareStop>
     let Ok(mut at) = Dict::new(alloc, sys, Phase::Prepare) else {
         return Err(PrepareStop::Memory);
     };
-    reduce(&mut at, sys)?;
+    eliminate_rows(&mut at, sys)?;
     match enter_main(alloc, sys, at) {
         Ok(prepared) => Ok(prepared),
         Err(_) => Err(PrepareStop::Memory),
@@ -55,12 +55,13 @@ pub fn prepare(alloc: Global, sys: &System) -> Result<Prepared, PrepareStop>
 }
 
 // Tries the linear rows, asks whether they have a common point, and then tries the others.
-fn reduce(at: &mut Dict, sys: &System) -> Result<(), PrepareStop>
-    ensures reduced { OnOk result ((p : Polyhedron) → sys.now ≡ cone_of p → IsUnreduced p at.old → IsReduced p at.new) }
+fn eliminate_rows(at: &mut Dict, sys: &System) -> Result<(), PrepareStop>
+    ensures ended { OnOk result ((p : Polyhedron) → sys.now ≡ cone_of p → BeginsElimination p at.old →
+        EndsElimination p at.new) }
     ensures inconsistent { IsErrOf result PrepareStop.Inconsistent → (p : Polyhedron) → sys.now ≡ cone_of p →
-        IsUnreduced p at.old → AreConsistent p → ⊥ }
+        BeginsElimination p at.old → AreConsistent p → ⊥ }
     ensures overflow { (o : Passed) → IsErrOf result (PrepareStop.Overflow o) →
-        (p : Polyhedron) → sys.now ≡ cone_of p → IsUnreduced p at.old → IsDue p o (IsAskedBefore p o) }
+        (p : Polyhedron) → sys.now ≡ cone_of p → BeginsElimination p at.old → IsDue p o (IsAskedBefore p o) }
     ensures memory { IsErrOf result PrepareStop.Memory → ⊥ }
 {
     if let Err(overflow) = enter_rows(at, sys, Pass::Linear) {
@@ -92,7 +93,8 @@ fn is_consistent_at(at: &Dict, sys: &System, i: u32) -> bool
     requires from_one { 0 < i }
     requires within { i ≤ length sys.now.rows }
     requires few { i ≤ most_cone_rows }
-    ensures { IsTrue result ↔ (Contains at.now.labels i → (row_of sys.now.rows i).linear ≡ true → Table.constant (table_of at.now) i ≡ pos 0) }
+    ensures { IsTrue result ↔ (Contains at.now.labels i → (row_of sys.now.rows i).linear ≡ true →
+        Table.constant (table_of at.now) i ≡ pos 0) }
 {
     let row = Label(i as u16);
     if at.has_label(row) && sys.is_linear(i) {
@@ -104,7 +106,8 @@ fn is_consistent_at(at: &Dict, sys: &System, i: u32) -> bool
 
 // What is prepared from a dictionary at which all rows have been tried.
 fn enter_main(alloc: Global, sys: &System, at: Dict) -> Result<Prepared, OutOfMemory>
-    ensures { IfOk result (λ r. (p : Polyhedron) → sys.now ≡ cone_of p → IsReduced p at → IsPrepared p r.lines r.free r.dictionary) }
+    ensures { IfOk result (λ r. (p : Polyhedron) → sys.now ≡ cone_of p → EndsElimination p at →
+        IsPrepared p r.lines r.free r.dictionary) }
 {
     let n = sys.n();
     let free = free_columns(alloc, &at)?;

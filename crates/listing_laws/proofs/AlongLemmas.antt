@@ -13,7 +13,7 @@ use Rattle.linear_laws.proofs.PrimitiveAlong.{primitive_up_to_sign}
 use Rattle.linear_laws.proofs.Proportions.{multiple_along, factor_nonzero}
 use Rattle.listing_laws.specs.ListedCone.{ListedCone, IsListable}
 use Rattle.listing_laws.specs.Lists.{Lists}
-use Rattle.listing_laws.specs.Prefixes.{taken_at, IsUnder}
+use Rattle.listing_laws.specs.Prefixes.{taken_at, IsCornerUnder}
 use Rattle.listing_laws.specs.Directions.{IsShownAlong}
 use Rattle.listing_laws.proofs.FirstLists.{vanish_taken, vanish_on_tight}
 use Rattle.listing_laws.proofs.ListLemmas.{lists_none, lists_one}
@@ -42,7 +42,7 @@ pub up_to_sign : (y w z : Vector) → IsPrimitive y → IsMultipleOf z y → IsP
 up_to_sign y w z p m q k = primitive_up_to_sign y w p q (multiple y w z p.0 m k)
 
 module _ (cone : ListedCone) (marks : List Bool) (z : Vector) (alone : IsAlone cone.n (taken_at cone marks) z) where
-  pub shown_along : (y : Vector) → IsUnder cone marks y → IsShownAlong cone z y
+  pub shown_along : (y : Vector) → IsCornerUnder cone marks y → IsShownAlong cone z y
   shown_along y u =
       let c = u.0.corner in
       let v = vanish_taken cone.n cone.base y cone.rows marks c.in_cone.vanishing u.1 in
@@ -54,7 +54,7 @@ module _ (cone : ListedCone) (marks : List Bool) (z : Vector) (alone : IsAlone c
       }
 
   pub under_if_first : (y : Vector) → IsShownAlong cone z y → AreFirstTight cone.n cone.base y cone.rows marks →
-      IsUnder cone marks y
+      IsCornerUnder cone marks y
   under_if_first y a f = (
     record {
       corner = record {
@@ -69,8 +69,9 @@ module _ (cone : ListedCone) (marks : List Bool) (z : Vector) (alone : IsAlone c
     f,
   )
 
-  pub list_of_one : IsListable cone → (y : Vector) → IsUnder cone marks y → Lists (IsUnder cone marks) (y ∷ [])
-  list_of_one listable y u = lists_one (IsUnder cone marks) y u (λ w v. only w (shown_along w v))
+  pub list_of_one : IsListable cone → (y : Vector) → IsCornerUnder cone marks y →
+      Lists (IsCornerUnder cone marks) (y ∷ [])
+  list_of_one listable y u = lists_one (IsCornerUnder cone marks) y u (λ w v. only w (shown_along w v))
     where
       a : IsShownAlong cone z y
       a = shown_along y u
@@ -82,11 +83,11 @@ module _ (cone : ListedCone) (marks : List Bool) (z : Vector) (alone : IsAlone c
           (one_sign cone listable y a.in_cone (subst (IsInConeOf cone.n cone.base cone.rows) e b.in_cone))))
           (up_to_sign y w z a.primitive a.along b.primitive b.along)
 
-  pub list_of_none : (y : Vector) → IsPrimitive y → IsMultipleOf z y → (IsUnder cone marks y → ⊥) →
-      (IsUnder cone marks (map neg_ℤ y) → ⊥) → Lists (IsUnder cone marks) []
-  list_of_none y p m h k = lists_none (IsUnder cone marks) (λ w u. none w u (shown_along w u))
+  pub list_of_none : (y : Vector) → IsPrimitive y → IsMultipleOf z y → (IsCornerUnder cone marks y → ⊥) →
+      (IsCornerUnder cone marks (map neg_ℤ y) → ⊥) → Lists (IsCornerUnder cone marks) []
+  list_of_none y p m h k = lists_none (IsCornerUnder cone marks) (λ w u. none w u (shown_along w u))
     where
-      none : (w : Vector) → IsUnder cone marks w → IsShownAlong cone z w → ⊥
+      none : (w : Vector) → IsCornerUnder cone marks w → IsShownAlong cone z w → ⊥
       none w u b =
-          ⊎_elim (λ e. h (subst (IsUnder cone marks) e u)) (λ e. k (subst (IsUnder cone marks) e u))
+          ⊎_elim (λ e. h (subst (IsCornerUnder cone marks) e u)) (λ e. k (subst (IsCornerUnder cone marks) e u))
           (up_to_sign y w z p m b.primitive b.along)

@@ -89,7 +89,8 @@ pub first_without : (n : ℕ) (before : List Vector) (y : Vector) (gs : List Vec
     length ms < length gs →
     AreFirstTight n before y gs (ms ++ false ∷ [])
     ↔ (AreFirstTight n before y gs ms
-    × (slice_index_or gs (length ms) [] · y ≡ pos 0 → Follows n (taken before gs ms) (slice_index_or gs (length ms) [])))
+    × (slice_index_or gs (length ms) [] · y ≡ pos 0 →
+    Follows n (taken before gs ms) (slice_index_or gs (length ms) [])))
 first_without n before y [] ms l = absurd (omega arith)
 first_without n before y (g ∷ gs) [] l = (λ h. (tt, h.0), λ h. (h.1, tt))
 first_without n before y (g ∷ gs) (true ∷ ms) l =

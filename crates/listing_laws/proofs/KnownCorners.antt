@@ -10,7 +10,7 @@ use Rattle.linear_laws.specs.Corners.{IsOnTight}
 use Rattle.cone_laws.proofs.KnownValues.{axis, upward}
 use Rattle.cone_laws.proofs.KnownExtremes.{one_is_not_zero, by_three}
 use Rattle.listing_laws.specs.ListedCone.{IsShownCorner}
-use Rattle.listing_laws.specs.Prefixes.{IsUnder}
+use Rattle.listing_laws.specs.Prefixes.{IsCornerUnder}
 use Rattle.listing_laws.proofs.KnownValues.{square_cone}
 
 -- the points (1, 0), (0, 1) and (1, 1)
@@ -61,7 +61,7 @@ abbrev AtLeastZero : Vector → Type 0
 AtLeastZero y = AllByRecursion (λ g. pos 0 ≤ℤ (g · y)) square_cone.rows
 
 -- ---- the rows 2 and 3
-list_of_right : IsUnder square_cone (false ∷ true ∷ true ∷ false ∷ false ∷ []) right
+list_of_right : IsCornerUnder square_cone (false ∷ true ∷ true ∷ false ∷ false ∷ []) right
 unfolding gcd_in gcd_of
 list_of_right = (
   shown_if right (primitive_from_gcd right refl) refl inside
@@ -77,11 +77,13 @@ list_of_right = (
 )
   where
     inside : AtLeastZero right
-    inside =
-        (omega (arith, ints), (omega (arith, ints), (omega (arith, ints), (omega (arith, ints), (omega (arith, ints), tt)))))
+    inside = (
+      omega (arith, ints),
+      (omega (arith, ints), (omega (arith, ints), (omega (arith, ints), (omega (arith, ints), tt)))),
+    )
 
 -- ---- the rows 1 and 4
-list_of_top : IsUnder square_cone (true ∷ false ∷ false ∷ true ∷ false ∷ []) top
+list_of_top : IsCornerUnder square_cone (true ∷ false ∷ false ∷ true ∷ false ∷ []) top
 unfolding gcd_in gcd_of
 list_of_top = (
   shown_if top (primitive_from_gcd top refl) refl inside
@@ -100,11 +102,13 @@ list_of_top = (
 )
   where
     inside : AtLeastZero top
-    inside =
-        (omega (arith, ints), (omega (arith, ints), (omega (arith, ints), (omega (arith, ints), (omega (arith, ints), tt)))))
+    inside = (
+      omega (arith, ints),
+      (omega (arith, ints), (omega (arith, ints), (omega (arith, ints), (omega (arith, ints), tt)))),
+    )
 
 -- ---- the rows 3 and 4
-list_of_far : IsUnder square_cone (false ∷ false ∷ true ∷ true ∷ false ∷ []) far
+list_of_far : IsCornerUnder square_cone (false ∷ false ∷ true ∷ true ∷ false ∷ []) far
 unfolding gcd_in gcd_of
 list_of_far = (
   shown_if far (primitive_from_gcd far refl) refl inside
@@ -123,5 +127,7 @@ list_of_far = (
 )
   where
     inside : AtLeastZero far
-    inside =
-        (omega (arith, ints), (omega (arith, ints), (omega (arith, ints), (omega (arith, ints), (omega (arith, ints), tt)))))
+    inside = (
+      omega (arith, ints),
+      (omega (arith, ints), (omega (arith, ints), (omega (arith, ints), (omega (arith, ints), tt)))),
+    )

@@ -17,7 +17,7 @@ use Rattle.cone_laws.proofs.KnownColumns.{begins_not_free}
 use Rattle.cone_laws.proofs.KnownExtremes.{one_is_not_zero}
 use Rattle.listing_laws.specs.ListedCone.{ListedCone, row_at, IsListable, IsConeOf, cone_over}
 use Rattle.listing_laws.specs.Lists.{Lists}
-use Rattle.listing_laws.specs.Prefixes.{IsUnder, IsListedUpTo}
+use Rattle.listing_laws.specs.Prefixes.{IsCornerUnder, IsListedUpTo}
 use Rattle.listing_laws.specs.Directions.{DualVector, IsLeft, LeavesOne}
 use Rattle.listing_laws.proofs.BaseLemmas.{nothing_is_base}
 use Rattle.listing_laws.proofs.ConeLemmas.{is_listable}
@@ -98,7 +98,7 @@ abbrev along : Vector
 along = pos 0 ∷ pos 1 ∷ []
 
 -- row 1 leaves the point 0
-at_row_1 : Lists (IsUnder interval_cone (true ∷ [])) (low ∷ [])
+at_row_1 : Lists (IsCornerUnder interval_cone (true ∷ [])) (low ∷ [])
 unfolding gcd_in gcd_of
 at_row_1 =
     one_if_it_passes interval_cone interval_listable (true ∷ []) low leaves (λ i l e k c m. (duals k c).1 i l e m) low
@@ -125,7 +125,7 @@ at_row_1 =
     }
 
 -- row 2 leaves the point 1
-at_row_2 : Lists (IsUnder interval_cone (false ∷ true ∷ [])) (high ∷ [])
+at_row_2 : Lists (IsCornerUnder interval_cone (false ∷ true ∷ [])) (high ∷ [])
 unfolding gcd_in gcd_of
 at_row_2 =
     one_if_it_passes interval_cone interval_listable (false ∷ true ∷ []) high leaves
@@ -160,7 +160,7 @@ at_row_2 =
     }
 
 -- row 3 leaves the direction of the line, which is not in the cone, nor is its opposite
-at_row_3 : Lists (IsUnder interval_cone (false ∷ false ∷ true ∷ [])) []
+at_row_3 : Lists (IsCornerUnder interval_cone (false ∷ false ∷ true ∷ [])) []
 unfolding gcd_in gcd_of
 at_row_3 =
     nothing_if_neither interval_cone interval_listable (false ∷ false ∷ true ∷ []) along leaves along
@@ -187,7 +187,7 @@ at_row_3 =
     }
 
 -- each of the rows is new over none, so the loop over them takes each; behind them two directions are left
-under_nothing : Lists (IsUnder interval_cone []) (low ∷ high ∷ [])
+under_nothing : Lists (IsCornerUnder interval_cone []) (low ∷ high ∷ [])
 under_nothing =
     loop_ends interval_cone interval_listable [] (false ∷ false ∷ false ∷ []) (low ∷ high ∷ []) refl (λ e. omega arith)
     after_row_3
@@ -244,7 +244,7 @@ doubled_leaves = record {
 }
 
 -- the point 0 is not shown at row 2: row 1 is 0 there too and comes first, so the test fails
-not_at_row_2 : Lists (IsUnder doubled (false ∷ true ∷ [])) []
+not_at_row_2 : Lists (IsCornerUnder doubled (false ∷ true ∷ [])) []
 not_at_row_2 =
     nothing_if_it_fails doubled doubled_listable (false ∷ true ∷ []) low doubled_leaves
     (λ p. let c = Contains-first 2 [] in

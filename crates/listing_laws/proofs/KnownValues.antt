@@ -13,7 +13,7 @@ use Rattle.cone_laws.proofs.KnownColumns.{square_has_no_free_column, height_is_f
 use Rattle.cone_laws.proofs.KnownExtremes.{corner_is_extreme}
 use Rattle.listing_laws.specs.ListedCone.{ListedCone, IsConeOf, shows_of, cone_over}
 use Rattle.listing_laws.specs.Lists.{Lists}
-use Rattle.listing_laws.specs.Prefixes.{labels_of, taken_at, IsUnder}
+use Rattle.listing_laws.specs.Prefixes.{marked_labels, taken_at, IsCornerUnder}
 use Rattle.listing_laws.proofs.BaseLemmas.{nothing_is_base, first_basis_is_base}
 use Rattle.listing_laws.proofs.ConeLemmas.{extreme_is_shown_corner}
 
@@ -23,7 +23,7 @@ listed_twice : (P : Vector → Type 0) (x : Vector) → Lists P (x ∷ x ∷ [])
 listed_twice P x l = l.distinct.0 (Contains-first x [])
 
 -- of five rows the second and the third
-labels_of_marks : labels_of (false ∷ true ∷ true ∷ false ∷ false ∷ []) ≡ 2 ∷ 3 ∷ []
+labels_of_marks : marked_labels (false ∷ true ∷ true ∷ false ∷ false ∷ []) ≡ 2 ∷ 3 ∷ []
 labels_of_marks = refl
 
 -- the last row that was taken stands first
@@ -72,7 +72,7 @@ not_with_a_base is = by ((is.fixed axis refl).1 (free, linear))
     by v = let e = v.0 in cc
 
 -- the list of the corner (0, 0) are the rows 1 and 2
-list_of_corner : IsUnder square_cone (true ∷ true ∷ false ∷ false ∷ false ∷ []) corner
+list_of_corner : IsCornerUnder square_cone (true ∷ true ∷ false ∷ false ∷ false ∷ []) corner
 list_of_corner = (
   (extreme_is_shown_corner square square_cone square_has_cone corner).0 corner_is_extreme,
   (
@@ -83,7 +83,7 @@ list_of_corner = (
 )
 
 -- so row 2 cannot be left out
-not_without_row_2 : IsUnder square_cone (true ∷ false ∷ []) corner → ⊥
+not_without_row_2 : IsCornerUnder square_cone (true ∷ false ∷ []) corner → ⊥
 not_without_row_2 u = let e = u.1.2.0 refl upward refl (refl, tt) in cc
 
 -- ---- the strip 0 <= x <= 1
@@ -93,7 +93,8 @@ strip_has_cone = first_basis_is_base strip (2 ∷ []) (true ∷ []) columns ((up
   where
     free_at : (j : ℕ) → Contains (2 ∷ []) j → IsFree strip j
     free_at j c =
-        ⊎_elim (λ e. subst (IsFree strip) e height_is_free) (λ d. absurd (Contains-nil j d)) (Contains-cons_cases j 2 [] c)
+        ⊎_elim (λ e. subst (IsFree strip) e height_is_free) (λ d. absurd (Contains-nil j d))
+        (Contains-cons_cases j 2 [] c)
 
     columns : AreFreeColumns strip (2 ∷ [])
     columns = record {

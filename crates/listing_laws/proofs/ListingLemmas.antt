@@ -10,12 +10,12 @@ use Rattle.cone_laws.specs.FeasibilityLaws.{HasVertex, IsFlatAtInfinity}
 use Rattle.cone_laws.proofs.FeasibleLemmas.{feasible_by_vertex, feasible_file_by_vertex}
 use Rattle.listing_laws.specs.ConeLaws.{HasShownVertex, HasListedVertex}
 use Rattle.listing_laws.specs.ListedCone.{ListedCone, IsConeOf}
-use Rattle.listing_laws.specs.Lists.{AreDistinct, Lists}
-use Rattle.listing_laws.specs.Prefixes.{IsUnder}
+use Rattle.listing_laws.specs.Lists.{AreDistinctVectors, Lists}
+use Rattle.listing_laws.specs.Prefixes.{IsCornerUnder}
 use Rattle.listing_laws.proofs.ConeLemmas.{extreme_is_shown_corner}
 use Rattle.listing_laws.proofs.ListLemmas.{all_members}
 
-once_at : (ys : List Vector) → AreDistinct ys → (i j : ℕ) → i < j → j < length ys →
+once_at : (ys : List Vector) → AreDistinctVectors ys → (i j : ℕ) → i < j → j < length ys →
     slice_index_or ys i [] ≢ slice_index_or ys j []
 once_at [] d i j a b e = absurd (omega arith)
 once_at (y ∷ ys) d i zero a b e = absurd (omega arith)
@@ -24,7 +24,7 @@ once_at (y ∷ ys) d zero (suc j) a b e =
 once_at (y ∷ ys) d (suc i) (suc j) a b e = once_at ys d.1 i j (omega arith) (omega arith) e
 
 pub whole_listing : (sys : System) (cone : ListedCone) → IsConeOf sys cone → (shown : List Vector) →
-    Lists (IsUnder cone []) shown → AreExtreme sys shown
+    Lists (IsCornerUnder cone []) shown → AreExtreme sys shown
 whole_listing sys cone is shown l =
     let same = extreme_is_shown_corner sys cone is in
     record {

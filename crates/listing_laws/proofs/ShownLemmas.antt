@@ -10,7 +10,7 @@ use Rattle.linear_laws.proofs.Alone.{alone_by_first_basis}
 use Rattle.linear_laws.proofs.Proportions.{values_from_multiples, zero_from_proportion, factor_nonzero}
 use Rattle.listing_laws.specs.ListedCone.{ListedCone, row_at, IsListable}
 use Rattle.listing_laws.specs.Lists.{Lists}
-use Rattle.listing_laws.specs.Prefixes.{taken_at, labels_of, IsUnder}
+use Rattle.listing_laws.specs.Prefixes.{taken_at, marked_labels, IsCornerUnder}
 use Rattle.listing_laws.specs.Directions.{LeavesOne, PassesLocalTest, IsShownAlong}
 use Rattle.listing_laws.proofs.FirstLists.{labels_within, length-taken}
 use Rattle.listing_laws.proofs.ListLemmas.{lists_none}
@@ -34,7 +34,7 @@ module _ (cone : ListedCone) (listable : IsListable cone) (marks : List Bool) (z
   is_new = new_taken s.duals 1 cone.base cone.rows marks stands listable.independent
 
   vanish_at : (w : Vector) → Vanish cone.base w →
-      ((k : ℕ) → Contains (labels_of marks) k → row_at cone k · w ≡ pos 0) → Vanish (taken_at cone marks) w
+      ((k : ℕ) → Contains (marked_labels marks) k → row_at cone k · w ≡ pos 0) → Vanish (taken_at cone marks) w
   vanish_at w v h =
       vanish_from_labels s.duals 1 cone.base cone.rows marks stands w v (λ k c l. h k c)
 
@@ -61,7 +61,7 @@ module _ (cone : ListedCone) (listable : IsListable cone) (marks : List Bool) (z
 
   -- ---- the test
   test_by_labels : (y : Vector) → (IsZero y → ⊥) → IsMultipleOf z y →
-      PassesLocalTest cone (labels_of marks) s.duals z ↔ AreFirstTight cone.n cone.base y cone.rows marks
+      PassesLocalTest cone (marked_labels marks) s.duals z ↔ AreFirstTight cone.n cone.base y cone.rows marks
   test_by_labels y nz m =
       let h =
       test_is_first s.duals z s.left y (same_zeros y nz m) 1 cone.base cone.rows marks stands
@@ -69,22 +69,23 @@ module _ (cone : ListedCone) (listable : IsListable cone) (marks : List Bool) (z
       (λ p. h.0 (λ i l. p i (omega arith)), λ f i l. h.1 f i (omega arith))
 
   pub under_is_tested : (y : Vector) →
-      IsUnder cone marks y ↔ (IsShownAlong cone z y × PassesLocalTest cone (labels_of marks) s.duals z)
+      IsCornerUnder cone marks y ↔ (IsShownAlong cone z y × PassesLocalTest cone (marked_labels marks) s.duals z)
   under_is_tested y = (
     λ u. let a = shown_along cone marks z alone y u in (a, (test_by_labels y a.primitive.0 a.along).1 u.1),
     λ h. under_if_first cone marks z alone y h.0 ((test_by_labels y h.0.primitive.0 h.0.along).0 h.1),
   )
 
   -- ---- what is shown
-  pub nothing_if_it_fails : (PassesLocalTest cone (labels_of marks) s.duals z → ⊥) → Lists (IsUnder cone marks) []
-  nothing_if_it_fails h = lists_none (IsUnder cone marks) (λ y u. h ((under_is_tested y).0 u).1)
+  pub nothing_if_it_fails : (PassesLocalTest cone (marked_labels marks) s.duals z → ⊥) →
+      Lists (IsCornerUnder cone marks) []
+  nothing_if_it_fails h = lists_none (IsCornerUnder cone marks) (λ y u. h ((under_is_tested y).0 u).1)
 
-  pub one_if_it_passes : PassesLocalTest cone (labels_of marks) s.duals z →
-      (y : Vector) → IsShownAlong cone z y → Lists (IsUnder cone marks) (y ∷ [])
+  pub one_if_it_passes : PassesLocalTest cone (marked_labels marks) s.duals z →
+      (y : Vector) → IsShownAlong cone z y → Lists (IsCornerUnder cone marks) (y ∷ [])
   one_if_it_passes p y a = list_of_one cone marks z alone listable y ((under_is_tested y).1 (a, p))
 
   pub nothing_if_neither : (y : Vector) → IsPrimitive y → IsMultipleOf z y →
-      (IsShownAlong cone z y → ⊥) → (IsShownAlong cone z (map neg_ℤ y) → ⊥) → Lists (IsUnder cone marks) []
+      (IsShownAlong cone z y → ⊥) → (IsShownAlong cone z (map neg_ℤ y) → ⊥) → Lists (IsCornerUnder cone marks) []
   nothing_if_neither y p m h k =
       list_of_none cone marks z alone y p m (λ u. h (shown_along cone marks z alone y u))
       (λ u. k (shown_along cone marks z alone (map neg_ℤ y) u))

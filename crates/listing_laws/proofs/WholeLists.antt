@@ -22,7 +22,7 @@ use Rattle.linear_laws.proofs.Proportions.{not_zero_by_form, values_from_multipl
 use Rattle.linear_laws.proofs.TightLists.{first_tight_is_one}
 use Rattle.listing_laws.specs.ListedCone.{ListedCone, IsListable}
 use Rattle.listing_laws.specs.Lists.{Lists, Begins}
-use Rattle.listing_laws.specs.Prefixes.{taken_at, next_row, IsUnder, IsListedUpTo}
+use Rattle.listing_laws.specs.Prefixes.{taken_at, next_row, IsCornerUnder, IsListedUpTo}
 use Rattle.listing_laws.proofs.AlongLemmas.{under_if_first, list_of_one, list_of_none}
 use Rattle.listing_laws.proofs.FirstLists.{taken-nil}
 use Rattle.listing_laws.proofs.ListLemmas.{lists_none, lists_same, lists-append}
@@ -108,18 +108,18 @@ opposite_along y z (p, q, np, e) = (
 
 module _ (cone : ListedCone) (listable : IsListable cone) where
   abbrev HasList : List Bool → Type 0
-  HasList marks = (shown : List Vector) × Lists (IsUnder cone marks) shown
+  HasList marks = (shown : List Vector) × Lists (IsCornerUnder cone marks) shown
 
   -- ---- all rows have a mark, and one direction is left
   module _ (marks : List Bool) (l : length marks ≡ length cone.rows) (z : Vector) (width : length z ≡ cone.n)
       (zero : Vanish cone.base z) (alone : IsAlone cone.n (taken_at cone marks) z) where
-    under_settled : (y : Vector) → IsPrimitive y → IsMultipleOf z y → IsSettled (IsUnder cone marks y)
+    under_settled : (y : Vector) → IsPrimitive y → IsMultipleOf z y → IsSettled (IsCornerUnder cone marks y)
     under_settled y p (a, b, na, e) =
         by (rows_settled y cone.rows) (true_settled (cone.shows y))
         (first_settled cone.n cone.base y cone.rows marks listable.independent l)
       where
         by : IsSettled (AllByRecursion (λ g. pos 0 ≤ℤ (g · y)) cone.rows) → IsSettled (cone.shows y ≡ true) →
-            IsSettled (AreFirstTight cone.n cone.base y cone.rows marks) → IsSettled (IsUnder cone marks y)
+            IsSettled (AreFirstTight cone.n cone.base y cone.rows marks) → IsSettled (IsCornerUnder cone marks y)
         by (inl h) (inl s) (inl f) =
             inl (under_if_first cone marks z alone y (record {
               primitive = p;
@@ -174,11 +174,11 @@ module _ (cone : ListedCone) (listable : IsListable cone) where
     list_of_all =
         ⊎_elim
         (λ a. ⊎_elim (λ e. list_of_new a e)
-        (λ n. ([], lists_none (IsUnder cone marks) (λ y u. n (full cone listable marks y l u))))
+        (λ n. ([], lists_none (IsCornerUnder cone marks) (λ y u. n (full cone listable marks y l u))))
         (cases_eq (length (taken_at cone marks) + 1) cone.n))
         (λ n. (
           [],
-          lists_none (IsUnder cone marks)
+          lists_none (IsCornerUnder cone marks)
               (λ y u. n (new_if_first cone.n cone.base y cone.rows marks listable.independent u.1)),
         ))
         (new_settled cone.n (taken_at cone marks))
@@ -199,38 +199,40 @@ module _ (cone : ListedCone) (listable : IsListable cone) where
           HasList (marks ++ true ∷ []) → HasList (marks ++ false ∷ []) → HasList marks
       by (inr f) with_row without = (
         without.0,
-        lists_same (IsUnder cone (marks ++ false ∷ [])) (IsUnder cone marks) without.0 without.1
+        lists_same (IsCornerUnder cone (marks ++ false ∷ [])) (IsCornerUnder cone marks) without.0 without.1
             (λ y. let h = skipped cone marks lt y f in (h.1, h.0)),
       )
       by (inl w) with_row without = (
         with_row.0 ++ without.0,
-        lists-append (IsUnder cone (marks ++ true ∷ [])) (IsUnder cone (marks ++ false ∷ [])) (IsUnder cone marks)
+        lists-append (IsCornerUnder cone (marks ++ true ∷ [])) (IsCornerUnder cone (marks ++ false ∷ []))
+            (IsCornerUnder cone marks)
             with_row.0 without.0 with_row.1 without.1 (not_both_under cone marks lt)
             (λ y. taken_or_not cone marks lt y w),
       )
 
   pub prefix_has_list : (marks : List Bool) → length marks ≤ length cone.rows →
-      (shown : List Vector) × Lists (IsUnder cone marks) shown
+      (shown : List Vector) × Lists (IsCornerUnder cone marks) shown
   prefix_has_list marks l = list_from (length cone.rows - length marks) marks (omega arith)
 
   -- ---- a loop that stops
   pub loop_stops : (prefix marks : List Bool) (listed : List Vector) → length marks ≤ length cone.rows →
-      IsListedUpTo cone prefix marks listed → Begins (IsUnder cone prefix) listed
+      IsListedUpTo cone prefix marks listed → Begins (IsCornerUnder cone prefix) listed
   loop_stops prefix marks listed l g = let rest = prefix_has_list marks l in (rest.0, g rest.0 rest.1)
 
   pub loop_stops_within : (prefix marks : List Bool) (listed more : List Vector) →
       length marks < length cone.rows → IsNew cone.n (taken_at cone marks) (next_row cone marks) →
-      IsListedUpTo cone prefix marks listed → Begins (IsUnder cone (marks ++ true ∷ [])) more →
-      Begins (IsUnder cone prefix) (listed ++ more)
+      IsListedUpTo cone prefix marks listed → Begins (IsCornerUnder cone (marks ++ true ∷ [])) more →
+      Begins (IsCornerUnder cone prefix) (listed ++ more)
   loop_stops_within prefix marks listed more l w g (rest, a) =
       by (loop_stops prefix (marks ++ false ∷ []) (listed ++ (more ++ rest))
       (omega (arith, length-append marks (false ∷ [])))
       (loop_takes cone marks l prefix listed (more ++ rest) w g a))
     where
-      by : Begins (IsUnder cone prefix) (listed ++ (more ++ rest)) → Begins (IsUnder cone prefix) (listed ++ more)
+      by : Begins (IsCornerUnder cone prefix) (listed ++ (more ++ rest)) →
+          Begins (IsCornerUnder cone prefix) (listed ++ more)
       by (others, b) = (
         rest ++ others,
-        subst (Lists (IsUnder cone prefix))
+        subst (Lists (IsCornerUnder cone prefix))
             (ap (λ t. t ++ others) (sym (append_assoc listed more rest)) ∙ append_assoc (listed ++ more) rest others)
             b,
       )

@@ -13,7 +13,7 @@ use Rattle.cone_laws.specs.Faces.{fixed_rows}
 use Rattle.cone_laws.specs.FeasibilityLaws.{IsFlatAtInfinity}
 use Rattle.listing_laws.specs.ListedCone.{ListedCone, IsListable, IsShownCorner, IsConeOf, cone_over}
 use Rattle.listing_laws.specs.Lists.{Lists}
-use Rattle.listing_laws.specs.Prefixes.{IsUnder}
+use Rattle.listing_laws.specs.Prefixes.{IsCornerUnder}
 
 -- the first basis of the fixed rows is a base
 abbrev pub FirstBasisIsBase : Type 0
@@ -38,11 +38,11 @@ ExtremeIsShownCorner = (sys : System) (cone : ListedCone) → IsConeOf sys cone 
 -- what is under the empty prefix, each once, is the listing
 abbrev pub WholeListing : Type 0
 WholeListing = (sys : System) (cone : ListedCone) → IsConeOf sys cone →
-    (shown : List Vector) → Lists (IsUnder cone []) shown → AreExtreme sys shown
+    (shown : List Vector) → Lists (IsCornerUnder cone []) shown → AreExtreme sys shown
 
 -- a vector that is in the cone with its opposite is zero
-abbrev pub OnlyZeroHasItsOpposite : Type 0
-OnlyZeroHasItsOpposite = (cone : ListedCone) → IsListable cone → (y : Vector) →
+abbrev pub ListableConesArePointed : Type 0
+ListableConesArePointed = (cone : ListedCone) → IsListable cone → (y : Vector) →
     IsInConeOf cone.n cone.base cone.rows y → IsInConeOf cone.n cone.base cone.rows (map neg_ℤ y) → IsZero y
 
 -- a shown corner with a positive first entry

@@ -6,7 +6,7 @@ use Rattle.poly_num.specs.Vectors.{Vector, ◌·◌, IsZero, IsPrimitive, IsMult
 use Rattle.poly_model.specs.Independence.{Vanish}
 use Rattle.linear_laws.specs.Corners.{IsInConeOf}
 use Rattle.listing_laws.specs.ListedCone.{ListedCone, row_at}
-use Rattle.listing_laws.specs.Prefixes.{labels_of}
+use Rattle.listing_laws.specs.Prefixes.{marked_labels}
 
 -- a vector at which row k is not 0, and the base and the rows of the other labels are
 pub record DualVector (cone : ListedCone) (labels : List ℕ) (k : ℕ) : Type 0 where
@@ -30,9 +30,9 @@ pub record IsLeft (cone : ListedCone) (labels : List ℕ) (z : Vector) : Type 0 
 -- the base and the rows taken are one less than the width; they have dual vectors, and leave the direction z
 pub record LeavesOne (cone : ListedCone) (marks : List Bool) (z : Vector) : Type 0 where
   pub within : length marks ≤ length cone.rows
-  pub count : length cone.base + length (labels_of marks) + 1 ≡ cone.n
-  pub duals : DualVectors cone (labels_of marks)
-  pub left : IsLeft cone (labels_of marks) z
+  pub count : length cone.base + length (marked_labels marks) + 1 ≡ cone.n
+  pub duals : DualVectors cone (marked_labels marks)
+  pub left : IsLeft cone (marked_labels marks) z
 
 -- the local test: each row that is 0 at z is 0 at the dual vector of each later label
 abbrev pub PassesLocalTest : (cone : ListedCone) (labels : List ℕ) → DualVectors cone labels → Vector → Type 0

@@ -4,13 +4,13 @@ use Rattle.std.specs.List.{Contains}
 use Rattle.poly_num.specs.Vectors.{Vector}
 
 -- no vector stands twice
-abbrev pub AreDistinct : List Vector → Type 0
-AreDistinct [] = Unit {0}
-AreDistinct (x ∷ xs) = (Contains xs x → ⊥) × AreDistinct xs
+abbrev pub AreDistinctVectors : List Vector → Type 0
+AreDistinctVectors [] = Unit {0}
+AreDistinctVectors (x ∷ xs) = (Contains xs x → ⊥) × AreDistinctVectors xs
 
 -- the members of xs are exactly the vectors with P, each once
 pub record Lists (P : Vector → Type 0) (xs : List Vector) : Type 0 where
-  pub distinct : AreDistinct xs
+  pub distinct : AreDistinctVectors xs
   pub members : (y : Vector) → Contains xs y ↔ P y
 
 -- what is still to be listed are the vectors with Q: any list of them completes xs to one of those with P

@@ -22,14 +22,14 @@ labels_from k (true ∷ marks) = k ∷ labels_from (suc k) marks
 labels_from k (false ∷ marks) = labels_from (suc k) marks
 
 -- the labels of the rows that are marked
-abbrev pub labels_of : List Bool → List ℕ
-labels_of marks = labels_from 1 marks
+abbrev pub marked_labels : List Bool → List ℕ
+marked_labels marks = labels_from 1 marks
 
 -- y is a shown corner, and of the rows that have a mark its first independent list of tight rows has exactly
 -- those that are marked
-abbrev pub IsUnder : ListedCone → List Bool → Vector → Type 0
-IsUnder cone marks y = IsShownCorner cone y × AreFirstTight cone.n cone.base y cone.rows marks
+abbrev pub IsCornerUnder : ListedCone → List Bool → Vector → Type 0
+IsCornerUnder cone marks y = IsShownCorner cone y × AreFirstTight cone.n cone.base y cone.rows marks
 
 -- of the corners under a prefix these are listed, and those under the marks are left
 abbrev pub IsListedUpTo : ListedCone → List Bool → List Bool → List Vector → Type 0
-IsListedUpTo cone prefix marks listed = Goes (IsUnder cone prefix) (IsUnder cone marks) listed
+IsListedUpTo cone prefix marks listed = Goes (IsCornerUnder cone prefix) (IsCornerUnder cone marks) listed

@@ -5,7 +5,7 @@
 #![tactic(auto)]
 
 ghost use Rattle.listing_laws.specs.ConeLaws.{FirstBasisIsBase, NothingIsBase, ConeIsListable, ExtremeIsShownCorner};
-ghost use Rattle.listing_laws.specs.ConeLaws.{OnlyZeroHasItsOpposite, WholeListing};
+ghost use Rattle.listing_laws.specs.ConeLaws.{ListableConesArePointed, WholeListing};
 ghost use Rattle.listing_laws.specs.ConeLaws.{FeasibleByCorners, FeasibleByListing, FeasibleFileByListing};
 ghost use Rattle.listing_laws.specs.PrefixLaws.{EachHasOneList, ListIsFull, FollowingIsSkipped, NewIsTakenOrNot, NotBoth};
 ghost use Rattle.listing_laws.specs.PrefixLaws.{TakenGrows, TakenStays, NextRowHasNextLabel, LabelsAscend};
@@ -24,7 +24,7 @@ pub fn base()
 /// are the extreme vectors.
 pub fn cone_of_system()
     ensures listable { ConeIsListable }
-    ensures opposite { OnlyZeroHasItsOpposite }
+    ensures opposite { ListableConesArePointed }
     ensures corners { ExtremeIsShownCorner }
 {}
 

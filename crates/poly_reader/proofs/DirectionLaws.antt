@@ -13,7 +13,7 @@ use Rattle.poly_num.specs.Fractions.{Fraction, IsReduced}
 use Rattle.poly_num.proofs.Ring.{expand, lin, zero_mul}
 use Rattle.poly_num.proofs.DivisorLemmas.{gcd_of_is, gcd_positive, quotient_times}
 use Rattle.poly_num.proofs.PrimitiveLemmas.{DividesEach_from_dvd, gcd_of_all_divides, zero_from_gcd, primitive_left, scale-quotients}
-use Rattle.poly_reader.specs.Scaling.{lcm_of, size_of_den, common_den, numerators, entry_of, scaled}
+use Rattle.poly_reader.specs.Scaling.{lcm_of, size_of_den, common_den, numerators, entry_of, scaled_entries}
 use Rattle.poly_reader.specs.Laws.{IsTimes, IsDirectionOf, AreReduced}
 use Rattle.poly_reader.proofs.Multiples.{dvd_from_coprime, dvd-lcm_left, dvd-lcm_right, lcm-dvd, lcm_at_least}
 
@@ -88,13 +88,15 @@ one_den s n d c g q divides coprime positive e h =
     let t = s * c / g in
     let parts : t * d * g ≡ s * q * g =
     mul_right_comm t d g ∙ ap (λ (z : ℕ). z * d) (div-mul_cancel g h) ∙ product in
-    let same : d ∣ s * q = dvd_of_mul-dvd-mul_right d positive (subst (λ (z : ℕ). d * g ∣ z) parts (mul-dvd-mul_right d (dvd-mul_left d t) g)) in
+    let same : d ∣ s * q = dvd_of_mul-dvd-mul_right d positive
+    (subst (λ (z : ℕ). d * g ∣ z) parts (mul-dvd-mul_right d (dvd-mul_left d t) g)) in
     let one : gcd_of d s ≡ 1 =
     eq-one_of_dvd-one (coprime.2 (gcd_of d s) (dvd_trans _ (gcd_of_is d s).1 divides) (gcd_of_is d s).0) in
     dvd_from_coprime d s q one same
 
 -- the size of an entry
-size_of_entry : (p q : ℕ) (f : Fraction) → unsigned_abs (entry_of p q f) ≡ unsigned_abs (int_div f.num (pos p)) * (q / size_of_den f)
+size_of_entry : (p q : ℕ) (f : Fraction) →
+    unsigned_abs (entry_of p q f) ≡ unsigned_abs (int_div f.num (pos p)) * (q / size_of_den f)
 size_of_entry p q f = unsigned_abs-mul (int_div f.num (pos p)) (pos (q / size_of_den f))
 
 -- a numerator over the divisor divides the numerator
@@ -105,7 +107,8 @@ quotient_divides p num h =
     (dvd-mul_right (unsigned_abs (int_div num (pos p))) p)
 
 -- g divides the common denominator and all entries: what is left of the common denominator is still one
-still_common : (p q g r : ℕ) (row : List Fraction) → AreReduced row → DividesEach p (numerators row) → IsMultipleOfEach q row
+still_common : (p q g r : ℕ) (row : List Fraction) → AreReduced row → DividesEach p (numerators row) →
+    IsMultipleOfEach q row
     → 0 < g → r * g ≡ q → DividesEach g (map (entry_of p q) row) → IsMultipleOfEach r row
 still_common p q g r [] h k l lt e v = tt
 still_common p q g r (f ∷ row) h k l lt e v = (
@@ -139,10 +142,12 @@ divides_quotients p q d [] l one v = tt
 divides_quotients p q d (f ∷ row) l one v =
     let c = q / size_of_den f in
     let s = unsigned_abs (int_div f.num (pos p)) in
-    let c_divides : c ∣ q = subst (λ (n : ℕ). c ∣ n) (div-mul_cancel (size_of_den f) l.0) (dvd-mul_right c (size_of_den f)) in
+    let c_divides : c ∣ q =
+    subst (λ (n : ℕ). c ∣ n) (div-mul_cancel (size_of_den f) l.0) (dvd-mul_right c (size_of_den f)) in
     let both = gcd_of_is d c in
     let coprime : gcd_of d c ≡ 1 =
-    eq-one_of_dvd-one (subst (λ (n : ℕ). gcd_of d c ∣ n) one ((gcd_of_is d q).2 (gcd_of d c) both.0 (dvd_trans _ both.1 c_divides))) in
+    eq-one_of_dvd-one (subst (λ (n : ℕ). gcd_of d c ∣ n) one
+    ((gcd_of_is d q).2 (gcd_of d c) both.0 (dvd_trans _ both.1 c_divides))) in
     let product : d ∣ c * s = subst (λ (n : ℕ). d ∣ n) (size_of_entry p q f ∙ mul_comm s c) v.0 in
     (dvd_from_coprime d c s coprime product, divides_quotients p q d row l.1 one v.1)
 
@@ -202,6 +207,6 @@ by_divisor (suc g) row h e =
       );
     })
 
-pub scaled_direction : (row : List Fraction) → AreReduced row → IsDirectionOf row (scaled row)
-unfolding scaled common_den
+pub scaled_direction : (row : List Fraction) → AreReduced row → IsDirectionOf row (scaled_entries row)
+unfolding scaled_entries common_den
 scaled_direction row h = by_divisor (gcd_of_all (numerators row)) row h refl

@@ -48,14 +48,17 @@ unfolding each firsts
 firsts_step true test line w words e = rw (e, eqb-true w.line line e) refl
 firsts_step false test line w words e = rw e refl
 
-pub firsts_passed : (test : Word → Check) (line : ℕ) (w : Word) (words rest : List Word) (u : Unit {0}) → words ≡ w ∷ rest
+pub firsts_passed : (test : Word → Check) (line : ℕ) (w : Word) (words rest : List Word) (u : Unit {0}) →
+    words ≡ w ∷ rest
     → unless_on test line w ≡ Ok u → each test (firsts line words) ≡ each test (firsts w.line rest)
 firsts_passed test line w words rest u z e = rw z (firsts_step (w.line == line) test line w rest refl ∙ rw e refl)
 
-pub firsts_failed : (f : BadFile) (test : Word → Check) (line : ℕ) (w : Word) (words rest : List Word) → words ≡ w ∷ rest
+pub firsts_failed : (f : BadFile) (test : Word → Check) (line : ℕ) (w : Word) (words rest : List Word) →
+    words ≡ w ∷ rest
     → unless_on test line w ≡ Err f → each test (firsts line words) ≡ Err f
 firsts_failed f test line w words rest z e = rw z (firsts_step (w.line == line) test line w rest refl ∙ rw e refl)
 
-pub firsts_done : (test : Word → Check) (line : ℕ) (words : List Word) → words ≡ [] → each test (firsts line words) ≡ Ok tt
+pub firsts_done : (test : Word → Check) (line : ℕ) (words : List Word) → words ≡ [] →
+    each test (firsts line words) ≡ Ok tt
 unfolding each firsts
 firsts_done test line words z = rw z refl

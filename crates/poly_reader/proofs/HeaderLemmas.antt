@@ -24,5 +24,10 @@ either false = refl
 pub width_capped : (line n : ℕ) → width_within line (capped n) ≡ width_within line n
 width_capped line n = elim (cases_lt n (most_columns + 1)) [
   | inl narrow ↦ rw (small n (omega arith)) refl
-  | inr wide ↦ rw (over most_columns (capped n) (omega arith), over most_columns n (omega arith), either (capped n == 0), either (n == 0)) refl
+  | inr wide ↦ rw (
+    over most_columns (capped n) (omega arith),
+    over most_columns n (omega arith),
+    either (capped n == 0),
+    either (n == 0),
+  ) refl
 ]

@@ -78,7 +78,8 @@ unfolding each name_fault
 refused m name (inl e) le = rw (no_row_from_zero m name.row (omega arith)) refl
 refused m name (inr lt) le = rw (no_row_from_more m name.row (omega arith)) refl
 
-pub marked : (marks : List Bool) (name : Name) → capped name.row ≢ 0 → capped name.row ≤ length marks → length marks ≤ most_file_rows
+pub marked : (marks : List Bool) (name : Name) → capped name.row ≢ 0 → capped name.row ≤ length marks →
+    length marks ≤ most_file_rows
     → Marks (Ok tt) marks (slice_set marks (capped name.row - 1) true) (name ∷ [])
 unfolding each name_fault with_names
 marked marks name n le few =
@@ -132,7 +133,8 @@ or_nothing : (b : Bool) → b ≡ (b || false)
 or_nothing true = refl
 or_nothing false = refl
 
-mark_at : (m : ℕ) (names : List Name) (marks : List Bool) (k : ℕ) (d : Bool) (u : Unit {0}) → each (name_fault m) names ≡ Ok u
+mark_at : (m : ℕ) (names : List Name) (marks : List Bool) (k : ℕ) (d : Bool) (u : Unit {0}) →
+    each (name_fault m) names ≡ Ok u
     → k < length marks → get_or (with_names marks names) k d ≡ (get_or marks k d || is_named names (k + 1))
 unfolding with_names
 mark_at m [] marks k d u e lt = or_nothing (get_or marks k d)
@@ -166,7 +168,8 @@ unfolding checked_marks
 checked u m n names old new more e n_is h =
     let k : length old ≡ m = ap length e ∙ length-replicate m false in
     let g : each (name_fault m) names ≡ Ok tt = subst (λ (n : ℕ). each (name_fault n) names ≡ Ok tt) k h.0 in
-    let new_is : new ≡ marks_of m names = h.1 ∙ ap (λ (l : List Bool). with_names l names) e ∙ marked_all m names tt g in
+    let new_is : new ≡ marks_of m names = h.1 ∙ ap (λ (l : List Bool). with_names l names) e
+    ∙ marked_all m names tt g in
     let size : length new ≡ n = ap length h.1 ∙ length-with_names old names ∙ k ∙ sym n_is in
     let whole : take n (new ++ more) ≡ new =
     take-append-le n new more (omega arith) ∙ take_all n new (omega arith) in

@@ -13,10 +13,10 @@ use Rattle.poly_reader.specs.declared.bad.ParseStop.{ParseStop}
 use Rattle.poly_reader.specs.declared.bad.ParseStop.TheVariants as stops
 use Rattle.poly_reader.specs.Lines.{Word}
 use Rattle.poly_reader.specs.Matrix.{number_of, number_on}
-use Rattle.poly_reader.specs.Scaling.{scaled}
-use Rattle.poly_reader.specs.Rows.{numbers_in, row_of, row_fault, rows_from, line_of}
+use Rattle.poly_reader.specs.Scaling.{scaled_entries}
+use Rattle.poly_reader.specs.Rows.{numbers_in, checked_row, row_fault, rows_from, line_of_first}
 use Rattle.poly_reader.specs.FirstFault.{◌>>=◌, Check, bad, Stops}
-use Rattle.poly_reader.proofs.ScalingLemmas.{length-scaled}
+use Rattle.poly_reader.proofs.ScalingLemmas.{length-scaled_entries}
 
 -- ---- the numbers of a row
 
@@ -25,7 +25,8 @@ abbrev with_numbers : List Fraction → Result (List Fraction) BadFile → Resul
 with_numbers front read = read >>= λ others. Ok (front ++ others)
 
 -- with these numbers so far, the words that are left give what all of them give
-pub record IsInRow (last left : ℕ) (words : List Word) (front : List Fraction) (width : ℕ) (all : List Word) : Type 0 where
+pub record IsInRow (last left : ℕ) (words : List Word) (front : List Fraction) (width : ℕ)
+    (all : List Word) : Type 0 where
   pub same : with_numbers front (numbers_in last left words) ≡ numbers_in last width all
   pub rest : drop left words ≡ drop width all
   pub count : length front + left ≡ width
@@ -57,7 +58,8 @@ no_word last zero width words all front lt e at = absurd (omega arith)
 no_word last (suc left) width words all front lt e at = sym (rw e at at.same)
 
 pub no_number : (last left width : ℕ) (f : BadFile) (w : Word) (words rest all : List Word) (front : List Fraction)
-    → 0 < left → words ≡ w ∷ rest → number_on w.line (number_of w.text) ≡ Err f → IsInRow last left words front width all
+    → 0 < left → words ≡ w ∷ rest → number_on w.line (number_of w.text) ≡ Err f
+    → IsInRow last left words front width all
     → numbers_in last width all ≡ Err f
 unfolding numbers_in
 no_number last zero width f w words rest all front lt e h at = absurd (omega arith)
@@ -88,12 +90,12 @@ after_fault (Ok u) row row' e = cc
 after_fault (Err f) row row' e = absurd cc
 
 pub row_of_full : (kind : Kind) (linear : Bool) (line : ℕ) (xs : List Fraction) (es : Vector)
-    → row_of kind linear line xs ≡ Ok (record { entries = es; linear = linear }) → length es ≡ length xs
-unfolding row_of
+    → checked_row kind linear line xs ≡ Ok (record { entries = es; linear = linear }) → length es ≡ length xs
+unfolding checked_row
 row_of_full kind linear line xs es e =
-    let same = after_fault (row_fault kind linear line xs) (record { entries = scaled xs; linear = linear })
+    let same = after_fault (row_fault kind linear line xs) (record { entries = scaled_entries xs; linear = linear })
     (record { entries = es; linear = linear }) e in
-    ap (λ (r : FileRow). length r.entries) (sym same) ∙ length-scaled xs
+    ap (λ (r : FileRow). length r.entries) (sym same) ∙ length-scaled_entries xs
 
 -- ---- the rows
 
@@ -102,8 +104,10 @@ abbrev with_rows : List FileRow → Result (List FileRow) BadFile → Result (Li
 with_rows front read = read >>= λ others. Ok (front ++ others)
 
 -- with the cells of the first i rows, the words that are left give what all of them give
-pub record IsAt (last : ℕ) (kind : Kind) (n i : ℕ) (marks : List Bool) (words : List Word) (cells : Vector) (all : List Word) : Type 0 where
-  pub same : with_rows (file_rows_in n cells (take i marks)) (rows_from last kind n (drop i marks) words) ≡ rows_from last kind n marks all
+pub record IsAt (last : ℕ) (kind : Kind) (n i : ℕ) (marks : List Bool) (words : List Word) (cells : Vector)
+    (all : List Word) : Type 0 where
+  pub same : with_rows (file_rows_in n cells (take i marks)) (rows_from last kind n (drop i marks) words)
+      ≡ rows_from last kind n marks all
   pub full : length cells ≡ i * n
 
 with_no_row : (read : Result (List FileRow) BadFile) → with_rows [] read ≡ read
@@ -120,19 +124,24 @@ pub ends : (last : ℕ) (kind : Kind) (n i : ℕ) (marks : List Bool) (words all
     → rows_from last kind n marks all ≡ Ok (file_rows_in n cells marks)
 unfolding rows_from
 ends last kind n i marks words all cells le at =
-    let whole : with_rows (file_rows_in n cells marks) (rows_from last kind n [] words) ≡ rows_from last kind n marks all =
+    let whole : with_rows (file_rows_in n cells marks) (rows_from last kind n [] words)
+    ≡ rows_from last kind n marks all =
     rw (take_all i marks le, drop_all i marks le) at at.same in
     sym whole ∙ ap (λ (l : List FileRow). Ok l) (append-nil (file_rows_in n cells marks))
 
-pub numbers_fail : (stop : ParseStop) (last : ℕ) (kind : Kind) (n i : ℕ) (marks : List Bool) (words all : List Word) (cells : Vector)
+pub numbers_fail : (stop : ParseStop) (last : ℕ) (kind : Kind) (n i : ℕ) (marks : List Bool)
+    (words all : List Word) (cells : Vector)
     → i < length marks → Stops stop (numbers_in last n words) → IsAt last kind n i marks words cells all
     → Stops stop (rows_from last kind n marks all)
 unfolding rows_from
 numbers_fail stops.Memory last kind n i marks words all cells lt h at = tt
-numbers_fail (stops.Bad f) last kind n i marks words all cells lt h at = sym at.same ∙ rw (drop-cons marks i false lt, h) refl
+numbers_fail (stops.Bad f) last kind n i marks words all cells lt h at =
+    sym at.same ∙ rw (drop-cons marks i false lt, h) refl
 
-pub row_fails : (stop : ParseStop) (last : ℕ) (kind : Kind) (n i : ℕ) (mark : Bool) (xs : List Fraction) (marks : List Bool) (words all : List Word) (cells : Vector)
-    → i < length marks → mark ≡ get_or marks i false → numbers_in last n words ≡ Ok xs → Stops stop (row_of kind mark (line_of last words) xs) → IsAt last kind n i marks words cells all
+pub row_fails : (stop : ParseStop) (last : ℕ) (kind : Kind) (n i : ℕ) (mark : Bool) (xs : List Fraction)
+    (marks : List Bool) (words all : List Word) (cells : Vector)
+    → i < length marks → mark ≡ get_or marks i false → numbers_in last n words ≡ Ok xs
+    → Stops stop (checked_row kind mark (line_of_first last words) xs) → IsAt last kind n i marks words cells all
     → Stops stop (rows_from last kind n marks all)
 unfolding rows_from
 row_fails stops.Memory last kind n i mark xs marks words all cells lt m x h at = tt
@@ -153,7 +162,8 @@ regroup_rows : (front : List FileRow) (x : FileRow) (read : Result (List FileRow
 regroup_rows front x (Ok others) = ap (λ (l : List FileRow). Ok l) (simp append_assoc)
 regroup_rows front x (Err f) = refl
 
-one_row_more : (n i : ℕ) (mark : Bool) (marks : List Bool) (cells es : Vector) → i < length marks → mark ≡ get_or marks i false
+one_row_more : (n i : ℕ) (mark : Bool) (marks : List Bool) (cells es : Vector) → i < length marks →
+    mark ≡ get_or marks i false
     → length cells ≡ i * n → length es ≡ n
     → file_rows_in n (cells ++ es) (take (i + 1) marks)
     ≡ file_rows_in n cells (take i marks) ++ record { entries = es; linear = mark } ∷ []
@@ -161,20 +171,27 @@ one_row_more n i mark marks cells es lt m full size =
     let t : take (i + 1) marks ≡ take i marks ++ mark ∷ [] =
     take_more marks i false lt ∙ ap (λ (x : Bool). take i marks ++ x ∷ []) (sym m) in
     let k : length (take i marks) ≡ i = length-take-le i marks (omega arith) in
-    rw (t, rows_behind n cells es (take i marks) (mark ∷ []) (full ∙ ap (λ (j : ℕ). j * n) (sym k)), take_all n es (omega arith)) refl
+    rw (
+      t,
+      rows_behind n cells es (take i marks) (mark ∷ []) (full ∙ ap (λ (j : ℕ). j * n) (sym k)),
+      take_all n es (omega arith),
+    ) refl
 
-pub goes_on : (last : ℕ) (kind : Kind) (n i : ℕ) (mark : Bool) (xs : List Fraction) (marks : List Bool) (words rest all : List Word) (cells es more : Vector)
+pub goes_on : (last : ℕ) (kind : Kind) (n i : ℕ) (mark : Bool) (xs : List Fraction) (marks : List Bool)
+    (words rest all : List Word) (cells es more : Vector)
     → i < length marks → mark ≡ get_or marks i false → numbers_in last n words ≡ Ok xs
-    → row_of kind mark (line_of last words) xs ≡ Ok (record { entries = es; linear = mark }) → length es ≡ n
+    → checked_row kind mark (line_of_first last words) xs ≡ Ok (record { entries = es; linear = mark }) → length es ≡ n
     → rest ≡ drop n words → more ≡ cells ++ es → IsAt last kind n i marks words cells all
     → IsAt last kind n (i + 1) marks rest more all
 unfolding rows_from
 goes_on last kind n i mark xs marks words rest all cells es more lt m x h size r e at =
     let row : FileRow = record { entries = es; linear = mark } in
     let step : with_rows (file_rows_in n cells (take i marks)) (rows_from last kind n (drop i marks) words)
-    ≡ with_rows (file_rows_in n (cells ++ es) (take (i + 1) marks)) (rows_from last kind n (drop (i + 1) marks) (drop n words)) =
+    ≡ with_rows (file_rows_in n (cells ++ es) (take (i + 1) marks))
+    (rows_from last kind n (drop (i + 1) marks) (drop n words)) =
     rw (one_row_more n i mark marks cells es lt m at.full size, add-one, drop-cons marks i false lt, ← m, x, h)
-    (regroup_rows (file_rows_in n cells (take i marks)) row (rows_from last kind n (drop (suc i) marks) (drop n words))) in
+    (regroup_rows (file_rows_in n cells (take i marks)) row
+    (rows_from last kind n (drop (suc i) marks) (drop n words))) in
     record {
       same = rw (r, e) (sym step ∙ at.same);
       full = omega (arith, ap length e, length-append cells es, at.full, size, suc-mul i n);

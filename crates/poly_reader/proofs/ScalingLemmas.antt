@@ -14,7 +14,7 @@ use Rattle.poly_num.specs.Divisors.{gcd_of, gcd_of_all}
 use Rattle.poly_num.specs.Fractions.{Fraction}
 use Rattle.poly_num.proofs.DivisorLemmas.{gcd_same, gcd_of_comm, gcd_of_is, gcd_positive, zero-gcd_of}
 use Rattle.poly_num.proofs.PrimitiveLemmas.{gcd_along, gcd_at_end}
-use Rattle.poly_reader.specs.Scaling.{lcm_of, size_of_den, common_den, numerators, entry_of, scaled, is_wide_row, is_wide_entry, IsDen, IsCapped, AreEntries, IsScaled}
+use Rattle.poly_reader.specs.Scaling.{lcm_of, size_of_den, common_den, numerators, entry_of, scaled_entries, is_wide_row, is_wide_entry, IsDen, IsCapped, AreEntries, AreScaledEntries}
 use Rattle.poly_reader.proofs.Multiples.{lcm_at_least}
 
 -- ---- greatest common divisors with 1
@@ -81,7 +81,8 @@ narrow z h = lt-leb (2 ^ 127) (unsigned_abs z) h
 
 wide : (z : ℤ) → (IsNum z → ⊥) → is_wide_entry z ≡ true
 wide z h =
-    elim (cases_lt (unsigned_abs z) (2 ^ 127)) [ inl lt ↦ absurd (h lt) | inr le ↦ le-leb (2 ^ 127) (unsigned_abs z) le ]
+    elim (cases_lt (unsigned_abs z) (2 ^ 127))
+    [ inl lt ↦ absurd (h lt) | inr le ↦ le-leb (2 ^ 127) (unsigned_abs z) le ]
 
 pub entries_start : (p q : ℕ) (row : List Fraction) (es : Vector) → es ≡ [] → AreEntries p q (take 0 row) (Some es)
 entries_start p q row es e = (refl, e)
@@ -114,8 +115,8 @@ entries_end p q i row es le at = rw (take_all i row le) at at
 -- ---- the row
 
 pub row_scaled : (row : List Fraction) (p q : ℕ) (o : Option Vector) → IsCapped (common_den row) (Some q)
-    → p ≡ max (gcd_of_all (numerators row)) 1 → AreEntries p q row o → IsScaled row o
-unfolding scaled is_wide_row
+    → p ≡ max (gcd_of_all (numerators row)) 1 → AreEntries p q row o → AreScaledEntries row o
+unfolding scaled_entries is_wide_row
 row_scaled row p q None c e at = rw (lt-leb (2 ^ 127) (common_den row) c.1.0) (rw (c.1.1, e) at at)
 row_scaled row p q (Some es) c e at =
     let h = rw (c.1.1, e) at at in
@@ -132,6 +133,6 @@ pub ok_weaker : {T E : Type 0} (P Q : T → Type 0) (r : Result T E) → ((x : T
 ok_weaker P Q (Ok x) f h = f x h
 ok_weaker P Q (Err e) f h = h
 
-pub length-scaled : (row : List Fraction) → length (scaled row) ≡ length row
-unfolding scaled
-length-scaled row = length-map row (entry_of (max (gcd_of_all (numerators row)) 1) (common_den row))
+pub length-scaled_entries : (row : List Fraction) → length (scaled_entries row) ≡ length row
+unfolding scaled_entries
+length-scaled_entries row = length-map row (entry_of (max (gcd_of_all (numerators row)) 1) (common_den row))

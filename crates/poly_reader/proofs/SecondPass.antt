@@ -18,10 +18,12 @@ record IsLeft (last count : ℕ) (words : List Word) (m : Matrix) : Type 0 where
 same_count : (x y : Matrix) (r : Result Matrix BadFile) → r ≡ Ok x → r ≡ Ok y → x.count ≡ y.count
 same_count x y r e f = let k : x ≡ y = cc in ap (λ (z : Matrix). z.count) k
 
-count_at_end : (b : Bool) (rows : Option ℕ) (n count line : ℕ) (words : List Word) (m : Matrix) → is_enough rows n count ≡ b
+count_at_end : (b : Bool) (rows : Option ℕ) (n count line : ℕ) (words : List Word) (m : Matrix) →
+    is_enough rows n count ≡ b
     → ended rows n count line words ≡ Ok m → count ≡ m.count
 count_at_end true rows n count line words m t e =
-    same_count (record { count = count; end_line = line; words = words }) m (ended rows n count line words) (rw t refl) e
+    same_count (record { count = count; end_line = line; words = words }) m (ended rows n count line words)
+    (rw t refl) e
 count_at_end false rows n count line words m t e = absurd (cc (rw t at e))
 
 no_more : (last count : ℕ) (words : List Word) (m : Matrix) → count ≡ m.count → IsLeft last count words m
@@ -51,7 +53,8 @@ left_from last rows n count (w ∷ words) m e =
   where
     by : (b c : Bool) (r : Result Fraction BadFile) → is_word w (codes "end") ≡ b → (count == most rows n) ≡ c
         → number_on w.line (number_of w.text) ≡ r
-        → (matrix_of last rows n (count + 1) words ≡ Ok m → IsLeft last (count + 1) words m) → IsLeft last count (w ∷ words) m
+        → (matrix_of last rows n (count + 1) words ≡ Ok m → IsLeft last (count + 1) words m)
+        → IsLeft last count (w ∷ words) m
     by true c r p q k f =
         no_more last count (w ∷ words) m (count_at_end (is_enough rows n count) rows n count w.line words m refl
         (sym (at_end last rows n count w (w ∷ words) words refl p) ∙ e))
@@ -59,9 +62,11 @@ left_from last rows n count (w ∷ words) m e =
     by false false (Err b) p q k f =
         let z = sym (no_number last rows n count b w (w ∷ words) words refl p q k) ∙ e in absurd cc
     by false false (Ok x) p q k f =
-        one_more last count x w words m k (f (one_number last rows n count w (w ∷ words) words refl p q (rw k refl) ∙ e))
+        one_more last count x w words m k
+        (f (one_number last rows n count w (w ∷ words) words refl p q (rw k refl) ∙ e))
 
-pub read_again : (last : ℕ) (rows : Option ℕ) (n : ℕ) (words : List Word) (m : Matrix) → matrix_of last rows n 0 words ≡ Ok m
+pub read_again : (last : ℕ) (rows : Option ℕ) (n : ℕ) (words : List Word) (m : Matrix) →
+    matrix_of last rows n 0 words ≡ Ok m
     → AreReadAgain last m.count words
 read_again last rows n words m e =
     let h = left_from last rows n 0 words m e in

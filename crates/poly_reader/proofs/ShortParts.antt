@@ -49,7 +49,8 @@ pub whole_sizes : (word : List ℕ) (v : ℕ) → IsValue v word
     → (numerator_of word ≡ Some v) × (denominator_of word ≡ Some 1)
 whole_sizes word v h =
     let fails : (k : ℕ) → k < length word → is_slash (get_or word k 0) ≡ false =
-    λ k lt. digit_no_slash word (length word) k (rw (take_all (length word) word (omega arith)) h.digits) (omega arith) lt in
+    λ k lt. digit_no_slash word (length word) k (rw (take_all (length word) word (omega arith)) h.digits)
+    (omega arith) lt in
     let at : position_or_len is_slash word ≡ length word =
     position_or_len_is is_slash word (length word) 0 (omega arith) fails (λ lt. absurd (omega arith)) in (
       rw (at, take_all (length word) word (omega arith)) (count_is v word h),

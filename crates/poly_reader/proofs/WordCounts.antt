@@ -30,5 +30,6 @@ unfolding pieces
 words_below number n line words e lt =
     let few = split_filled line in
     let same : length (words_on number line) ≡ filled (slice_split is_blank line) =
-    length-map (filter is_nonempty (slice_split is_blank line)) (λ (text : List ℕ). record { text = text; line = number }) in
+    length-map (filter is_nonempty (slice_split is_blank line))
+    (λ (text : List ℕ). record { text = text; line = number }) in
     subst (λ (w : Line). length w < n) e (omega arith)

@@ -19,8 +19,8 @@ abbrev pub rows_within : ℕ → ℕ → Result (Option ℕ) BadFile
 rows_within line m = if nat_lt most_file_rows m then bad TooManyRows line else Ok (Some m)
 
 -- the first word: `*****`, or how many rows there are
-unfoldable pub rows_of : Word → Result (Option ℕ) BadFile
-rows_of w =
+unfoldable pub rows_announced : Word → Result (Option ℕ) BadFile
+rows_announced w =
     if is_word w (codes "*****") then Ok None
     else (or_bad BadHeader w.line (count_of w.text) >>= rows_within w.line)
 
@@ -44,7 +44,7 @@ next_and last (w ∷ words) f = f w words
 -- the header in front of these words
 unfoldable pub size_of : ℕ → List Word → Result Size BadFile
 size_of last words = next_and last words (λ m words. do
-  rows ← rows_of m
+  rows ← rows_announced m
   next_and last words (λ n words. do
     width ← width_of n
     next_and last words (λ t words. do

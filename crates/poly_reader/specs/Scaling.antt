@@ -28,8 +28,8 @@ abbrev pub entry_of : ℕ → ℕ → Fraction → ℤ
 entry_of p q f = int_div f.num (pos p) *ℤ pos (q / size_of_den f)
 
 -- the entries of a row of fractions in lowest terms; a row of zeros stays one
-unfoldable pub scaled : List Fraction → Vector
-scaled row = map (entry_of (max (gcd_of_all (numerators row)) 1) (common_den row)) row
+unfoldable pub scaled_entries : List Fraction → Vector
+scaled_entries row = map (entry_of (max (gcd_of_all (numerators row)) 1) (common_den row)) row
 
 -- the size of the number is too large
 abbrev pub is_wide_entry : ℤ → Bool
@@ -37,12 +37,12 @@ is_wide_entry z = is_wide (unsigned_abs z)
 
 -- the least common denominator or an entry is too wide
 unfoldable pub is_wide_row : List Fraction → Bool
-is_wide_row row = is_wide (common_den row) || list_any is_wide_entry (scaled row)
+is_wide_row row = is_wide (common_den row) || list_any is_wide_entry (scaled_entries row)
 
 -- none exactly where a row is too wide, and else its entries
-abbrev pub IsScaled : List Fraction → Option Vector → Type 0
-IsScaled row None = is_wide_row row ≡ true
-IsScaled row (Some entries) = (is_wide_row row ≡ false) × (entries ≡ scaled row)
+abbrev pub AreScaledEntries : List Fraction → Option Vector → Type 0
+AreScaledEntries row None = is_wide_row row ≡ true
+AreScaledEntries row (Some entries) = (is_wide_row row ≡ false) × (entries ≡ scaled_entries row)
 
 -- the size of a denominator
 pub record IsDen (n : ℕ) : Type 0 where

@@ -3,7 +3,7 @@ ghost use Rattle.std.specs.Prelude.{◌≡◌, ◌≤◌, ◌<◌, IfOk, IfSome}
 ghost use Rattle.poly_model.specs.Limits.{most_columns, most_file_rows};
 ghost use Rattle.poly_reader.specs.Lines.{word};
 ghost use Rattle.poly_reader.specs.FirstFault.{Gives};
-ghost use Rattle.poly_reader.specs.Header.{rows_of, rows_within, width_of, width_within, type_fault, size_of, size};
+ghost use Rattle.poly_reader.specs.Header.{rows_announced, rows_within, width_of, width_within, type_fault, size_of, size};
 
 use crate::bad::bad;
 use crate::lines::{Token, is};
@@ -32,9 +32,9 @@ fn rows_within(m: u128, line: u64) -> Result<Option<usize>, BadFile>
     }
 }
 
-#[tactic(auto, unfolding(crate::specs::Header::rows_of), using(crate::proofs::HeaderLemmas::rows_capped))]
+#[tactic(auto, unfolding(crate::specs::Header::rows_announced), using(crate::proofs::HeaderLemmas::rows_capped))]
 fn rows(w: Token) -> Result<Option<usize>, BadFile>
-    ensures gives { Gives (λ x. x) result (rows_of (word w.entry)) }
+    ensures gives { Gives (λ x. x) result (rows_announced (word w.entry)) }
     ensures few { IfOk result (λ rows. IfSome rows (λ m. m ≤ most_file_rows)) }
 {
     if is(w.text, b"*****") {

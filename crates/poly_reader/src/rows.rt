@@ -3,8 +3,8 @@ ghost use Rattle.std.specs.Prelude.{◌≡◌, ◌≤◌, ◌<◌, ◌*◌, leng
 ghost use Rattle.poly_model.specs.Limits.{most_columns, most_file_rows};
 ghost use Rattle.poly_model.specs.Tables.{file_rows_in};
 ghost use Rattle.poly_reader.specs.FirstFault.{Gives, Parses};
-ghost use Rattle.poly_reader.specs.Scaling.{scaled};
-ghost use Rattle.poly_reader.specs.Rows.{is_zero, is_one, first_fault, kind_fault, row_of, numbers_in, line_of, rows_from};
+ghost use Rattle.poly_reader.specs.Scaling.{scaled_entries};
+ghost use Rattle.poly_reader.specs.Rows.{is_zero_fraction, is_one_fraction, first_fault, kind_fault, checked_row, numbers_in, line_of_first, rows_from};
 
 use crate::bad::bad;
 use crate::matrix::number_at;
@@ -15,14 +15,14 @@ use poly_model::Kind;
 use poly_num::{Frac, Num};
 use std::alloc::Global;
 
-fn is_zero(f: Frac) -> bool
-    ensures { result ≡ is_zero f }
+fn is_zero_fraction(f: Frac) -> bool
+    ensures { result ≡ is_zero_fraction f }
 {
     f.num() == Num::ZERO
 }
 
-fn is_one(f: Frac) -> bool
-    ensures { result ≡ is_one f }
+fn is_one_fraction(f: Frac) -> bool
+    ensures { result ≡ is_one_fraction f }
 {
     f.num() == Num::ONE && f.den() == Num::ONE
 }
@@ -31,13 +31,13 @@ fn is_one(f: Frac) -> bool
 fn check_first_number(linear: bool, line: u64, f: Frac) -> Result<(), BadFile>
     ensures { Gives (λ x. x) result (first_fault linear line f) }
 {
-    if is_one(f) {
+    if is_one_fraction(f) {
         if linear {
             return Err(bad(BadKind::LinearPoint, line));
         }
         return Ok(());
     }
-    if !is_zero(f) {
+    if !is_zero_fraction(f) {
         return Err(bad(BadKind::BadFirst, line));
     }
     Ok(())
@@ -53,7 +53,7 @@ fn check_kind(kind: Kind, linear: bool, line: u64, f: Frac) -> Result<(), BadFil
 }
 
 // The entries of the row of these numbers, which begin on this line.
-#[tactic(auto, unfolding(crate::specs::Rows::row_of, crate::specs::Rows::row_fault))]
+#[tactic(auto, unfolding(crate::specs::Rows::checked_row, crate::specs::Rows::row_fault))]
 fn entries_of(
     alloc: Global,
     kind: Kind,
@@ -63,7 +63,7 @@ fn entries_of(
 ) -> Result<Vec<Num>, ParseStop>
     requires { 0 < length numbers.now }
     ensures row { Parses (λ v. record { entries = v.items; linear = linear }) result
-        (row_of kind linear line numbers.now) }
+        (checked_row kind linear line numbers.now) }
     ensures full { IfOk result (λ v. length v.items ≡ length numbers.now) }
 {
     check_kind(kind, linear, line, numbers[0])?;
@@ -99,8 +99,8 @@ fn numbers_of<'a>(
     Ok((numbers, words))
 }
 
-fn line_of(words: &Words, last: u64) -> u64
-    ensures { result ≡ line_of last words.now }
+fn line_of_first(words: &Words, last: u64) -> u64
+    ensures { result ≡ line_of_first last words.now }
 {
     match words.next() {
         Some((w, _)) => w.line,
@@ -128,7 +128,7 @@ pub fn table(
     let mut cells = Vec::with_capacity(alloc, marks.len() * width)?;
     let mut words = words;
     'rows: for mark in marks {
-        let line = line_of(&words, last);
+        let line = line_of_first(&words, last);
         let (numbers, rest) = numbers_of(alloc, width, words, last)?;
         let entries = entries_of(alloc, kind, *mark, line, &numbers)?;
         cells.extend_from_slice(&entries)?;

@@ -3,7 +3,7 @@ ghost use Rattle.std.specs.Prelude.{◌≡◌, ℕ, pos, int_div, ◌/◌, ◌%�
 ghost use Rattle.std.specs.Option.{SomeIff};
 ghost use Rattle.poly_num.specs.Numbers.{IsNum};
 ghost use Rattle.poly_num.specs.Divisors.{gcd_of, gcd_of_all};
-ghost use Rattle.poly_reader.specs.Scaling.{lcm_of, common_den, numerators, entry_of, IsScaled, IsCapped, AreEntries, IsDen, size_of_den};
+ghost use Rattle.poly_reader.specs.Scaling.{lcm_of, common_den, numerators, entry_of, AreScaledEntries, IsCapped, AreEntries, IsDen, size_of_den};
 
 use poly_num::{Frac, Num, gcd, mul, quotient};
 use std::alloc::{AllocError, Global};
@@ -134,7 +134,7 @@ fn entries(alloc: Global, row: &[Frac], p: u128, q: u128) -> Result<Option<Vec<N
 
 /// The entries of a row of fractions; none where the row is too wide.
 pub fn scaled_row(alloc: Global, row: &[Frac]) -> Result<Option<Vec<Num>>, AllocError>
-    ensures { IfOk result (λ o. IsScaled row.now (option_map (λ v. v.items) o)) }
+    ensures { IfOk result (λ o. AreScaledEntries row.now (option_map (λ v. v.items) o)) }
 {
     match common_denominator(row) {
         Some(q) => entries(alloc, row, common_numerator(row).max(1), q),

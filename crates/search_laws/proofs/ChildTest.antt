@@ -10,12 +10,12 @@ use Rattle.poly_model.specs.LexOrder.{rows_in, IsEarlier}
 use Rattle.poly_model.specs.Tree.{IsRowDictionary, IsLexFeasible, Leaves, MayEnter, IsNeighbour, IsParent, exchanged_key}
 use Rattle.dictionary_laws.specs.Keys.{AreDistinct, Exchanges}
 use Rattle.search_laws.specs.Shares.{IsChild}
-use Rattle.search_laws.specs.ChildTest.{moved, downward, LeadsUp, WouldEnter, IsDown}
+use Rattle.search_laws.specs.ChildTest.{neighbour_entry, downward, LeadsUp, WouldEnter, IsDown}
 use Rattle.tree_laws.proofs.Numbers.{key_row}
 use Rattle.tree_laws.proofs.OrderLemmas.{backwards_within_only, one_is_earlier, not_earlier_and_later}
 use Rattle.tree_laws.proofs.Neighbours.{minus_positive, neighbour_exchanges, neighbour_dictionary, neighbour_feasible}
 use Rattle.tree_laws.proofs.Back.{neighbour_back}
-use Rattle.search_laws.proofs.MovedColumns.{positive_at_members, column_r, column_j}
+use Rattle.search_laws.proofs.NeighbourColumns.{positive_at_members, column_r, column_j}
 
 module _ (space : Space) (root key new : List ℕ) (t u : Table) (f : IsLexFeasible space root key t)
     (g : IsLexFeasible space root new u) (s : ℕ) (n : IsNeighbour space.labels root key t s new) where
@@ -62,7 +62,7 @@ module _ (space : Space) (root key new : List ℕ) (t u : Table) (f : IsLexFeasi
 
     at_j : (q : ℕ) → Contains (downward space.labels root) q →
         (neg_ℤ (t.entry n.r s) *ℤ t.denominator) *ℤ neg_ℤ (u.entry q j)
-        ≡ u.denominator *ℤ neg_ℤ (moved t s n.r j q)
+        ≡ u.denominator *ℤ neg_ℤ (neighbour_entry t s n.r j q)
     at_j q c =
         column_j space key new t u f.dictionary g.dictionary s n.r n.column n.leaves.row there j m o q
         (backwards_within_only space root q c).0
@@ -70,12 +70,13 @@ module _ (space : Space) (root key new : List ℕ) (t u : Table) (f : IsLexFeasi
     enters_would : MayEnter space.labels root u j → WouldEnter t s n.r j (downward space.labels root)
     enters_would =
         positive_at_members (neg_ℤ (t.entry n.r s) *ℤ t.denominator) u.denominator factor_up up_there
-        (λ q. neg_ℤ (u.entry q j)) (λ q. neg_ℤ (moved t s n.r j q)) (downward space.labels root) at_j
+        (λ q. neg_ℤ (u.entry q j)) (λ q. neg_ℤ (neighbour_entry t s n.r j q)) (downward space.labels root) at_j
 
     would_enters : WouldEnter t s n.r j (downward space.labels root) → MayEnter space.labels root u j
     would_enters =
         positive_at_members u.denominator (neg_ℤ (t.entry n.r s) *ℤ t.denominator) up_there factor_up
-        (λ q. neg_ℤ (moved t s n.r j q)) (λ q. neg_ℤ (u.entry q j)) (downward space.labels root) (λ q c. sym (at_j q c))
+        (λ q. neg_ℤ (neighbour_entry t s n.r j q)) (λ q. neg_ℤ (u.entry q j)) (downward space.labels root)
+        (λ q c. sym (at_j q c))
 
   module _ (distinct : AreDistinct (rows_in space.labels)) where
     -- at a child the row that took the place enters

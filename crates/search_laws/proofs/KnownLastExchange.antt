@@ -5,41 +5,27 @@ use Rattle.std.proofs.Common.{◌≡◌, ◌≢◌, ◌⊎◌, inl, inr, ◌≤�
 use Rattle.std.specs.Prelude.{◌≤ℤ◌, ◌<ℤ◌}
 use Rattle.std.proofs.lemmas.Int.{ints}
 use Rattle.poly_num.specs.Vectors.{Vector}
-use Rattle.poly_model.specs.Spaces.{Space, HasPoints, lifted}
+use Rattle.poly_model.specs.Spaces.{Space}
 use Rattle.poly_model.specs.Dictionaries.{Table}
-use Rattle.poly_model.specs.LexOrder.{IsNonnegative, rows_in, order, IsEarlier}
-use Rattle.poly_model.specs.Tree.{IsRowOutside, Leaves}
+use Rattle.poly_model.specs.LexOrder.{IsNonnegative, order, IsEarlier}
+use Rattle.poly_model.specs.Tree.{Leaves}
 use Rattle.poly_model.specs.Lowering.{IsLoweringStep, IsLowest}
-use Rattle.poly_model.specs.PhaseOne.{IsFirstWorst, lowering_root, IsLastColumn, IsLastExchange, GivesByPhaseOne}
+use Rattle.poly_model.specs.PhaseOne.{IsFirstWorst, IsLastColumn, IsLastExchange, GivesByPhaseOne}
 use Rattle.linear_laws.proofs.Members.{all_at}
-use Rattle.dictionary_laws.specs.Keys.{AreDistinct}
-use Rattle.dictionary_laws.proofs.KeyExchange.{ascending_distinct}
-use Rattle.tree_laws.proofs.OrderLemmas.{row_outside}
-use Rattle.tree_laws.proofs.KnownTables.{space_of, has_points, table_of, IsSolved, solved, one_is_least}
+use Rattle.tree_laws.proofs.KnownTables.{table_of, IsSolved, solved}
 use Rattle.tree_laws.proofs.KnownTests.{leaves}
-use Rattle.search_laws.specs.PhaseOne.{HasNoRowZero}
 use Rattle.search_laws.proofs.GivenRoots.{given_one}
-use Rattle.search_laws.proofs.KnownRoots.{table_with_t}
+use Rattle.search_laws.proofs.KnownPhaseOne.{table_with_t, space_with, start, first_with, root, first_has_points, start_is_solved, root_is_solved, both_rows, no_row_zero, rows_are_distinct}
 
--- rows 1: x >= 0, 2: x - 1 >= 0, 3: 1 - x >= 0
-abbrev rows : List Vector
-rows =
-    (pos 0 ∷ pos 1 ∷ [])
-    ∷ (negsuc 0 ∷ pos 1 ∷ [])
-    ∷ (pos 1 ∷ negsuc 0 ∷ [])
-    ∷ []
+-- row 3: 1 - x >= 0
+abbrev third : Vector
+third = pos 1 ∷ negsuc 0 ∷ []
 
 abbrev point : Space
-point = space_of 2 rows
-
-abbrev start : List ℕ
-start = 1 ∷ []
+point = space_with third
 
 abbrev first : Space
-first = lifted point start
-
-abbrev root : List ℕ
-root = 1 ∷ 2 ∷ []
+first = first_with third
 
 -- ---- the dictionaries
 -- at 0
@@ -78,47 +64,14 @@ last =
     )
 
 wrong_is_solved : IsSolved point start wrong
-wrong_is_solved = record {
-  points = has_points 2 rows (pos 0 ∷ []) refl;
-  ascending = (tt, tt);
-  rows = ((0, omega arith, refl), tt);
-  directions = (pos 0 ∷ pos 1 ∷ []) ∷ [];
-  flat = ((refl, tt, refl), tt);
-  independent = ((tt, λ e. cc), tt);
-  enough = λ a b e v.
-      let f = v.0 in
-      (omega (arith, ints), (omega (arith, ints), tt));
-  positive = omega (arith, ints);
-  lines = (refl, (refl, (refl, (refl, tt))));
-  least = one_is_least point start wrong refl;
-}
-
-first_has_points : HasPoints first
-first_has_points = record {
-  vector = pos 0 ∷ pos 1 ∷ pos 0 ∷ [];
-  inside = record { width = refl; fixed = tt };
-  finite = λ e. cc;
-}
+wrong_is_solved = start_is_solved third wrong refl (refl, (refl, (refl, (refl, tt))))
 
 before_is_solved : IsSolved first root before
-before_is_solved = record {
-  points = first_has_points;
-  ascending = ((omega arith, tt), (tt, tt));
-  rows = ((1, omega arith, refl), ((2, omega arith, refl), tt));
-  directions = (pos 0 ∷ pos 0 ∷ pos 1 ∷ []) ∷ (pos 1 ∷ pos 0 ∷ pos 0 ∷ []) ∷ [];
-  flat = ((refl, tt, refl), ((refl, tt, refl), tt));
-  independent = ((tt, λ e. cc), (((refl, tt), λ e. cc), tt));
-  enough = λ a b c e v.
-      let f = v.0 in let g = v.1.0 in
-      (omega (arith, ints), (omega (arith, ints), (omega (arith, ints), tt)));
-  positive = omega (arith, ints);
-  lines = (refl, (refl, (refl, (refl, (refl, tt)))));
-  least = one_is_least first root before refl;
-}
+before_is_solved = root_is_solved third before refl (refl, (refl, (refl, (refl, (refl, tt)))))
 
 last_is_solved : IsSolved first (2 ∷ 3 ∷ []) last
 last_is_solved = record {
-  points = first_has_points;
+  points = first_has_points third;
   ascending = ((omega arith, tt), (tt, tt));
   rows = ((2, omega arith, refl), ((3, omega arith, refl), tt));
   directions = (pos 0 ∷ pos 0 ∷ pos 1 ∷ []) ∷ (pos 1 ∷ pos 0 ∷ negsuc 0 ∷ []) ∷ [];
@@ -136,9 +89,6 @@ last_is_solved = record {
 }
 
 -- ---- row 2 takes the place of t
-both_rows : (P : ℕ → Type 0) → P 2 → P 3 → (i : ℕ) → IsRowOutside point.labels start i → P i
-both_rows P p q i o = all_at P (2 ∷ 3 ∷ []) (p, (q, tt)) i (row_outside point start i o)
-
 worst : IsFirstWorst point start wrong 2
 worst = record {
   worst = record {
@@ -147,13 +97,10 @@ worst = record {
       outside = λ c. all_at (λ k. k ≡ 2 → ⊥) start (λ e. omega arith, tt) 2 c refl;
     };
     negative = omega (arith, ints);
-    least = both_rows (λ i. wrong.constant 2 ≤ℤ wrong.constant i) (omega (arith, ints)) (omega (arith, ints));
+    least = both_rows third (λ i. wrong.constant 2 ≤ℤ wrong.constant i) (omega (arith, ints)) (omega (arith, ints));
   };
-  first = λ i w. both_rows (λ k. 2 ≤ k) (omega arith) (omega arith) i w.row;
+  first = λ i w. both_rows third (λ k. 2 ≤ k) (omega arith) (omega arith) i w.row;
 }
-
-first_key : lowering_root start 2 ≡ root
-first_key = refl
 
 -- ---- t is lowered in the column of row 1: at the same value of it t and row 3 are 0, and row 3 leaves
 row_leaves : Leaves first.labels root root before 1 3
@@ -224,15 +171,6 @@ root_is_given = record {
   });
 }
 
-no_row_zero : HasNoRowZero point
-no_row_zero c =
-    all_at (λ k. k ≡ 0 → ⊥) point.labels
-    (λ e. omega arith, (λ e. omega arith, (λ e. omega arith, (λ e. omega arith, tt)))) 0 c refl
-
-rows_are_distinct : AreDistinct (rows_in point.labels)
-rows_are_distinct =
-    ascending_distinct (rows_in point.labels) ((omega arith, (omega arith, tt)), ((omega arith, tt), (tt, tt)))
-
 -- and no other
 only_root : (other : List ℕ) → GivesByPhaseOne point start other → 2 ∷ [] ≡ other
-only_root other g = given_one point start no_row_zero rows_are_distinct (2 ∷ []) other root_is_given g
+only_root other g = given_one point start (no_row_zero third) (rows_are_distinct third) (2 ∷ []) other root_is_given g

@@ -4,48 +4,27 @@ use Rattle.std.proofs.Common.{◌≡◌, ◌⊎◌, inl, inr, ◌≤◌, ℕ, �
 use Rattle.std.specs.Prelude.{◌≤ℤ◌, ◌<ℤ◌}
 use Rattle.std.proofs.lemmas.Int.{ints}
 use Rattle.poly_num.specs.Vectors.{Vector}
-use Rattle.poly_model.specs.Spaces.{Space, HasPoints, lifted}
+use Rattle.poly_model.specs.Spaces.{Space}
 use Rattle.poly_model.specs.Dictionaries.{Table}
-use Rattle.poly_model.specs.LexOrder.{rows_in, outside, IsEarlier}
-use Rattle.poly_model.specs.Tree.{IsRowOutside, Leaves}
+use Rattle.poly_model.specs.LexOrder.{outside, IsEarlier}
+use Rattle.poly_model.specs.Tree.{Leaves}
 use Rattle.poly_model.specs.Lowering.{IsLoweringStep, IsLowest}
-use Rattle.poly_model.specs.PhaseOne.{IsFirstWorst, lowering_root, GivesByPhaseOne}
+use Rattle.poly_model.specs.PhaseOne.{IsFirstWorst, GivesByPhaseOne}
 use Rattle.linear_laws.proofs.Members.{all_at}
-use Rattle.dictionary_laws.specs.Keys.{AreDistinct}
-use Rattle.dictionary_laws.proofs.KeyExchange.{ascending_distinct}
-use Rattle.tree_laws.proofs.OrderLemmas.{row_outside}
-use Rattle.tree_laws.proofs.KnownTables.{space_of, has_points, number_at, line_of, table_of, IsSolved, solved, one_is_least}
+use Rattle.tree_laws.proofs.KnownTables.{table_of, IsSolved, solved, one_is_least}
 use Rattle.tree_laws.proofs.KnownTests.{leaves}
-use Rattle.search_laws.specs.PhaseOne.{HasNoRowZero}
 use Rattle.search_laws.proofs.GivenRoots.{given_one}
+use Rattle.search_laws.proofs.KnownPhaseOne.{table_with_t, space_with, start, first_with, root, first_has_points, start_is_solved, root_is_solved, both_rows, no_row_zero, rows_are_distinct}
 
--- a table whose key may have the label 0, by the constant and the entries of each label
-abbrev pub table_with_t : ℤ → List ℕ → List ℕ → List ℤ → List (List ℤ) → Table
-table_with_t denominator key labels constants lines = record {
-  denominator = denominator;
-  constant = λ i. number_at i labels constants;
-  entry = λ i k. number_at k key (line_of i labels lines);
-}
-
--- rows 1: x >= 0, 2 and 3: x - 1 >= 0
-abbrev rows : List Vector
-rows =
-    (pos 0 ∷ pos 1 ∷ [])
-    ∷ (negsuc 0 ∷ pos 1 ∷ [])
-    ∷ (negsuc 0 ∷ pos 1 ∷ [])
-    ∷ []
+-- row 3: x - 1 >= 0, as row 2
+abbrev third : Vector
+third = negsuc 0 ∷ pos 1 ∷ []
 
 abbrev half_line : Space
-half_line = space_of 2 rows
-
-abbrev start : List ℕ
-start = 1 ∷ []
+half_line = space_with third
 
 abbrev first : Space
-first = lifted half_line start
-
-abbrev root : List ℕ
-root = 1 ∷ 2 ∷ []
+first = first_with third
 
 -- ---- the dictionaries
 -- at 0
@@ -84,47 +63,14 @@ last =
     )
 
 wrong_is_solved : IsSolved half_line start wrong
-wrong_is_solved = record {
-  points = has_points 2 rows (pos 0 ∷ []) refl;
-  ascending = (tt, tt);
-  rows = ((0, omega arith, refl), tt);
-  directions = (pos 0 ∷ pos 1 ∷ []) ∷ [];
-  flat = ((refl, tt, refl), tt);
-  independent = ((tt, λ e. cc), tt);
-  enough = λ a b e v.
-      let f = v.0 in
-      (omega (arith, ints), (omega (arith, ints), tt));
-  positive = omega (arith, ints);
-  lines = (refl, (refl, (refl, (refl, tt))));
-  least = one_is_least half_line start wrong refl;
-}
-
-first_has_points : HasPoints first
-first_has_points = record {
-  vector = pos 0 ∷ pos 1 ∷ pos 0 ∷ [];
-  inside = record { width = refl; fixed = tt };
-  finite = λ e. cc;
-}
+wrong_is_solved = start_is_solved third wrong refl (refl, (refl, (refl, (refl, tt))))
 
 before_is_solved : IsSolved first root before
-before_is_solved = record {
-  points = first_has_points;
-  ascending = ((omega arith, tt), (tt, tt));
-  rows = ((1, omega arith, refl), ((2, omega arith, refl), tt));
-  directions = (pos 0 ∷ pos 0 ∷ pos 1 ∷ []) ∷ (pos 1 ∷ pos 0 ∷ pos 0 ∷ []) ∷ [];
-  flat = ((refl, tt, refl), ((refl, tt, refl), tt));
-  independent = ((tt, λ e. cc), (((refl, tt), λ e. cc), tt));
-  enough = λ a b c e v.
-      let f = v.0 in let g = v.1.0 in
-      (omega (arith, ints), (omega (arith, ints), (omega (arith, ints), tt)));
-  positive = omega (arith, ints);
-  lines = (refl, (refl, (refl, (refl, (refl, tt)))));
-  least = one_is_least first root before refl;
-}
+before_is_solved = root_is_solved third before refl (refl, (refl, (refl, (refl, (refl, tt)))))
 
 last_is_solved : IsSolved first (0 ∷ 2 ∷ []) last
 last_is_solved = record {
-  points = first_has_points;
+  points = first_has_points third;
   ascending = ((omega arith, tt), (tt, tt));
   rows = ((0, omega arith, refl), ((2, omega arith, refl), tt));
   directions = (pos 1 ∷ pos 0 ∷ pos 0 ∷ []) ∷ (pos 0 ∷ pos 0 ∷ pos 1 ∷ []) ∷ [];
@@ -142,9 +88,6 @@ last_is_solved = record {
 rows_outside_start : outside half_line.labels start ≡ 2 ∷ 3 ∷ []
 rows_outside_start = refl
 
-both_rows : (P : ℕ → Type 0) → P 2 → P 3 → (i : ℕ) → IsRowOutside half_line.labels start i → P i
-both_rows P p q i o = all_at P (2 ∷ 3 ∷ []) (p, (q, tt)) i (row_outside half_line start i o)
-
 worst : IsFirstWorst half_line start wrong 2
 worst = record {
   worst = record {
@@ -153,16 +96,13 @@ worst = record {
       outside = λ c. all_at (λ k. k ≡ 2 → ⊥) start (λ e. omega arith, tt) 2 c refl;
     };
     negative = omega (arith, ints);
-    least = both_rows (λ i. wrong.constant 2 ≤ℤ wrong.constant i) (omega (arith, ints)) (omega (arith, ints));
+    least = both_rows third (λ i. wrong.constant 2 ≤ℤ wrong.constant i) (omega (arith, ints)) (omega (arith, ints));
   };
-  first = λ i w. both_rows (λ k. 2 ≤ k) (omega arith) (omega arith) i w.row;
+  first = λ i w. both_rows third (λ k. 2 ≤ k) (omega arith) (omega arith) i w.row;
 }
 
 second_is_not_first : IsFirstWorst half_line start wrong 3 → ⊥
 second_is_not_first w = let l = w.first 2 worst.worst in omega (arith, l)
-
-first_key : lowering_root start 2 ≡ root
-first_key = refl
 
 -- ---- t is lowered in the column of row 1, and takes its place
 t_leaves : Leaves first.labels root root before 1 0
@@ -203,15 +143,7 @@ root_is_given = record {
   });
 }
 
-no_row_zero : HasNoRowZero half_line
-no_row_zero c =
-    all_at (λ k. k ≡ 0 → ⊥) half_line.labels
-    (λ e. omega arith, (λ e. omega arith, (λ e. omega arith, (λ e. omega arith, tt)))) 0 c refl
-
-rows_are_distinct : AreDistinct (rows_in half_line.labels)
-rows_are_distinct =
-    ascending_distinct (rows_in half_line.labels) ((omega arith, (omega arith, tt)), ((omega arith, tt), (tt, tt)))
-
 -- and no other
 only_root : (other : List ℕ) → GivesByPhaseOne half_line start other → 2 ∷ [] ≡ other
-only_root other g = given_one half_line start no_row_zero rows_are_distinct (2 ∷ []) other root_is_given g
+only_root other g =
+    given_one half_line start (no_row_zero third) (rows_are_distinct third) (2 ∷ []) other root_is_given g

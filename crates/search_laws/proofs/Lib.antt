@@ -17,14 +17,15 @@ pub mod Gathered
 pub mod Weights
 pub mod Splits
 pub mod Visits
-pub mod MovedColumns
+pub mod NeighbourColumns
 pub mod ChildTest
-pub mod MovedSigns
+pub mod NeighbourSigns
 pub mod ShareOnce
 pub mod AnyShown
 pub mod RootShare
 pub mod MainStart
 pub mod SearchRoots
+pub mod KnownPhaseOne
 pub mod KnownRoots
 pub mod SubtreeShares
 pub mod SubtreeRuns

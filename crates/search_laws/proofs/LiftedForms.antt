@@ -1,16 +1,16 @@
 -- The vectors of a lifted space, which have one entry more in front, and the values of labels at them.
-use Rattle.std.proofs.Common.{◌≡◌, ◌≢◌, ℕ, suc, Bool, true, false, cond, List, [], ◌∷◌, ℤ, pos, ◌+ℤ◌, ◌*ℤ◌, map, refl, sym, ap, ◌∙◌, arith}
+use Rattle.std.proofs.Common.{◌≡◌, ◌≢◌, ℕ, suc, Bool, true, false, cond, List, [], ◌∷◌, ℤ, pos, ◌+ℤ◌, ◌*ℤ◌, refl, sym, ap, ◌∙◌, arith}
 use Rattle.std.specs.Prelude.{◌==◌}
 use Rattle.std.specs.List.{Contains}
 use Rattle.std.proofs.lemmas.Bool.{eqb-true}
 use Rattle.std.proofs.lemmas.Int.{ints}
 use Rattle.poly_num.specs.Vectors.{Vector, ◌·◌}
 use Rattle.poly_num.proofs.VectorLemmas.{dot-zero}
-use Rattle.poly_model.specs.Independence.{Vanish}
-use Rattle.poly_model.specs.Spaces.{Space, IsInside, IsDirection, in_front, is_row, is_member, lift_of, lifted}
+use Rattle.poly_model.specs.Spaces.{Space, IsInside, IsDirection, is_row, is_member, lift_of, lifted}
 use Rattle.linear_laws.proofs.Entries.{zeros, length-zeros, IsZero-zeros}
 use Rattle.dictionary_laws.proofs.Directions.{times_zero, vanish_zero}
 use Rattle.dictionary_laws.proofs.Filters.{member_has, member_only}
+use Rattle.tree_laws.proofs.ExtremesOfPoints.{front_vanish, behind_vanish}
 
 -- ---- one entry more in front
 skip : (x v : ℤ) → pos 0 *ℤ x +ℤ v ≡ v
@@ -21,14 +21,6 @@ once x v = omega (arith, ints)
 
 alone : (x : ℤ) → pos 1 *ℤ x +ℤ pos 0 ≡ x
 alone x = omega (arith, ints)
-
-vanish_front : (gs : List Vector) (x : ℤ) (z : Vector) → Vanish gs z → Vanish (map in_front gs) (x ∷ z)
-vanish_front [] x z h = tt
-vanish_front (g ∷ gs) x z h = (skip x (g · z) ∙ h.0, vanish_front gs x z h.1)
-
-vanish_rest : (gs : List Vector) (x : ℤ) (z : Vector) → Vanish (map in_front gs) (x ∷ z) → Vanish gs z
-vanish_rest [] x z h = tt
-vanish_rest (g ∷ gs) x z h = (sym (skip x (g · z)) ∙ h.0, vanish_rest gs x z h.1)
 
 pub not_zero : (k : ℕ) → k ≢ 0 → (k == 0) ≡ false
 not_zero k n = by (k == 0) refl
@@ -42,11 +34,11 @@ module _ (space : Space) (start : List ℕ) where
   first = lifted space start
 
   pub inside_front : (x : ℤ) (z : Vector) → IsInside space z → IsInside first (x ∷ z)
-  inside_front x z h = record { width = ap suc h.width; fixed = vanish_front space.fixed x z h.fixed }
+  inside_front x z h = record { width = ap suc h.width; fixed = front_vanish space.fixed x z h.fixed }
 
   pub inside_rest : (x : ℤ) (z : Vector) → IsInside first (x ∷ z) → IsInside space z
   inside_rest x z h =
-      record { width = let w = h.width in omega (arith, w); fixed = vanish_rest space.fixed x z h.fixed }
+      record { width = let w = h.width in omega (arith, w); fixed = behind_vanish space.fixed x z h.fixed }
 
   -- the value at infinity is that of the rest
   pub same_infinity : (x : ℤ) (z : Vector) → first.infinity · (x ∷ z) ≡ space.infinity · z

@@ -9,8 +9,8 @@ use Rattle.dictionary_laws.specs.Keys.{AreDistinct}
 use Rattle.search_laws.specs.Shares.{IsChild}
 
 -- row q in column j after the exchange of s and r, times a positive number
-abbrev pub moved : Table → ℕ → ℕ → ℕ → ℕ → ℤ
-moved t s r j q = neg_ℤ (t.entry r s) *ℤ t.entry q j +ℤ t.entry q s *ℤ t.entry r j
+abbrev pub neighbour_entry : Table → ℕ → ℕ → ℕ → ℕ → ℤ
+neighbour_entry t s r j q = neg_ℤ (t.entry r s) *ℤ t.entry q j +ℤ t.entry q s *ℤ t.entry r j
 
 -- the rows of the root, the greatest first
 abbrev pub downward : List ℕ → List ℕ → List ℕ
@@ -22,7 +22,7 @@ LeadsUp labels root t s = IsPositive (map (λ q. t.entry q s) (downward labels r
 
 -- the first of these rows that would not be 0 in the column of j after the exchange would be negative there
 abbrev pub WouldEnter : Table → ℕ → ℕ → ℕ → List ℕ → Type 0
-WouldEnter t s r j qs = IsPositive (map (λ q. neg_ℤ (moved t s r j q)) qs)
+WouldEnter t s r j qs = IsPositive (map (λ q. neg_ℤ (neighbour_entry t s r j q)) qs)
 
 -- column s leads up, and after the exchange no label before r would enter in its place
 pub record IsDown (labels root key : List ℕ) (t : Table) (s r : ℕ) : Type 0 where
@@ -39,11 +39,11 @@ ChildByTest =
     IsChild space root key (exchanged_key key s r) ↔ IsDown space.labels root key t s r
 
 -- how the sign in the column of another label j of the key is found, without products
-pub record AreMoved (labels root key : List ℕ) (t : Table) (s r j : ℕ) : Type 0 where
+pub record AreNeighbourEntries (labels root key : List ℕ) (t : Table) (s r j : ℕ) : Type 0 where
   -- rows r, s and j after the exchange
-  pub at_r : moved t s r j r ≡ pos 0
-  pub at_s : moved t s r j s ≡ t.denominator *ℤ t.entry r j
-  pub at_j : moved t s r j j ≡ neg_ℤ (t.entry r s) *ℤ t.denominator
+  pub at_r : neighbour_entry t s r j r ≡ pos 0
+  pub at_s : neighbour_entry t s r j s ≡ t.denominator *ℤ t.entry r j
+  pub at_j : neighbour_entry t s r j j ≡ neg_ℤ (t.entry r s) *ℤ t.denominator
   -- row r is 0 in the column: it is as it was
   pub kept : t.entry r j ≡ pos 0 → WouldEnter t s r j (downward labels root) ↔ MayEnter labels root t j
   -- rows that are 0 in both columns do not count
@@ -57,7 +57,7 @@ pub record AreMoved (labels root key : List ℕ) (t : Table) (s r j : ℕ) : Typ
   pub j_first : (q : ℕ) (qs : List ℕ) → t.entry q s ≡ pos 0 → t.entry q j ≢ pos 0 →
       WouldEnter t s r j (q ∷ qs) ↔ (t.entry q j <ℤ pos 0)
 
-abbrev pub MovedSigns : Type 0
-MovedSigns =
+abbrev pub NeighbourSigns : Type 0
+NeighbourSigns =
     (space : Space) (root key : List ℕ) (t : Table) → IsRowDictionary space key t → (s r j : ℕ) → Contains key s →
-    Contains key j → j ≢ s → t.entry r s <ℤ pos 0 → AreMoved space.labels root key t s r j
+    Contains key j → j ≢ s → t.entry r s <ℤ pos 0 → AreNeighbourEntries space.labels root key t s r j

@@ -34,7 +34,7 @@ ghost use Rattle.search_laws.specs.Weights.{WeightsAddUp, RootWeighsAll};
 ghost use Rattle.search_laws.specs.Splits.{RunsSplit};
 ghost use Rattle.search_laws.specs.SharesOnce.{SharesOnce};
 ghost use Rattle.search_laws.specs.SharesOfListings.{RootShareIsListing, SharesOfListings, RunsPartListings};
-ghost use Rattle.search_laws.specs.ChildTest.{ChildByTest, MovedSigns};
+ghost use Rattle.search_laws.specs.ChildTest.{ChildByTest, NeighbourSigns};
 
 /// A cobasis of rows with t is a cobasis of the space of phase one, and its numbers are there those that it has.
 pub fn start_with_t()
@@ -206,8 +206,8 @@ pub fn child_by_test()
 {}
 
 /// How the sign in another column after the exchange is found from this dictionary, without products.
-pub fn moved_signs()
-    ensures { MovedSigns }
+pub fn neighbour_signs()
+    ensures { NeighbourSigns }
 {}
 
 /// All tables of a key serve alike: it is feasible by each, and what is shown is shown by each.

@@ -31,12 +31,12 @@ use Rattle.tree_laws.proofs.MainLabels.{main_in, meets_linear, meets_other, met_
 front_value : (g : Vector) (x : ℤ) (v : Vector) → in_front g · (x ∷ v) ≡ g · v
 front_value g x v = omega (arith, lin, zero_mul x)
 
-front_vanish : (gs : List Vector) (x : ℤ) (v : Vector) → Vanish gs v → Vanish (map in_front gs) (x ∷ v)
+pub front_vanish : (gs : List Vector) (x : ℤ) (v : Vector) → Vanish gs v → Vanish (map in_front gs) (x ∷ v)
 front_vanish gs x v h =
     all_to_map (λ g. g · (x ∷ v) ≡ pos 0) in_front gs
     (all_weaker (λ g. g · v ≡ pos 0) (λ g. in_front g · (x ∷ v) ≡ pos 0) (λ g e. front_value g x v ∙ e) gs h)
 
-behind_vanish : (gs : List Vector) (x : ℤ) (v : Vector) → Vanish (map in_front gs) (x ∷ v) → Vanish gs v
+pub behind_vanish : (gs : List Vector) (x : ℤ) (v : Vector) → Vanish (map in_front gs) (x ∷ v) → Vanish gs v
 behind_vanish gs x v h =
     all_weaker (λ g. in_front g · (x ∷ v) ≡ pos 0) (λ g. g · v ≡ pos 0) (λ g e. sym (front_value g x v) ∙ e) gs
     (all_from_map (λ g. g · (x ∷ v) ≡ pos 0) in_front gs h)

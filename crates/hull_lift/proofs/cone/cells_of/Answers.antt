@@ -10,6 +10,8 @@ rows-preserved c =
     let rows = c.args.poly.now.rows in
     let within : c.rows.i < length rows = omega arith in
     record {
-      cells = rw (c.in_ok-extend_from_slice.ensures.items, c.rows.invariant.cells, c.row_at.ensures.value) (sym (cells_of_one_more rows c.rows.i within));
-      width = All-more (HasWidth c.args.poly.now.n) rows c.rows.i no_file_row within c.rows.invariant.width (rw c.row_at.ensures.value at c.row_at.ensures.width);
+      cells = rw (c.in_ok-extend_from_slice.ensures.items, c.rows.invariant.cells, c.row_at.ensures.value)
+          (sym (cells_of_one_more rows c.rows.i within));
+      width = All-more (HasWidth c.args.poly.now.n) rows c.rows.i no_file_row within c.rows.invariant.width
+          (rw c.row_at.ensures.value at c.row_at.ensures.width);
     }

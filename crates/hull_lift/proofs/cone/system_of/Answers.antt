@@ -9,7 +9,8 @@ pub new-requires-clause-shape : goal.new-requires-clause-shape
 new-requires-clause-shape c =
     let p = c.args.poly.now in
     record {
-      full = rw (c.n-n.ensures.value, c.in_ok-cells.ensures.value, c.in_ok-linear.ensures.value) (full_cells p.n p.rows c.in_ok-cells.ensures.width);
+      full = rw (c.n-n.ensures.value, c.in_ok-cells.ensures.value, c.in_ok-linear.ensures.value)
+          (full_cells p.n p.rows c.in_ok-cells.ensures.width);
       few = omega (arith, c.in_ok-linear.ensures.few);
       some = c.n-n.ensures.some;
       narrow = c.n-n.ensures.narrow;
@@ -19,15 +20,29 @@ pub returns-then-has_point : goal.returns-then-has_point
 returns-then-has_point c =
     let p = c.args.poly.now in
     let point : list_any is_point_kind (row_kinds p.kind p.rows) ≡ true =
-    ap (list_any is_point_kind) (sym (c.deref.ensures.value ∙ c.in_ok-kinds.ensures)) ∙ sym c.has_point.ensures ∙ c.if-has_point.true in
-    rw (c.new.ensures, c.kind-kind.ensures, c.n-n.ensures.value, c.in_ok-cells.ensures.value, c.in_ok-linear.ensures.value, c.in_ok-kinds.ensures)
+    ap (list_any is_point_kind) (sym (c.deref.ensures.value ∙ c.in_ok-kinds.ensures)) ∙ sym c.has_point.ensures
+    ∙ c.if-has_point.true in
+    rw (
+      c.new.ensures,
+      c.kind-kind.ensures,
+      c.n-n.ensures.value,
+      c.in_ok-cells.ensures.value,
+      c.in_ok-linear.ensures.value,
+      c.in_ok-kinds.ensures,
+    )
     (cone_with_point p c.in_ok-cells.ensures.width point)
 
 pub new-requires-2-clause-shape : goal.new-requires-2-clause-shape
 new-requires-2-clause-shape c =
     let p = c.args.poly.now in
     record {
-      full = rw (c.in_ok-append_first_unit.ensures, c.in_ok-push.ensures.items, c.n-n.ensures.value, c.in_ok-cells.ensures.value, c.in_ok-linear.ensures.value)
+      full = rw (
+        c.in_ok-append_first_unit.ensures,
+        c.in_ok-push.ensures.items,
+        c.n-n.ensures.value,
+        c.in_ok-cells.ensures.value,
+        c.in_ok-linear.ensures.value,
+      )
           (full_with_added p.n p.rows (rw c.n-n.ensures.value at c.n-n.ensures.some) c.in_ok-cells.ensures.width);
       few = omega (arith, c.in_ok-push.ensures.len, c.in_ok-linear.ensures.few);
       some = c.n-n.ensures.some;
@@ -38,6 +53,18 @@ pub returns : goal.returns
 returns c =
     let p = c.args.poly.now in
     let none : list_any is_point_kind (row_kinds p.kind p.rows) ≡ false =
-    ap (list_any is_point_kind) (sym (c.deref.ensures.value ∙ c.in_ok-kinds.ensures)) ∙ sym c.has_point.ensures ∙ c.if-has_point.false in
-    rw (c.new-2.ensures, c.in_ok-append_first_unit.ensures, c.in_ok-push.ensures.items, c.in_ok-push-2.ensures.items, c.added_kind.ensures, c.in_ok-cells.ensures.value, c.in_ok-linear.ensures.value, c.in_ok-kinds.ensures, c.kind-kind.ensures, c.n-n.ensures.value)
+    ap (list_any is_point_kind) (sym (c.deref.ensures.value ∙ c.in_ok-kinds.ensures)) ∙ sym c.has_point.ensures
+    ∙ c.if-has_point.false in
+    rw (
+      c.new-2.ensures,
+      c.in_ok-append_first_unit.ensures,
+      c.in_ok-push.ensures.items,
+      c.in_ok-push-2.ensures.items,
+      c.added_kind.ensures,
+      c.in_ok-cells.ensures.value,
+      c.in_ok-linear.ensures.value,
+      c.in_ok-kinds.ensures,
+      c.kind-kind.ensures,
+      c.n-n.ensures.value,
+    )
     (cone_without_point p (rw c.n-n.ensures.value at c.n-n.ensures.some) c.in_ok-cells.ensures.width none)

@@ -10,6 +10,10 @@ coordinates-preserved c =
     let within : j < length c.coordinates.out = omega (arith, c.coordinates.invariant.width) in
     record {
       width = length-set c.coordinates.out j c.coordinate_in.result ∙ c.coordinates.invariant.width;
-      written = rw (take_more_set c.coordinates.out j c.coordinate_in.result within, c.coordinates.invariant.written, c.coordinate_in.ensures)
+      written = rw (
+        take_more_set c.coordinates.out j c.coordinate_in.result within,
+        c.coordinates.invariant.written,
+        c.coordinate_in.ensures,
+      )
           (sym (map-range_with_len_more (coordinate_in c.args.dict.now c.args.col.0) 0 j j (omega arith)));
     }

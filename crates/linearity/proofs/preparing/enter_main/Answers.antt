@@ -5,8 +5,9 @@ use Rattle.linearity.proofs.Consistency.{is_prepared}
 use Rattle.linearity.proofs.preparing.enter_main.Goals as goal
 
 pub returns : goal.returns
-returns c p file reduced =
+returns c p file ended =
     is_prepared p c.args.sys.now c.args.at c.in_ok-dict.dict c.in_ok-lines.lines c.in_ok-free.free.items file
-    c.in_ok-free.ensures.ascending reduced c.in_ok-free.ensures.columns
+    c.in_ok-free.ensures.ascending ended c.in_ok-free.ensures.columns
     (subst (λ n. c.in_ok-lines.lines ≡ coordinate_vectors c.args.at n) c.n-n.ensures.value c.in_ok-lines.ensures.value)
-    (subst (λ free. EntersMainPhase c.args.at c.args.sys.now free c.in_ok-dict.dict) c.deref.ensures.value c.in_ok-dict.ensures)
+    (subst (λ free. EntersMainPhase c.args.at c.args.sys.now free c.in_ok-dict.dict) c.deref.ensures.value
+    c.in_ok-dict.ensures)

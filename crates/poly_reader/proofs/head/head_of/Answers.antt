@@ -8,7 +8,8 @@ returns-in-None c = rw c.bad.ensures (ends c.args.last c.lines.kind c.lines.line
 pub returns-in_err-rest : goal.returns-in_err-rest
 returns-in_err-rest c =
     let p = err_from_is_err_and c.from_residual.result c.from_residual.ensures.1 in
-    rw (p.1, p.2) (fails c.args.last c.in_err-rest.field-0.0 c.lines.kind c.lines.lines _ c.in-Some.next.1 c.in-Some.next.0
+    rw (p.1, p.2)
+    (fails c.args.last c.in_err-rest.field-0.0 c.lines.kind c.lines.lines _ c.in-Some.next.1 c.in-Some.next.0
     c.in-Some.ensures c.in_err-rest.ensures.0 c.in_err-rest.ensures.1 c.lines.invariant)
 
 pub returns-in-Begin : goal.returns-in-Begin

@@ -7,7 +7,8 @@ use Rattle.poly_reader.proofs.matrix.extent_of.Goals as goal
 
 pub returns-in-None-clause-gives : goal.returns-in-None-clause-gives
 returns-in-None-clause-gives c =
-    rw c.bad.ensures (sym c.numbers.invariant.same ∙ no_end c.args.last c.args.rows c.args.width c.numbers.count c.numbers.words
+    rw c.bad.ensures
+    (sym c.numbers.invariant.same ∙ no_end c.args.last c.args.rows c.args.width c.numbers.count c.numbers.words
     c.in-None.ensures)
 
 pub returns-then-is-clause-gives : goal.returns-then-is-clause-gives

@@ -13,6 +13,7 @@ unfolding value_of
 digits-preserved c =
     let text = c.args.text.now in let i = c.digits.i in
     record {
-      value = rw (fold_more with_digit_of 0 text i 0 c.digits-test.true, ← c.digits.invariant.value) c.in-Some.ensures.1;
+      value = rw (fold_more with_digit_of 0 text i 0 c.digits-test.true, ← c.digits.invariant.value)
+          c.in-Some.ensures.1;
       digits = rw (list_all_more is_digit text i 0 c.digits-test.true, c.digits.invariant.digits) c.in-Some.ensures.0;
     }

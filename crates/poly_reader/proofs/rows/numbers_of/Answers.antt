@@ -10,13 +10,15 @@ numbers-init c =
 
 pub returns-in-None-clause-numbers : goal.returns-in-None-clause-numbers
 returns-in-None-clause-numbers c =
-    rw c.bad.ensures (no_word c.args.last c.numbers.left c.args.width c.numbers.words c.args.words c.numbers.numbers.items
+    rw c.bad.ensures
+    (no_word c.args.last c.numbers.left c.args.width c.numbers.words c.args.words c.numbers.numbers.items
     c.numbers-test.true c.in-None.ensures c.numbers.invariant)
 
 pub returns-in_err-number_at-clause-numbers : goal.returns-in_err-number_at-clause-numbers
 returns-in_err-number_at-clause-numbers c =
     let p = err_from_is_err_and c.from_residual-in_err-number_at.result c.from_residual-in_err-number_at.ensures.1 in
-    rw (p.1, p.2) (no_number c.args.last c.numbers.left c.args.width c.in_err-number_at.field-0.0 (word c.in-Some.next.0)
+    rw (p.1, p.2)
+    (no_number c.args.last c.numbers.left c.args.width c.in_err-number_at.field-0.0 (word c.in-Some.next.0)
     c.numbers.words c.in-Some.next.1 c.args.words c.numbers.numbers.items c.numbers-test.true c.in-Some.ensures
     (sym c.in_err-number_at.ensures) c.numbers.invariant)
 

@@ -16,15 +16,16 @@ returns-in_err-entries-clause-rows c =
     rw (p.1, p.2) (row_fails c.in_err-entries.field-0.0 c.args.last c.args.kind c.args.width c.rows.mark-index _
     c.in_ok-numbers.numbers.items c.args.marks.now c.rows.words c.args.words c.rows.cells.items c.rows-test.true refl
     c.in_ok-numbers.ensures.numbers
-    (rw (← c.line_of-line.ensures, ← c.deref.ensures.value) c.in_err-entries.ensures.row) c.rows.invariant)
+    (rw (← c.line_of_first-line.ensures, ← c.deref.ensures.value) c.in_err-entries.ensures.row) c.rows.invariant)
 
 pub rows-preserved : goal.rows-preserved
 rows-preserved c =
     rw c.in_ok-extend_from_slice.ensures.items
     (goes_on c.args.last c.args.kind c.args.width c.rows.mark-index _ c.in_ok-numbers.numbers.items c.args.marks.now
-    c.rows.words c.in_ok-numbers.rest c.args.words c.rows.cells.items c.in_ok-entries.entries.items _ c.rows-test.true refl
+    c.rows.words c.in_ok-numbers.rest c.args.words c.rows.cells.items c.in_ok-entries.entries.items
+    _ c.rows-test.true refl
     c.in_ok-numbers.ensures.numbers
-    (rw (← c.line_of-line.ensures, ← c.deref.ensures.value) c.in_ok-entries.ensures.row)
+    (rw (← c.line_of_first-line.ensures, ← c.deref.ensures.value) c.in_ok-entries.ensures.row)
     (c.in_ok-entries.ensures.full ∙ ap length c.deref.ensures.value ∙ c.in_ok-numbers.ensures.full)
     c.in_ok-numbers.ensures.rest (ap (λ l. c.rows.cells.items ++ l) c.deref-in-rows.ensures.value) c.rows.invariant)
 

@@ -10,7 +10,8 @@ returns-then-is_multiple c =
     (omega (arith, e, c.requires.left.within), e)
 
 pub over_size-left-requires : goal.over_size-left-requires
-over_size-left-requires c = rw c.gcd_of_sizes.ensures.value (divisor_positive c.args.a c.args.b c.requires.right.positive)
+over_size-left-requires c =
+    rw c.gcd_of_sizes.ensures.value (divisor_positive c.args.a c.args.b c.requires.right.positive)
 
 pub returns-then-m : goal.returns-then-m
 returns-then-m c =

@@ -9,7 +9,8 @@ returns-in_err-start-clause-word c =
     (sym c.word_at.ensures ∙ c.in_err-start.was))
 
 pub returns-in_err-start-clause-few : goal.returns-in_err-start-clause-few
-returns-in_err-start-clause-few c = words_below c.self.inside.line _ c.self.inside.rest.now _ c.self.view_is c.self.invariant
+returns-in_err-start-clause-few c =
+    words_below c.self.inside.line _ c.self.inside.rest.now _ c.self.view_is c.self.invariant
 
 pub returns-in-Some-clause-word : goal.returns-in-Some-clause-word
 returns-in-Some-clause-word c =

@@ -1,5 +1,5 @@
 -- The columns of a neighbour, from the numbers of the dictionary: that of the row that took the place is that of the
--- label turned, and each other one has the moved numbers, up to positive factors.
+-- label turned, and each other one has the neighbour entries, up to positive factors.
 use Rattle.std.proofs.Common.{◌≡◌, ◌≢◌, inl, inr, ℕ, Bool, true, false, cond, List, [], ◌∷◌, ℤ, pos, ◌+ℤ◌, ◌-ℤ◌, ◌*ℤ◌, neg_ℤ, map, refl, sym, ap, subst, ◌∙◌, arith}
 use Rattle.std.specs.Prelude.{◌<ℤ◌, ◌==◌, Some}
 use Rattle.std.specs.List.{Contains}
@@ -16,7 +16,7 @@ use Rattle.dictionary_laws.proofs.Members.{sum_single}
 use Rattle.dictionary_laws.proofs.Directions.{times_zero}
 use Rattle.dictionary_laws.proofs.Duals.{distinct}
 use Rattle.dictionary_laws.proofs.Values.{own_row}
-use Rattle.search_laws.specs.ChildTest.{moved}
+use Rattle.search_laws.specs.ChildTest.{neighbour_entry}
 use Rattle.tree_laws.proofs.Numbers.{row_is_label, number_at, number_inside, composed_entry}
 use Rattle.tree_laws.proofs.Levels.{itself, itself_apart, level}
 use Rattle.tree_laws.proofs.Exchange.{exchanged_level}
@@ -77,7 +77,7 @@ module _ (space : Space) (key new : List ℕ) (t u : Table) (d : IsRowDictionary
       (IsOwnRow.elsewhere (own_row space new e.dictionary.cobasis u e.dictionary.writes k (x.kept k m n)) r x.entering
       (λ f. o.outside (subst (Contains key) (sym f) m)))))
 
-  -- that of another label has the moved numbers
+  -- that of another label has the neighbour entries
   module _ (j : ℕ) (m : Contains key j) (n : j ≢ s) where
     level_r : level key t r (Some j) ≡ neg_ℤ (t.entry r j)
     level_r =
@@ -88,7 +88,8 @@ module _ (space : Space) (key new : List ℕ) (t u : Table) (d : IsRowDictionary
         less a b c e f = omega (arith, lin)
 
     pub column_j : (q : ℕ) → Contains (rows_in space.labels) q →
-        (neg_ℤ (t.entry r s) *ℤ t.denominator) *ℤ neg_ℤ (u.entry q j) ≡ u.denominator *ℤ neg_ℤ (moved t s r j q)
+        (neg_ℤ (t.entry r s) *ℤ t.denominator) *ℤ neg_ℤ (u.entry q j)
+        ≡ u.denominator *ℤ neg_ℤ (neighbour_entry t s r j q)
     column_j q l =
         solved_either (j == q) t.denominator u.denominator (t.entry r s) (t.entry q s) (t.entry q j) (t.entry r j)
         (u.entry q j)

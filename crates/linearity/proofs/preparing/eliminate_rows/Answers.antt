@@ -10,23 +10,23 @@ use Rattle.linearity.proofs.Beginnings.{second_pass}
 use Rattle.poly_model.specs.Due.{IsDue, IsAskedBefore}
 use Rattle.linearity.proofs.Consistency.{consistent_exactly}
 use Rattle.linearity.proofs.DueOverflows.{due_in_first, due_in_second}
-use Rattle.linearity.proofs.preparing.reduce.Goals as goal
+use Rattle.linearity.proofs.preparing.eliminate_rows.Goals as goal
 
 -- the overflow that is handed on
 same_overflow : (x o : Passed) → IsErrOf {T = Unit {0}} {E = PrepareStop} (Err (Overflow x)) (Overflow o) → x ≡ o
 same_overflow x o h = cc
 
 pub returns-in-Err-clause-overflow : goal.returns-in-Err-clause-overflow
-returns-in-Err-clause-overflow c o h p file unreduced =
+returns-in-Err-clause-overflow c o h p file begun =
     subst (λ x. IsDue p x (IsAskedBefore p x)) (same_overflow c.in-Err.overflow o h)
     (due_in_first p c.args.sys.now c.in-Err.ensures.stopped.0 c.args.at.now c.enter_rows.new.at c.in-Err.overflow file
-    unreduced.of (c.enter_rows.ensures.phase ∙ unreduced.phase) unreduced.untried c.in-Err.ensures.stopped.1)
+    begun.of (c.enter_rows.ensures.phase ∙ begun.phase) begun.untried c.in-Err.ensures.stopped.1)
 
 pub returns-in-Err-enter_rows-clause-overflow : goal.returns-in-Err-enter_rows-clause-overflow
-returns-in-Err-enter_rows-clause-overflow c o h p file unreduced =
-    let first = c.in_default.ensures.entered p file unreduced.of
-    (subst (λ (s : System). IsEliminated s.rows false 1 c.args.at.now) (sym file) unreduced.untried) in
-    let phase = c.enter_rows.ensures.phase ∙ unreduced.phase in
+returns-in-Err-enter_rows-clause-overflow c o h p file begun =
+    let first = c.in_default.ensures.entered p file begun.of
+    (subst (λ (s : System). IsEliminated s.rows false 1 c.args.at.now) (sym file) begun.untried) in
+    let phase = c.enter_rows.ensures.phase ∙ begun.phase in
     let same = consistent_exactly p c.args.sys.now c.enter_rows.new.at file first.0 phase first.1 in
     let next = second_pass p c.enter_rows.new.at first.0
     (subst (λ (s : System). IsEliminated s.rows false (length s.rows + 1) c.enter_rows.new.at) file first.1) in
@@ -37,18 +37,18 @@ returns-in-Err-enter_rows-clause-overflow c o h p file unreduced =
 
 pub returns-then-not-are_consistent-clause-inconsistent :
     goal.returns-then-not-are_consistent-clause-inconsistent
-returns-then-not-are_consistent-clause-inconsistent c h p file unreduced point =
-    let first = c.in_default.ensures.entered p file unreduced.of
-    (subst (λ (s : System). IsEliminated s.rows false 1 c.args.at.now) (sym file) unreduced.untried) in
+returns-then-not-are_consistent-clause-inconsistent c h p file begun point =
+    let first = c.in_default.ensures.entered p file begun.of
+    (subst (λ (s : System). IsEliminated s.rows false 1 c.args.at.now) (sym file) begun.untried) in
     let same = consistent_exactly p c.args.sys.now c.enter_rows.new.at file first.0
-    (c.enter_rows.ensures.phase ∙ unreduced.phase) first.1 in
+    (c.enter_rows.ensures.phase ∙ begun.phase) first.1 in
     true≢false (sym ((c.are_consistent.ensures).1 (same.0 point)) ∙ c.if-not-are_consistent.true)
 
-pub returns-in-Ok-clause-reduced : goal.returns-in-Ok-clause-reduced
-returns-in-Ok-clause-reduced c p file unreduced =
-    let first = c.in_default.ensures.entered p file unreduced.of
-    (subst (λ (s : System). IsEliminated s.rows false 1 c.args.at.now) (sym file) unreduced.untried) in
-    let phase = c.enter_rows.ensures.phase ∙ unreduced.phase in
+pub returns-in-Ok-clause-ended : goal.returns-in-Ok-clause-ended
+returns-in-Ok-clause-ended c p file begun =
+    let first = c.in_default.ensures.entered p file begun.of
+    (subst (λ (s : System). IsEliminated s.rows false 1 c.args.at.now) (sym file) begun.untried) in
+    let phase = c.enter_rows.ensures.phase ∙ begun.phase in
     let same = consistent_exactly p c.args.sys.now c.enter_rows.new.at file first.0 phase first.1 in
     let next = second_pass p c.enter_rows.new.at first.0
     (subst (λ (s : System). IsEliminated s.rows false (length s.rows + 1) c.enter_rows.new.at) file first.1) in

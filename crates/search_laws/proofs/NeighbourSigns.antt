@@ -12,9 +12,9 @@ use Rattle.linear_laws.proofs.Members.{Contains-first, Contains-later}
 use Rattle.dictionary_laws.specs.Numbers.{IsOwnRow}
 use Rattle.dictionary_laws.proofs.Directions.{times_zero, zero_times}
 use Rattle.dictionary_laws.proofs.Values.{own_row}
-use Rattle.search_laws.specs.ChildTest.{moved, downward, WouldEnter, AreMoved}
+use Rattle.search_laws.specs.ChildTest.{neighbour_entry, downward, WouldEnter, AreNeighbourEntries}
 use Rattle.tree_laws.proofs.Neighbours.{minus_positive}
-use Rattle.search_laws.proofs.MovedColumns.{positive_at_members}
+use Rattle.search_laws.proofs.NeighbourColumns.{positive_at_members}
 
 -- ---- sums of two products, of which one is 0
 same_row : (x v : ℤ) → neg_ℤ x *ℤ v +ℤ x *ℤ v ≡ pos 0
@@ -57,13 +57,13 @@ module _ (space : Space) (root key : List ℕ) (t : Table) (d : IsRowDictionary 
   own_j : IsOwnRow space key t j
   own_j = own_row space key d.dictionary.cobasis t d.dictionary.writes j m
 
-  at_s : moved t s r j s ≡ t.denominator *ℤ t.entry r j
+  at_s : neighbour_entry t s r j s ≡ t.denominator *ℤ t.entry r j
   at_s =
       last_alone (neg_ℤ (t.entry r s)) (t.entry s j) (t.entry s s) (t.entry r j)
       (times_zero (neg_ℤ (t.entry r s)) (t.entry s j) (own_s.elsewhere j m n))
       ∙ ap (λ (z : ℤ). z *ℤ t.entry r j) own_s.here
 
-  at_j : moved t s r j j ≡ neg_ℤ (t.entry r s) *ℤ t.denominator
+  at_j : neighbour_entry t s r j j ≡ neg_ℤ (t.entry r s) *ℤ t.denominator
   at_j =
       first_alone (neg_ℤ (t.entry r s)) (t.entry j j) (t.entry j s) (t.entry r j)
       (zero_times (t.entry j s) (t.entry r j) (own_j.elsewhere s c (λ e. n (sym e))))
@@ -74,7 +74,7 @@ module _ (space : Space) (root key : List ℕ) (t : Table) (d : IsRowDictionary 
 
   -- where row q is 0 in the column of s, or row r in that of j
   one_part : (q : ℕ) → t.entry q s *ℤ t.entry r j ≡ pos 0 →
-      neg_ℤ (moved t s r j q) ≡ neg_ℤ (t.entry r s) *ℤ neg_ℤ (t.entry q j)
+      neg_ℤ (neighbour_entry t s r j q) ≡ neg_ℤ (t.entry r s) *ℤ neg_ℤ (t.entry q j)
   one_part q z =
       ap neg_ℤ (first_alone (neg_ℤ (t.entry r s)) (t.entry q j) (t.entry q s) (t.entry r j) z)
       ∙ minus_product (neg_ℤ (t.entry r s)) (t.entry q j)
@@ -87,18 +87,18 @@ module _ (space : Space) (root key : List ℕ) (t : Table) (d : IsRowDictionary 
 
   kept : t.entry r j ≡ pos 0 → WouldEnter t s r j (downward space.labels root) ↔ MayEnter space.labels root t j
   kept z = (
-    positive_at_members (pos 1) (neg_ℤ (t.entry r s)) one_up up (λ q. neg_ℤ (moved t s r j q))
+    positive_at_members (pos 1) (neg_ℤ (t.entry r s)) one_up up (λ q. neg_ℤ (neighbour_entry t s r j q))
         (λ q. neg_ℤ (t.entry q j)) (downward space.labels root) (λ q _. part q),
     positive_at_members (neg_ℤ (t.entry r s)) (pos 1) up one_up (λ q. neg_ℤ (t.entry q j))
-        (λ q. neg_ℤ (moved t s r j q)) (downward space.labels root) (λ q _. sym (part q)),
+        (λ q. neg_ℤ (neighbour_entry t s r j q)) (downward space.labels root) (λ q _. sym (part q)),
   )
     where
-      part : (q : ℕ) → pos 1 *ℤ neg_ℤ (moved t s r j q) ≡ neg_ℤ (t.entry r s) *ℤ neg_ℤ (t.entry q j)
+      part : (q : ℕ) → pos 1 *ℤ neg_ℤ (neighbour_entry t s r j q) ≡ neg_ℤ (t.entry r s) *ℤ neg_ℤ (t.entry q j)
       part q =
-          once (neg_ℤ (moved t s r j q)) (neg_ℤ (t.entry r s) *ℤ neg_ℤ (t.entry q j))
+          once (neg_ℤ (neighbour_entry t s r j q)) (neg_ℤ (t.entry r s) *ℤ neg_ℤ (t.entry q j))
           (one_part q (times_zero (t.entry q s) (t.entry r j) z))
 
-  none_at : (q : ℕ) → (t.entry q s ≡ pos 0) × (t.entry q j ≡ pos 0) → neg_ℤ (moved t s r j q) ≡ pos 0
+  none_at : (q : ℕ) → (t.entry q s ≡ pos 0) × (t.entry q j ≡ pos 0) → neg_ℤ (neighbour_entry t s r j q) ≡ pos 0
   none_at q z =
       minus_zero (neg_ℤ (t.entry r s) *ℤ t.entry q j) (t.entry q s *ℤ t.entry r j)
       (times_zero (neg_ℤ (t.entry r s)) (t.entry q j) z.1) (zero_times (t.entry q s) (t.entry r j) z.0)
@@ -114,13 +114,13 @@ module _ (space : Space) (root key : List ℕ) (t : Table) (d : IsRowDictionary 
   skip (q ∷ front) back h =
       let v = skip front back (λ k e. h k (Contains-later k q front e)) in
       let z = none_at q (h q (Contains-first q front)) in
-      (λ w. v.0 (not_first (neg_ℤ (moved t s r j q)) z w), λ w. inr (z, v.1 w))
+      (λ w. v.0 (not_first (neg_ℤ (neighbour_entry t s r j q)) z w), λ w. inr (z, v.1 w))
 
   s_first : (q : ℕ) (qs : List ℕ) → t.entry q j ≡ pos 0 → pos 0 <ℤ t.entry q s → t.entry r j ≢ pos 0 →
       WouldEnter t s r j (q ∷ qs) ↔ (t.entry r j <ℤ pos 0)
   s_first q qs z above o =
-      decides (t.entry q s) (neg_ℤ (moved t s r j q)) (t.entry r j)
-      (IsPositive (map (λ q. neg_ℤ (moved t s r j q)) qs)) above
+      decides (t.entry q s) (neg_ℤ (neighbour_entry t s r j q)) (t.entry r j)
+      (IsPositive (map (λ q. neg_ℤ (neighbour_entry t s r j q)) qs)) above
       (ap neg_ℤ (last_alone (neg_ℤ (t.entry r s)) (t.entry q j) (t.entry q s) (t.entry r j)
       (times_zero (neg_ℤ (t.entry r s)) (t.entry q j) z))
       ∙ minus_product (t.entry q s) (t.entry r j)) o
@@ -128,11 +128,12 @@ module _ (space : Space) (root key : List ℕ) (t : Table) (d : IsRowDictionary 
   j_first : (q : ℕ) (qs : List ℕ) → t.entry q s ≡ pos 0 → t.entry q j ≢ pos 0 →
       WouldEnter t s r j (q ∷ qs) ↔ (t.entry q j <ℤ pos 0)
   j_first q qs z o =
-      decides (neg_ℤ (t.entry r s)) (neg_ℤ (moved t s r j q)) (t.entry q j)
-      (IsPositive (map (λ q. neg_ℤ (moved t s r j q)) qs)) up (one_part q (zero_times (t.entry q s) (t.entry r j) z)) o
+      decides (neg_ℤ (t.entry r s)) (neg_ℤ (neighbour_entry t s r j q)) (t.entry q j)
+      (IsPositive (map (λ q. neg_ℤ (neighbour_entry t s r j q)) qs)) up
+      (one_part q (zero_times (t.entry q s) (t.entry r j) z)) o
 
-  pub are_moved : AreMoved space.labels root key t s r j
-  are_moved = record {
+  pub are_neighbour_entries : AreNeighbourEntries space.labels root key t s r j
+  are_neighbour_entries = record {
     at_r = same_row (t.entry r s) (t.entry r j);
     at_s = at_s;
     at_j = at_j;
