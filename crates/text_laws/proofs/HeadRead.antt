@@ -9,7 +9,7 @@ use Rattle.poly_model.specs.Limits.{most_columns}
 use Rattle.poly_model.specs.Systems.{FileRow}
 use Rattle.poly_reader.specs.Lines.{Word, Line, joined}
 use Rattle.poly_reader.specs.Head.{Name, begins, head_of, line_fault, kind_after, names_on, names_of, opening_of}
-use Rattle.poly_reader.specs.Header.{rows_of, width_of, type_fault, size_of}
+use Rattle.poly_reader.specs.Header.{rows_announced, width_of, type_fault, size_of}
 use Rattle.poly_reader.proofs.HeadLemmas.{IsAt, starts, goes_on, begun}
 use Rattle.poly_reader.proofs.MarkLemmas.{at_begin, one_line}
 use Rattle.text_laws.specs.Listed.{other_kind}
@@ -127,7 +127,7 @@ names_are_read kind n (suc k) rows lt =
 
 pub size_read : (last number n : ℕ) (words : List Word) → 0 < n → n ≤ most_columns
     → size_of last (numbered number (size_words n) ++ words) ≡ Ok (record { rows = None; width = n; words = words })
-unfolding size_of rows_of width_of type_fault
+unfolding size_of rows_announced width_of type_fault
 size_read last number n words lt le =
     let some : (n == 0) ≡ false = ne_eqb n 0 (λ e. omega arith) in
     let within : nat_lt most_columns n ≡ false = le-ltb most_columns n le in

@@ -16,11 +16,11 @@ use Rattle.poly_reader.specs.Lines.{pieces, lines_from, firsts}
 use Rattle.poly_reader.specs.Grammar.{value_of, count_of}
 use Rattle.poly_reader.specs.FirstFault.{bad, each}
 use Rattle.poly_reader.specs.Head.{head_of, body_of, are_counts, line_fault, names_on, opening_of}
-use Rattle.poly_reader.specs.Header.{rows_of, width_of, type_fault, size_of}
+use Rattle.poly_reader.specs.Header.{rows_announced, width_of, type_fault, size_of}
 use Rattle.poly_reader.specs.Matrix.{number_of, matrix_of, late_fault}
 use Rattle.poly_reader.specs.Marks.{name_fault, checked_marks, with_names}
-use Rattle.poly_reader.specs.Scaling.{lcm_of, common_den, scaled, is_wide_row}
-use Rattle.poly_reader.specs.Rows.{first_fault, row_fault, row_of, numbers_in, rows_from}
+use Rattle.poly_reader.specs.Scaling.{lcm_of, common_den, scaled_entries, is_wide_row}
+use Rattle.poly_reader.specs.Rows.{first_fault, row_fault, checked_row, numbers_in, rows_from}
 use Rattle.poly_reader.specs.Reading.{reading}
 use Rattle.text_laws.specs.Listed.{IsWithinLimits, AreRows}
 
@@ -49,7 +49,7 @@ strip_rows =
     ∷ record { entries = pos 2 ∷ pos 0 ∷ pos 3 ∷ []; linear = false } ∷ []
 
 strip_read : reading strip_text ≡ Ok (record { kind = V; n = 3; rows = strip_rows; text = strip_text })
-unfolding strip_text strip_rows reading checked_marks lines_from pieces firsts each head_of body_of are_counts line_fault names_on opening_of rows_of width_of type_fault size_of matrix_of late_fault number_of name_fault with_names value_of count_of numbers_in first_fault row_fault row_of rows_from gcd_in gcd_of lcm_of lowest common_den scaled is_wide_row
+unfolding strip_text strip_rows reading checked_marks lines_from pieces firsts each head_of body_of are_counts line_fault names_on opening_of rows_announced width_of type_fault size_of matrix_of late_fault number_of name_fault with_names value_of count_of numbers_in first_fault row_fault checked_row rows_from gcd_in gcd_of lcm_of lowest common_den scaled_entries is_wide_row
 strip_read = refl
 
 -- it meets the premises
@@ -100,24 +100,24 @@ segment_rows =
     ∷ record { entries = pos 20 ∷ negsuc 2 ∷ pos 0 ∷ []; linear = false } ∷ []
 
 segment_read : reading segment_text ≡ Ok (record { kind = H; n = 3; rows = segment_rows; text = segment_text })
-unfolding segment_text segment_rows reading checked_marks lines_from pieces firsts each head_of body_of are_counts line_fault names_on opening_of rows_of width_of type_fault size_of matrix_of late_fault number_of name_fault with_names value_of count_of numbers_in first_fault row_fault row_of rows_from gcd_in gcd_of lcm_of lowest common_den scaled is_wide_row
+unfolding segment_text segment_rows reading checked_marks lines_from pieces firsts each head_of body_of are_counts line_fault names_on opening_of rows_announced width_of type_fault size_of matrix_of late_fault number_of name_fault with_names value_of count_of numbers_in first_fault row_fault checked_row rows_from gcd_in gcd_of lcm_of lowest common_den scaled_entries is_wide_row
 segment_read = refl
 
 -- ---- each premise is needed
 
 -- a listing of an H file without a row
 nothing_listed : reading (listing_text H 2 [] []) ≡ bad NoRows 4
-unfolding title_text number_text numbers_text linearity_text size_text head_text end_text digits reading checked_marks lines_from pieces firsts each head_of body_of are_counts line_fault names_on opening_of rows_of width_of type_fault size_of matrix_of late_fault number_of name_fault with_names value_of count_of numbers_in first_fault row_fault row_of rows_from gcd_in gcd_of lcm_of lowest common_den scaled is_wide_row
+unfolding title_text number_text numbers_text linearity_text size_text head_text end_text digits reading checked_marks lines_from pieces firsts each head_of body_of are_counts line_fault names_on opening_of rows_announced width_of type_fault size_of matrix_of late_fault number_of name_fault with_names value_of count_of numbers_in first_fault row_fault checked_row rows_from gcd_in gcd_of lcm_of lowest common_den scaled_entries is_wide_row
 nothing_listed = refl
 
 -- a line of an H file that begins with 1
 line_with_one : reading (listing_text H 2 ((pos 1 ∷ pos 3 ∷ []) ∷ []) []) ≡ bad LinearPoint 5
-unfolding title_text number_text numbers_text linearity_text size_text head_text entry_text entries_text vector_text end_text digits reading checked_marks lines_from pieces firsts each head_of body_of are_counts line_fault names_on opening_of rows_of width_of type_fault size_of matrix_of late_fault number_of name_fault with_names value_of count_of numbers_in first_fault row_fault row_of rows_from gcd_in gcd_of lcm_of lowest common_den scaled is_wide_row
+unfolding title_text number_text numbers_text linearity_text size_text head_text entry_text entries_text vector_text end_text digits reading checked_marks lines_from pieces firsts each head_of body_of are_counts line_fault names_on opening_of rows_announced width_of type_fault size_of matrix_of late_fault number_of name_fault with_names value_of count_of numbers_in first_fault row_fault checked_row rows_from gcd_in gcd_of lcm_of lowest common_den scaled_entries is_wide_row
 line_with_one = refl
 
 -- a shown vector of an H file that begins with a negative number
 negative_first : reading (listing_text H 2 [] ((negsuc 0 ∷ pos 3 ∷ []) ∷ [])) ≡ bad BadFirst 4
-unfolding title_text number_text numbers_text linearity_text size_text head_text entry_text entries_text vector_text is_point row_text end_text digits reading checked_marks lines_from pieces firsts each head_of body_of are_counts line_fault names_on opening_of rows_of width_of type_fault size_of matrix_of late_fault number_of name_fault with_names value_of count_of numbers_in first_fault row_fault row_of rows_from gcd_in gcd_of lcm_of lowest common_den scaled is_wide_row
+unfolding title_text number_text numbers_text linearity_text size_text head_text entry_text entries_text vector_text is_point row_text end_text digits reading checked_marks lines_from pieces firsts each head_of body_of are_counts line_fault names_on opening_of rows_announced width_of type_fault size_of matrix_of late_fault number_of name_fault with_names value_of count_of numbers_in first_fault row_fault checked_row rows_from gcd_in gcd_of lcm_of lowest common_den scaled_entries is_wide_row
 negative_first = refl
 
 -- a vector with a common divisor loses it
@@ -129,5 +129,5 @@ halved = record { entries = pos 1 ∷ pos 2 ∷ []; linear = false } ∷ []
 
 divided : reading (listing_text V 2 [] doubled)
     ≡ Ok (record { kind = H; n = 2; rows = halved; text = listing_text V 2 [] doubled })
-unfolding doubled halved title_text number_text numbers_text linearity_text size_text head_text entry_text entries_text vector_text row_text end_text digits reading checked_marks lines_from pieces firsts each head_of body_of are_counts line_fault names_on opening_of rows_of width_of type_fault size_of matrix_of late_fault number_of name_fault with_names value_of count_of numbers_in first_fault row_fault row_of rows_from gcd_in gcd_of lcm_of lowest common_den scaled is_wide_row
+unfolding doubled halved title_text number_text numbers_text linearity_text size_text head_text entry_text entries_text vector_text row_text end_text digits reading checked_marks lines_from pieces firsts each head_of body_of are_counts line_fault names_on opening_of rows_announced width_of type_fault size_of matrix_of late_fault number_of name_fault with_names value_of count_of numbers_in first_fault row_fault checked_row rows_from gcd_in gcd_of lcm_of lowest common_den scaled_entries is_wide_row
 divided = refl

@@ -10,7 +10,7 @@ use Rattle.poly_model.specs.declared.kind.Kind.TheVariants.{H, V}
 use Rattle.poly_model.specs.ListingText.{vector_text, is_point}
 use Rattle.poly_model.specs.Systems.{FileRow}
 use Rattle.poly_reader.specs.Scaling.{is_wide_row}
-use Rattle.poly_reader.specs.Rows.{first_fault, row_fault, row_of}
+use Rattle.poly_reader.specs.Rows.{first_fault, row_fault, checked_row}
 use Rattle.text_laws.specs.Listed.{other_kind, linear_row, nonlinear_row, IsSmallest, BeginsAsLine, BeginsAsRow}
 use Rattle.text_laws.proofs.PlainWords.{spaced}
 use Rattle.text_laws.proofs.NumberTexts.{IsPrintable}
@@ -21,7 +21,7 @@ use Rattle.text_laws.proofs.ScaledRows.{row_scaled}
 pub record IsReadRow (kind : Kind) (n : ℕ) (row : FileRow) : Type 0 where
   pub printable : AllByRecursion IsPrintable (row_fractions kind row.entries)
   pub width : length (row_fractions kind row.entries) ≡ n
-  pub read : (line : ℕ) → row_of (other_kind kind) row.linear line (row_fractions kind row.entries) ≡ Ok row
+  pub read : (line : ℕ) → checked_row (other_kind kind) row.linear line (row_fractions kind row.entries) ≡ Ok row
 
 line_passes : (kind : Kind) (line : ℕ) (v : Vector) → BeginsAsLine kind v → is_wide_row (row_fractions kind v) ≡ false
     → row_fault (other_kind kind) true line (row_fractions kind v) ≡ Ok tt
@@ -45,7 +45,7 @@ row_passes H line (negsuc n ∷ ys) h w = absurd (omega (arith, lin))
 
 pub line_is_read : (kind : Kind) (n : ℕ) (v : Vector) → IsSmallest n v → AllByRecursion IsNum v → BeginsAsLine kind v
     → IsReadRow kind n (linear_row v)
-unfolding row_of
+unfolding checked_row
 line_is_read kind n v h fits begins =
     let p = row_printable kind v fits in
     let s = row_scaled kind v p fits h.smallest in
@@ -57,7 +57,7 @@ line_is_read kind n v h fits begins =
 
 pub row_is_read : (kind : Kind) (n : ℕ) (v : Vector) → IsSmallest n v → AllByRecursion IsNum v → BeginsAsRow kind v
     → IsReadRow kind n (nonlinear_row v)
-unfolding row_of
+unfolding checked_row
 row_is_read kind n v h fits begins =
     let p = row_printable kind v fits in
     let s = row_scaled kind v p fits h.smallest in

@@ -1,4 +1,4 @@
--- The fractions that are printed of a row are scaled back to its entries, and are not too wide for it.
+-- The fractions that are printed of a row are scaled_entries back to its entries, and are not too wide for it.
 use Rattle.std.proofs.Common.{◌≡◌, ◌≢◌, ◌⊎◌, ◌<◌, ◌≤◌, ◌*◌, ◌/◌, ◌^◌, ℕ, zero, suc, ℤ, pos, negsuc, ◌*ℤ◌, false, List, [], ◌∷◌, refl, sym, subst, ◌∙◌, inl, inr, arith}
 use Prim.Native.Nat.{◌∣◌}
 use Rattle.std.specs.Prelude.{unsigned_abs}
@@ -20,7 +20,7 @@ use Rattle.poly_model.specs.declared.kind.Kind.{Kind}
 use Rattle.poly_model.specs.declared.kind.Kind.TheVariants.{H, V}
 use Rattle.poly_model.specs.ListingText.{is_point}
 use Rattle.poly_reader.specs.Laws.{IsTimes, AreReduced}
-use Rattle.poly_reader.specs.Scaling.{size_of_den, common_den, scaled, is_wide_row, is_wide_entry}
+use Rattle.poly_reader.specs.Scaling.{size_of_den, common_den, scaled_entries, is_wide_row, is_wide_entry}
 use Rattle.poly_reader.proofs.DirectionLaws.{IsMultipleOfEach, common_den-dvd, scaled_direction}
 use Rattle.text_laws.proofs.NumberTexts.{IsPrintable}
 use Rattle.text_laws.proofs.PrintedRows.{whole, wholes, coordinate_fractions, row_fractions}
@@ -83,15 +83,15 @@ product_positive zero b la lb = absurd (omega arith)
 product_positive (suc a) zero la lb = absurd (omega arith)
 product_positive (suc a) (suc b) la lb = omega arith
 
--- a smallest vector that is a positive multiple of the row is what the row is scaled to
+-- a smallest vector that is a positive multiple of the row is what the row is scaled_entries to
 scaled_back : (c d : ℕ) (row : List Fraction) (v : Vector) → 0 < c → 0 < d → AreReduced row → IsTimes c d row v
-    → IsZero v ⊎ IsPrimitive v → scaled row ≡ v
+    → IsZero v ⊎ IsPrimitive v → scaled_entries row ≡ v
 scaled_back c d row v lc ld r h small =
     let s = scaled_direction row r in
     let (a, b, la, lb, t) = s.multiple in
-    same_smallest (b * c) (d * a) (scaled row) v (product_positive b c lb lc)
+    same_smallest (b * c) (d * a) (scaled_entries row) v (product_positive b c lb lc)
     (product_positive d a ld la) s.smallest small
-    (both_times a b c d row (scaled row) v r t h)
+    (both_times a b c d row (scaled_entries row) v r t h)
 
 -- ---- a row is the multiple of its fractions by its first entry, or by 1
 
@@ -133,11 +133,11 @@ narrow_entries : (v : Vector) → AllByRecursion IsNum v → list_any is_wide_en
 narrow_entries [] h = refl
 narrow_entries (y ∷ ys) h = rw (lt-leb (2 ^ 127) (unsigned_abs y) h.0) (narrow_entries ys h.1)
 
--- ---- a row is scaled back
+-- ---- a row is scaled_entries back
 
--- the row of fractions is scaled to these entries, and none is too wide
+-- the row of fractions is scaled_entries to these entries, and none is too wide
 pub record IsScaledTo (v : Vector) (row : List Fraction) : Type 0 where
-  pub entries : scaled row ≡ v
+  pub entries : scaled_entries row ≡ v
   pub narrow : is_wide_row row ≡ false
 
 scaled_to : (c n : ℕ) (row : List Fraction) (v : Vector) → 0 < c → 0 < n → n < 2 ^ 127 → AreReduced row
