@@ -10,9 +10,11 @@ pub mod Steps
 pub mod ColumnShown
 pub mod ShowUnder
 pub mod NextRow
+pub mod VisitLemmas
 pub mod LoopUnder
 pub mod ListingParts
 pub mod Begun
 pub mod BeginAt
-pub mod FeasibleUnder
+pub mod RowsShown
+pub mod PointSought
 pub mod FeasiblePlain

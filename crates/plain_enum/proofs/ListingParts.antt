@@ -27,18 +27,8 @@ use Rattle.listing_laws.proofs.BaseLemmas.{first_basis_is_base}
 use Rattle.listing_laws.proofs.ConeLemmas.{is_listable}
 use Rattle.listing_laws.proofs.ListingLemmas.{whole_listing}
 use Rattle.listing_laws.proofs.WholeLists.{prefix_has_list}
-use Rattle.linear_laws.proofs.Members.{Contains-nil}
-use Rattle.plain_enum.specs.declared.answers.Shown.{Shown}
-use Rattle.plain_enum.specs.Listed.{HasWritten, WritesRows}
+use Rattle.plain_enum.specs.Listed.{HasWritten}
 use Rattle.plain_enum.specs.Plain.{WritesListing}
-use Rattle.plain_enum.proofs.ShowUnder.{writes_none}
-
--- where no vector has the property none is written
-pub writes_nothing : {E : Type 0} (P : Vector → Type 0) (kind : Kind) (old : Option (List ℕ)) (shown : Shown) →
-    ((y : Vector) → P y → ⊥) → WritesRows {E = E} kind shown.rows old old (Ok shown) P
-writes_nothing P kind old shown none =
-    writes_none kind old shown P shown.few
-    (record { distinct = tt; members = λ y. (λ c. absurd (Contains-nil y c), λ h. absurd (none y h)) })
 
 module _ (sys : System) (p : Polyhedron) (cone : ListedCone) (file : sys ≡ cone_of p) (is_cone : IsConeOf sys cone)
     (vectors : List Vector) (lines : AreLines (cone_of p) vectors) where

@@ -26,23 +26,23 @@ pub returns-in-Err-clause-written : goal.returns-in-Err-clause-written
 returns-in-Err-clause-written g c p last file b same =
     let old = g.S.Sink.written c.args.out.now in
     let mid = g.S.Sink.written c.print_head.new.out in
-    stops_in_head c.args.sys.now p (begun_cone p c.args.free.now c.args.at.now) file
-    (is_cone_of p c.args.at.now last c.args.free.now b c.args.sys.now file) c.args.lines.now
-    (begun_lines p c.args.at.now last c.args.free.now b c.args.sys.now c.args.lines.now file same) old mid _ refl
+    stops_in_head c.args.start.now.sys.now p (begun_cone p c.args.start.now.free.now c.args.start.now.at.now) file
+    (is_cone_of p c.args.start.now.at.now last c.args.start.now.free.now b c.args.start.now.sys.now file) c.args.lines.now
+    (begun_lines p c.args.start.now.at.now last c.args.start.now.free.now b c.args.start.now.sys.now c.args.lines.now file same) old mid _ refl
     (subst (λ t. AppendsPart old mid t)
-    (same_head c.args.sys.now c.args.lines.now c.kind.result c.n.result c.kind.ensures c.n.ensures.value)
+    (same_head c.args.start.now.sys.now c.args.lines.now c.kind.result c.n.result c.kind.ensures c.n.ensures.value)
     c.in-Err.ensures.text.part)
 
 pub returns-in_err-listing-clause-written : goal.returns-in_err-listing-clause-written
 returns-in_err-listing-clause-written g c p last file b same =
     let old = g.S.Sink.written c.args.out.now in
     let mid = g.S.Sink.written c.print_head.new.out in
-    stops_in_rows c.args.sys.now p (begun_cone p c.args.free.now c.args.at.now) file
-    (is_cone_of p c.args.at.now last c.args.free.now b c.args.sys.now file) c.args.lines.now
-    (begun_lines p c.args.at.now last c.args.free.now b c.args.sys.now c.args.lines.now file same)
-    old mid (g.S.Sink.written c.list_left.new.out) c.from_residual.result c.from_residual.ensures.0
+    stops_in_rows c.args.start.now.sys.now p (begun_cone p c.args.start.now.free.now c.args.start.now.at.now) file
+    (is_cone_of p c.args.start.now.at.now last c.args.start.now.free.now b c.args.start.now.sys.now file) c.args.lines.now
+    (begun_lines p c.args.start.now.at.now last c.args.start.now.free.now b c.args.start.now.sys.now c.args.lines.now file same)
+    old mid (g.S.Sink.written c.list_rows.new.out) c.from_residual.result c.from_residual.ensures.0
     (subst (λ t. Appends old mid t)
-    (same_head c.args.sys.now c.args.lines.now c.kind.result c.n.result c.kind.ensures c.n.ensures.value)
+    (same_head c.args.start.now.sys.now c.args.lines.now c.kind.result c.n.result c.kind.ensures c.n.ensures.value)
     c.in-Ok.ensures.text.whole)
     (c.in_err-listing.ensures.written p last file b).part
 
@@ -57,12 +57,12 @@ pub returns-in-Ok-finish-clause-written : goal.returns-in-Ok-finish-clause-writt
 returns-in-Ok-finish-clause-written g c p last file b same =
     let old = g.S.Sink.written c.args.out.now in
     let mid = g.S.Sink.written c.print_head.new.out in
-    ends_whole c.args.sys.now p (begun_cone p c.args.free.now c.args.at.now) file
-    (is_cone_of p c.args.at.now last c.args.free.now b c.args.sys.now file) c.args.lines.now
-    (begun_lines p c.args.at.now last c.args.free.now b c.args.sys.now c.args.lines.now file same)
-    old mid (g.S.Sink.written c.list_left.new.out) (g.S.Sink.written c.finish.new.out) _ refl
+    ends_whole c.args.start.now.sys.now p (begun_cone p c.args.start.now.free.now c.args.start.now.at.now) file
+    (is_cone_of p c.args.start.now.at.now last c.args.start.now.free.now b c.args.start.now.sys.now file) c.args.lines.now
+    (begun_lines p c.args.start.now.at.now last c.args.start.now.free.now b c.args.start.now.sys.now c.args.lines.now file same)
+    old mid (g.S.Sink.written c.list_rows.new.out) (g.S.Sink.written c.finish.new.out) _ refl
     (subst (λ t. Appends old mid t)
-    (same_head c.args.sys.now c.args.lines.now c.kind.result c.n.result c.kind.ensures c.n.ensures.value)
+    (same_head c.args.start.now.sys.now c.args.lines.now c.kind.result c.n.result c.kind.ensures c.n.ensures.value)
     c.in-Ok.ensures.text.whole)
     (c.in_ok-listing.ensures.written p last file b).whole
     c.in-Ok-finish.ensures.text.whole
@@ -72,11 +72,11 @@ returns-in-Err-finish-clause-written g c p last file b same =
     let old = g.S.Sink.written c.args.out.now in
     let mid = g.S.Sink.written c.print_head.new.out in
     let rows = (c.in_ok-listing.ensures.written p last file b).whole in
-    stops_in_end c.args.sys.now p (begun_cone p c.args.free.now c.args.at.now) file
-    (is_cone_of p c.args.at.now last c.args.free.now b c.args.sys.now file) c.args.lines.now
-    (begun_lines p c.args.at.now last c.args.free.now b c.args.sys.now c.args.lines.now file same)
-    old mid (g.S.Sink.written c.list_left.new.out) (g.S.Sink.written c.finish.new.out) _ refl
+    stops_in_end c.args.start.now.sys.now p (begun_cone p c.args.start.now.free.now c.args.start.now.at.now) file
+    (is_cone_of p c.args.start.now.at.now last c.args.start.now.free.now b c.args.start.now.sys.now file) c.args.lines.now
+    (begun_lines p c.args.start.now.at.now last c.args.start.now.free.now b c.args.start.now.sys.now c.args.lines.now file same)
+    old mid (g.S.Sink.written c.list_rows.new.out) (g.S.Sink.written c.finish.new.out) _ refl
     (subst (λ t. Appends old mid t)
-    (same_head c.args.sys.now c.args.lines.now c.kind.result c.n.result c.kind.ensures c.n.ensures.value)
+    (same_head c.args.start.now.sys.now c.args.lines.now c.kind.result c.n.result c.kind.ensures c.n.ensures.value)
     c.in-Ok.ensures.text.whole)
     rows.0 rows.1 rows.2.bytes c.in-Err-finish.ensures.text.part
