@@ -12,9 +12,10 @@ pub mod ShowUnder
 pub mod NextRow
 pub mod VisitLemmas
 pub mod LoopUnder
+pub mod RowsShown
 pub mod ListingParts
 pub mod Begun
 pub mod BeginAt
-pub mod RowsShown
 pub mod PointSought
 pub mod FeasiblePlain
+pub mod NothingListed

@@ -84,7 +84,8 @@ module _ (sys : System) (p : Polyhedron) (cone : ListedCone) (file : sys ≡ con
 
   pub stops_in_rows : {E : Type 0} (old mid new : Option (List ℕ)) (result : Result Listed E) → IsErr result →
       Appends old mid text_before →
-      (shown : List Vector) × Begins (IsUnder cone []) shown × AppendsPart mid new (flat_map (row_text sys.kind) shown) →
+      (shown : List Vector) × Begins (IsUnder cone []) shown × AppendsPart mid new
+      (flat_map (row_text sys.kind) shown) →
       WritesListing p old new result
   stops_in_rows old mid new result r head (shown, (rest, l), a) =
       let rows = flat_map (row_text sys.kind) in
@@ -95,7 +96,8 @@ module _ (sys : System) (p : Polyhedron) (cone : ListedCone) (file : sys ≡ con
 
   pub stops_in_end : {E : Type 0} (old mid then new : Option (List ℕ)) (result : Result Listed E) → IsErr result →
       Appends old mid text_before → (shown : List Vector) → Lists (IsUnder cone []) shown →
-      Appends mid then (flat_map (row_text sys.kind) shown) → AppendsPart then new end_text → WritesListing p old new result
+      Appends mid then (flat_map (row_text sys.kind) shown) → AppendsPart then new end_text →
+      WritesListing p old new result
   stops_in_end old mid then new result r head shown l rows a =
       part_of old new result r shown l
       (part_after old mid new text_before (flat_map (row_text sys.kind) shown ++ end_text) head

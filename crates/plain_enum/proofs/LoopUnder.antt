@@ -1,4 +1,4 @@
--- The loop over the rows behind a prefix: what is visited when it begins, after a row, where it ends and where it breaks.
+-- The loop over the rows behind a prefix: what is visited when it begins, after a row, where it ends and breaks.
 use Rattle.std.specs.Prelude.{Result, IsErrOf}
 use Rattle.poly_model.specs.Independence.{IsNew}
 use Rattle.std.proofs.Common.{◌≡◌, Bool, true, false, ℕ, zero, suc, ◌+◌, ◌<◌, ◌≤◌, List, [], ◌∷◌, ◌++◌, length, Ok, Err, refl, sym, subst, ◌∙◌, arith}
@@ -29,19 +29,22 @@ shape_first d e xs a = a zero d (omega arith)
 pub shapes_rest : (d e : Dictionary) (xs : List Dictionary) → All (HasShapeOf d) (e ∷ xs) → All (HasShapeOf d) xs
 shapes_rest d e xs a k z l = a (suc k) z (omega arith)
 
-pub shapes_move : (d e : Dictionary) (xs : List Dictionary) → HasShapeOf d e → All (HasShapeOf d) xs → All (HasShapeOf e) xs
+pub shapes_move : (d e : Dictionary) (xs : List Dictionary) → HasShapeOf d e → All (HasShapeOf d) xs →
+    All (HasShapeOf e) xs
 shapes_move d e xs s a k z l = record {
   rows = (a k z l).rows ∙ sym s.rows;
   columns = (a k z l).columns ∙ sym s.columns;
 }
 
-pub shapes_back : (d e : Dictionary) (xs : List Dictionary) → HasShapeOf d e → All (HasShapeOf e) xs → All (HasShapeOf d) xs
+pub shapes_back : (d e : Dictionary) (xs : List Dictionary) → HasShapeOf d e → All (HasShapeOf e) xs →
+    All (HasShapeOf d) xs
 shapes_back d e xs s a k z l = record {
   rows = (a k z l).rows ∙ s.rows;
   columns = (a k z l).columns ∙ s.columns;
 }
 
-pub shapes_joined : (d e : Dictionary) (xs : List Dictionary) → HasShapeOf d e → All (HasShapeOf d) xs → All (HasShapeOf d) (e ∷ xs)
+pub shapes_joined : (d e : Dictionary) (xs : List Dictionary) → HasShapeOf d e → All (HasShapeOf d) xs →
+    All (HasShapeOf d) (e ∷ xs)
 shapes_joined d e xs s a zero z l = s
 shapes_joined d e xs s a (suc k) z l = a k z (omega arith)
 
@@ -95,7 +98,8 @@ module _ {V O E : Type 0} (visits : V → O → Vector → V → O → Type 0) (
   -- of the vectors under the prefix these are visited, and those under the marks, at which the dictionary stands, are
   -- left
   pub record IsInLoop (sys : System) (free : List ℕ) (d : Dictionary) (depth : ℕ) (p : Polyhedron)
-      (cone : ListedCone) (fixed left : List ℕ) (prefix : List Bool) (v : V) (o : O) (w : V) (q : O) (i : ℕ) : Type 0 where
+      (cone : ListedCone) (fixed left : List ℕ) (prefix : List Bool) (v : V) (o : O) (w : V) (q : O)
+      (i : ℕ) : Type 0 where
     pub marks : List Bool
     pub here : IsAt sys free d i depth p cone fixed left marks
     pub shown : List Vector
@@ -153,7 +157,8 @@ module _ {V O E : Type 0} (visits : V → O → Vector → V → O → Type 0) (
 
         -- what is visited from the deeper dictionary
         module _ (later : O) where
-          each_below : (result : Result V (Ended E)) → VisitsUnder visits ends sys free new (i + 1) less w q later result →
+          each_below : (result : Result V (Ended E)) →
+              VisitsUnder visits ends sys free new (i + 1) less w q later result →
               VisitsEach visits ends w q later result (IsUnder cone (s.marks ++ true ∷ []))
           each_below result h = h p cone fixed (without k left) (s.marks ++ true ∷ []) deeper
 

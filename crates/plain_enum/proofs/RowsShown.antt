@@ -1,4 +1,6 @@
--- Rows written one after the other: those of the vectors that were visited.
+-- Rows written one after the other, those of the vectors that were visited; and why a listing stopped.
+use Rattle.std.specs.Prelude.{Result}
+use Rattle.std.specs.Result.{IsErrOf}
 use Rattle.std.proofs.Common.{◌≡◌, ℕ, suc, ◌≤◌, List, [], ◌∷◌, ◌++◌, length, Option, Ok, Err, refl, sym, ap, subst, ◌∙◌, append-nil, arith}
 use Rattle.std.specs.List.{flat_map}
 use Rattle.std.specs.Io.KnownBytes.{Appends}
@@ -10,11 +12,39 @@ use Rattle.poly_model.specs.ListingText.{row_text}
 use Rattle.poly_io.specs.Causes.{Rose}
 use Rattle.poly_io.specs.Written.{AppendsPart}
 use Rattle.poly_io.proofs.Parts.{part_after}
-use Rattle.listing_laws.specs.Lists.{Lists, Begins}
 use Rattle.plain_enum.specs.declared.answers.Shown.{Shown}
-use Rattle.plain_enum.specs.Listed.{counted, HasWritten, WritesRow, FailsAtRow, WritesRows}
-use Rattle.plain_enum.specs.Visits.{Visited, EndedAtLast}
+use Rattle.plain_enum.specs.declared.prefix.Ended.{Ended}
+use Rattle.plain_enum.specs.declared.prefix.Ended.TheVariants.{Overflow, Stopped}
+use Rattle.plain_enum.specs.Listed.{HasStopCause, counted, HasWritten, WritesRow, FailsAtRow, WritesRows}
+use Rattle.plain_enum.specs.Visits.{Visited, EndedAtLast, VisitsEach, VisitsSome}
 use Rattle.plain_enum.proofs.ShowUnder.{counted_none}
+
+-- ---- why a listing stopped
+pub not_stopped : {T E : Type 0} (before now : ℕ) (result : Result T (Ended E)) → now ≡ before →
+    ((e : E) → ¬ (IsErrOf result (Stopped e))) → HasStopCause before now result
+not_stopped before now result same no_stop = record {
+  later = omega (arith, same);
+  failed = λ e h. absurd (no_stop e h);
+  same = λ n. same;
+}
+
+pub stopped : {T E : Type 0} (before now : ℕ) (e : E) → before ≤ now → Rose before now →
+    HasStopCause {T = T} before now (Err (Stopped e))
+stopped before now e later rose = record {
+  later = later;
+  failed = λ x h. rose;
+  same = λ n. absurd (n e refl);
+}
+
+-- of an error that is handed on, where nothing has failed before
+pub cause_after : {T U E : Type 0} (before mid now : ℕ) (e : Ended E) (result : Result U (Ended E)) → mid ≡ before →
+    result ≡ Err e → HasStopCause {T = T} mid now (Err e) → HasStopCause before now result
+cause_after before mid now (Overflow x) result same is c =
+    subst (λ r. HasStopCause before now r) (sym is)
+    (not_stopped before now (Err (Overflow x)) (c.same (λ e h. absurd (cc)) ∙ same) (λ e h. absurd (cc)))
+cause_after before mid now (Stopped y) result same is c =
+    subst (λ r. HasStopCause before now r) (sym is)
+    (stopped before now y (subst (λ n. n ≤ now) same c.later) (subst (λ n. Rose n now) same (c.failed y refl)))
 
 module _ {O : Type 0} (written : O → Option (List ℕ)) (faults : O → ℕ) where
   -- what is done at a vector, and where a write fails
@@ -37,7 +67,8 @@ module _ {O : Type 0} (written : O → Option (List ℕ)) (faults : O → ℕ) w
     same = refl;
   }
 
-  bytes_after : (kind : Kind) (a b c : Option (List ℕ)) (y : Vector) (ys : List Vector) → Appends a b (row_text kind y) →
+  bytes_after : (kind : Kind) (a b c : Option (List ℕ)) (y : Vector) (ys : List Vector) →
+      Appends a b (row_text kind y) →
       Appends b c (flat_map (row_text kind) ys) → Appends a c (flat_map (row_text kind) (y ∷ ys))
   bytes_after kind a b c y ys f g =
       subst (λ t. Appends a c t) (sym (flat_map-cons (row_text kind) y ys))
@@ -76,10 +107,12 @@ module _ {O : Type 0} (written : O → Option (List ℕ)) (faults : O → ℕ) w
       AppendsPart a c (flat_map (row_text kind) (xs ++ y ∷ []))
   rows_part kind a b c xs y f g =
       subst (λ t. AppendsPart a c t)
-      (ap (λ t. flat_map (row_text kind) xs ++ t) (sym (one_text kind y)) ∙ sym (flat_map-append (row_text kind) xs (y ∷ [])))
+      (ap (λ t. flat_map (row_text kind) xs ++ t) (sym (one_text kind y))
+      ∙ sym (flat_map-append (row_text kind) xs (y ∷ [])))
       (part_after a b c (flat_map (row_text kind) xs) (row_text kind y) f g)
 
-  pub has_failed : {E : Type 0} (s : Shown) (o : O) (xs : List Vector) (e : E) (q : O) → EndedAtLast goes_on ends s o xs e q →
+  pub has_failed : {E : Type 0} (s : Shown) (o : O) (xs : List Vector) (e : E) (q : O) →
+      EndedAtLast goes_on ends s o xs e q →
       HasFailed s o xs q
   has_failed s o xs e q h =
       let rows = has_rows s o h.before h.visitor h.middle h.visited in
@@ -101,37 +134,51 @@ module _ {O : Type 0} (written : O → Option (List ℕ)) (faults : O → ℕ) w
     bytes = f;
   }
 
-  module _ (kind : Kind) (s : Shown) (is : s.listing ≡ kind) (o q : O) (P : Vector → Type 0) (xs : List Vector) where
-    pub whole : {F : Type 0} (t : Shown) → Lists P xs → Visited goes_on s o xs t q →
-        WritesRows {E = F} kind s.rows (written o) (written q) (Ok t) P
-    whole t l h = record {
-      whole = (
-        xs,
-        l,
-        subst (λ k. HasWritten k (written o) (written q) s.rows t.rows xs) is (has_rows s o xs t q h).rows,
-      );
-      part = tt;
-    }
+  pub writes_rows : {E : Type 0} (kind : Kind) (s : Shown) → s.listing ≡ kind → (o q : O) (P : Vector → Type 0)
+      (result : Result Shown (Ended E)) → VisitsEach goes_on ends s o q result P →
+      WritesRows kind s.rows (written o) (written q) result P
+  writes_rows kind s is o q P (Ok t) v =
+      let (xs, l, h) = v.whole in
+      record {
+        whole = (
+          xs,
+          l,
+          subst (λ k. HasWritten k (written o) (written q) s.rows t.rows xs) is (has_rows s o xs t q h).rows,
+        );
+        part = tt;
+      }
+  writes_rows kind s is o q P (Err (Overflow x)) v =
+      let (xs, l, (t, h)) = v.part in
+      record {
+        whole = tt;
+        part = (
+          xs,
+          l,
+          subst (λ k. AppendsPart (written o) (written q) (flat_map (row_text k) xs)) is
+              (rows_all s.listing (written o) (written q) xs (has_rows s o xs t q h).rows.bytes),
+        );
+      }
+  writes_rows kind s is o q P (Err (Stopped e)) v =
+      let (xs, l, h) = v.part in
+      record {
+        whole = tt;
+        part = (
+          xs,
+          l,
+          subst (λ k. AppendsPart (written o) (written q) (flat_map (row_text k) xs)) is
+              (has_failed s o xs e q h).bytes,
+        );
+      }
 
-    pub passes : {F : Type 0} (f : F) (t : Shown) → Begins P xs → Visited goes_on s o xs t q →
-        WritesRows {E = F} kind s.rows (written o) (written q) (Err f) P
-    passes f t l h = record {
-      whole = tt;
-      part = (
-        xs,
-        l,
-        subst (λ k. AppendsPart (written o) (written q) (flat_map (row_text k) xs)) is
-            (rows_all s.listing (written o) (written q) xs (has_rows s o xs t q h).rows.bytes),
-      );
-    }
-
-    pub fails : {E F : Type 0} (f : F) (e : E) → Begins P xs → EndedAtLast goes_on ends s o xs e q →
-        WritesRows {E = F} kind s.rows (written o) (written q) (Err f) P
-    fails f e l h = record {
-      whole = tt;
-      part = (
-        xs,
-        l,
-        subst (λ k. AppendsPart (written o) (written q) (flat_map (row_text k) xs)) is (has_failed s o xs e q h).bytes,
-      );
-    }
+  -- ---- the faults
+  pub has_cause : {E : Type 0} (s : Shown) (o q : O) (result : Result Shown (Ended E)) →
+      VisitsSome goes_on ends s o q result → HasStopCause (faults o) (faults q) result
+  has_cause s o q (Ok t) v =
+      let rows = has_rows s o v.whole.0 t q v.whole.1 in
+      not_stopped (faults o) (faults q) (Ok t) rows.same (λ e h. absurd (cc))
+  has_cause s o q (Err (Overflow x)) v =
+      let rows = has_rows s o v.part.0 v.part.1.0 q v.part.1.1 in
+      not_stopped (faults o) (faults q) (Err (Overflow x)) rows.same (λ e h. absurd (cc))
+  has_cause s o q (Err (Stopped e)) v =
+      let failed = has_failed s o v.part.0 e q v.part.1 in
+      stopped (faults o) (faults q) e failed.later failed.rose

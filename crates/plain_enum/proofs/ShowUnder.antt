@@ -65,7 +65,8 @@ module _ (sys : System) (free : List ℕ) (d : Dictionary) (from : ℕ) (p : Pol
       let r = (range_only 0 (p.n - 0) m.0 m.1).1 in
       let e = m.2 in
       omega arith)
-      (Contains-append_cases (range_with_len 1 (length (cone_of p).rows)) (map coordinate_label (range_with_len 0 (p.n - 0))) k
+      (Contains-append_cases (range_with_len 1 (length (cone_of p).rows))
+      (map coordinate_label (range_with_len 0 (p.n - 0))) k
       (is_label (cone_space p) d.key stands.dictionary.dictionary.cobasis k in_key))
 
   module _ (narrow : sys.n ≤ most_columns) (col : ℕ) (is : IsLeftCoordinate d free col) where
@@ -91,7 +92,8 @@ module _ (sys : System) (free : List ℕ) (d : Dictionary) (from : ℕ) (p : Pol
         Lists (IsUnder cone marks) (vector_on side (primitive_column d col sys.n) ∷ [])
     one_here side h =
         subst (λ n. Lists (IsUnder cone marks) (vector_on side (primitive_column d col n) ∷ [])) (sym same_width)
-        (subst (λ j. Lists (IsUnder cone marks) (vector_on side (primitive_column d j p.n) ∷ [])) (sym (is_the_one col is))
+        (subst (λ j. Lists (IsUnder cone marks) (vector_on side (primitive_column d j p.n) ∷ []))
+        (sym (is_the_one col is))
         (one_on p cone free d fixed k marks stands are leaves listed side
         (subst (λ j. IsShownOn (cone_of p) d j side) (is_the_one col is)
         (subst (λ s. IsShownOn s d col side) at.file h))))

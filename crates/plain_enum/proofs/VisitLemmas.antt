@@ -5,7 +5,7 @@ use Rattle.poly_model.specs.declared.overflow.Overflow.{Overflow as Passed}
 use Rattle.linear_laws.proofs.Members.{Contains-nil}
 use Rattle.listing_laws.specs.Lists.{Lists}
 use Rattle.plain_enum.specs.declared.prefix.Ended.{Ended}
-use Rattle.plain_enum.specs.declared.prefix.Ended.TheVariants.{Overflow, AtVector}
+use Rattle.plain_enum.specs.declared.prefix.Ended.TheVariants.{Overflow, Stopped}
 use Rattle.plain_enum.specs.Visits.{Visited, Broke, HasVisited, VisitsEach, VisitsSome}
 
 module _ {V O E : Type 0} (visits : V → O → Vector → V → O → Type 0) (ends : V → O → Vector → E → O → Type 0) where
@@ -19,7 +19,7 @@ module _ {V O E : Type 0} (visits : V → O → Vector → V → O → Type 0) (
   pub broke_then : (v : V) (o : O) (xs : List Vector) (u : V) (m : O) (ys : List Vector) (e : Ended E) (q : O) →
       Visited visits v o xs u m → Broke visits ends u m ys e q → Broke visits ends v o (xs ++ ys) e q
   broke_then v o xs u m ys (Overflow x) q g h = (h.0, visited_then v o xs u m ys h.0 q g h.1)
-  broke_then v o xs u m ys (AtVector e) q g h = record {
+  broke_then v o xs u m ys (Stopped e) q g h = record {
     before = xs ++ h.before;
     last = h.last;
     split = ap (λ zs. xs ++ zs) h.split ∙ sym (append_assoc xs h.before (h.last ∷ []));
@@ -44,7 +44,7 @@ module _ {V O E : Type 0} (visits : V → O → Vector → V → O → Type 0) (
   visits_one v w o q y P l h = record { whole = (y ∷ [], l, (w, q, h, (refl, refl))); part = tt }
 
   pub ends_at_one : (v : V) (o q : O) (e : E) (y : Vector) (P : Vector → Type 0) → Lists P (y ∷ []) → ends v o y e q →
-      VisitsEach visits ends v o q (Err (AtVector e)) P
+      VisitsEach visits ends v o q (Err (Stopped e)) P
   ends_at_one v o q e y P l h = record {
     whole = tt;
     part = (
@@ -61,7 +61,8 @@ module _ {V O E : Type 0} (visits : V → O → Vector → V → O → Type 0) (
   pub some_one : (v w : V) (o q : O) (y : Vector) → visits v o y w q → VisitsSome visits ends v o q (Ok w)
   some_one v w o q y h = record { whole = (y ∷ [], (w, q, h, (refl, refl))); part = tt }
 
-  pub some_end : (v : V) (o q : O) (e : E) (y : Vector) → ends v o y e q → VisitsSome visits ends v o q (Err (AtVector e))
+  pub some_end : (v : V) (o q : O) (e : E) (y : Vector) → ends v o y e q →
+      VisitsSome visits ends v o q (Err (Stopped e))
   some_end v o q e y h = record {
     whole = tt;
     part = (

@@ -1,5 +1,5 @@
 -- What the lister writes under a prefix of rows.
-use Rattle.std.specs.Prelude.{◌≡◌, ◌↔◌, false, ℕ, suc, ◌+◌, ◌-◌, ◌^◌, ◌<◌, ◌≤◌, min, Bool, List, length, Option, Result, IfOk, OnErr}
+use Rattle.std.specs.Prelude.{◌≡◌, ◌↔◌, false, ℕ, suc, ◌+◌, ◌-◌, ◌^◌, ◌<◌, ◌≤◌, min, Bool, List, length, Option, Result, IfOk, OnErr, IsErrOf}
 use Rattle.std.specs.List.{All, Contains, flat_map}
 use Rattle.std.specs.Io.KnownBytes.{Appends}
 use Rattle.poly_num.specs.Vectors.{Vector}
@@ -15,6 +15,8 @@ use Rattle.dictionary.specs.MainPhase.{stays_in}
 use Rattle.listing_laws.specs.ListedCone.{ListedCone, IsConeOf}
 use Rattle.listing_laws.specs.Lists.{Lists, Begins}
 use Rattle.plain_enum.specs.declared.answers.Shown.{Shown}
+use Rattle.plain_enum.specs.declared.prefix.Ended.{Ended}
+use Rattle.plain_enum.specs.declared.prefix.Ended.TheVariants.{Stopped}
 use Rattle.plain_enum.specs.Columns.{HasRows}
 use Rattle.plain_enum.specs.Standing.{StandsAt}
 
@@ -54,12 +56,19 @@ pub record FailsAtRow {O : Type 0} (written : O → Option (List ℕ)) (faults :
   pub later : faults old ≤ faults new
   pub rose : Rose (faults old) (faults new)
 
+-- a count of faults never falls, rose where the answer is that a write failed, and stands still where it is not
+pub record HasStopCause {T E : Type 0} (before now : ℕ) (result : Result T (Ended E)) : Type 0 where
+  pub later : before ≤ now
+  pub failed : (e : E) → IsErrOf result (Stopped e) → Rose before now
+  pub same : ((e : E) → ¬ (IsErrOf result (Stopped e))) → now ≡ before
+
 -- known bytes grow by the rows of a list of the vectors with P at Ok, which are counted, and by first bytes of the rows
 -- of the beginning of one at Err
 pub record WritesRows {E : Type 0} (kind : Kind) (rows : ℕ) (old new : Option (List ℕ)) (result : Result Shown E)
     (P : Vector → Type 0) : Type 0 where
   pub whole : IfOk result (λ s. (shown : List Vector) × Lists P shown × HasWritten kind old new rows s.rows shown)
-  pub part : OnErr result ((shown : List Vector) × Begins P shown × AppendsPart old new (flat_map (row_text kind) shown))
+  pub part : OnErr result
+      ((shown : List Vector) × Begins P shown × AppendsPart old new (flat_map (row_text kind) shown))
 
 -- the other one has as many rows and columns
 pub record HasShapeOf (d other : Dictionary) : Type 0 where

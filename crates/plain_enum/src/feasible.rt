@@ -88,8 +88,8 @@ fn has_point(alloc: Global, sys: &System) -> Result<bool, FeasibleStop>
     }
 }
 
-// The same from a dictionary at which the linear rows have been tried.
-fn has_point_left(start: &Prefix, room: &mut Room) -> Result<bool, Overflow>
+/// The same from a dictionary at which the linear rows have been tried.
+pub(crate) fn has_point_left(start: &Prefix, room: &mut Room) -> Result<bool, Overflow>
     requires first { start.now.from ≡ 1 }
     requires room { HasRoomForAll start.now.sys.now start.now.free.now start.now.at.now
         room.old.deeper.items room.old.vector.items }
@@ -102,7 +102,7 @@ fn has_point_left(start: &Prefix, room: &mut Room) -> Result<bool, Overflow>
 {
     match visit_all(start, room, Seeker, &mut ()) {
         Ok(_) => Ok(false),
-        Err(Ended::AtVector(Found)) => Ok(true),
+        Err(Ended::Stopped(Found)) => Ok(true),
         Err(Ended::Overflow(overflow)) => Err(overflow),
     }
 }

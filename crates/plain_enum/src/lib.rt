@@ -7,6 +7,7 @@
 mod answers;
 mod begin;
 mod feasible;
+mod feasible_listing;
 mod list;
 mod plain;
 mod prefix;
@@ -20,6 +21,7 @@ ghost use Rattle.plain_enum.specs.Laws.{ValuesAtColumns, NewByEntry, FollowsByEn
 
 pub use answers::{FeasibleStop, ListStop, PlainStop, Shown};
 pub use feasible::feasible_plain;
+pub use feasible_listing::list_feasible;
 pub use plain::list_plain;
 pub use prefix::{Ended, Prefix};
 pub use side::{Side, column_of};

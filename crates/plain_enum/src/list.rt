@@ -1,15 +1,14 @@
 //! Rows of a listing, written at each vector that a search finds.
-ghost use Rattle.std.specs.Prelude.{◌≡◌, ◌≤◌, List, [], IsErrOf, IfOk};
-ghost use Rattle.poly_io.specs.Causes.{Rose};
+ghost use Rattle.std.specs.Prelude.{◌≡◌, [], IsErrOf};
 ghost use Rattle.poly_model.specs.declared.overflow.Overflow.{Overflow as Passed};
 ghost use Rattle.poly_model.specs.Systems.{Polyhedron, cone_of};
 ghost use Rattle.dictionary.specs.Views.{Dictionary};
 ghost use Rattle.listing_laws.specs.Prefixes.{IsUnder};
 ghost use Rattle.plain_enum.specs.Begin.{IsBegun, HasRoomForAll, begun_cone};
-ghost use Rattle.plain_enum.specs.Listed.{WritesRow, FailsAtRow, WritesRows};
+ghost use Rattle.plain_enum.specs.Listed.{WritesRow, FailsAtRow, HasStopCause, WritesRows};
 ghost use Rattle.plain_enum.specs.Plain.{PassesInCone};
 
-use crate::answers::{PlainStop, Shown};
+use crate::answers::Shown;
 use crate::begin::Room;
 use crate::prefix::{Ended, Prefix};
 use crate::visit::{Visit, visit_all};
@@ -37,7 +36,7 @@ pub(crate) fn list_rows<S: Sink>(
     room: &mut Room,
     shown: Shown,
     out: &mut S,
-) -> Result<Shown, PlainStop>
+) -> Result<Shown, Ended<WriteFault>>
     requires first { start.now.from ≡ 1 }
     requires room { HasRoomForAll start.now.sys.now start.now.free.now start.now.at.now
         room.old.deeper.items room.old.vector.items }
@@ -46,16 +45,9 @@ pub(crate) fn list_rows<S: Sink>(
         IsBegun p start.now.at.now last start.now.free.now →
         WritesRows start.now.sys.now.kind shown.rows (S.written out.old) (S.written out.new) result
         (IsUnder (begun_cone p start.now.free.now start.now.at.now) []) }
-    ensures overflow { (o : Passed) → IsErrOf result (PlainStop.Overflow o) → (p : Polyhedron) (last : Dictionary) →
+    ensures passes { (o : Passed) → IsErrOf result (Ended.Overflow o) → (p : Polyhedron) (last : Dictionary) →
         start.now.sys.now ≡ cone_of p → IsBegun p start.now.at.now last start.now.free.now → PassesInCone p o }
-    ensures memory { IsErrOf result PlainStop.Memory → ⊥ }
-    ensures later { S.faults out.old ≤ S.faults out.new }
-    ensures same { ¬ (IsErrOf result PlainStop.WriteFault) → S.faults out.new ≡ S.faults out.old }
-    ensures fault { IsErrOf result PlainStop.WriteFault → Rose (S.faults out.old) (S.faults out.new) }
+    ensures cause { HasStopCause (S.faults out.old) (S.faults out.new) result }
 {
-    match visit_all(start, room, shown, out) {
-        Ok(shown) => Ok(shown),
-        Err(Ended::Overflow(overflow)) => Err(PlainStop::Overflow(overflow)),
-        Err(Ended::AtVector(WriteFault)) => Err(PlainStop::WriteFault),
-    }
+    visit_all(start, room, shown, out)
 }

@@ -11,12 +11,13 @@ ghost use Rattle.poly_model.specs.Systems.{Polyhedron, cone_of};
 ghost use Rattle.dictionary.specs.Views.{Dictionary};
 ghost use Rattle.linearity.specs.Columns.{coordinate_vectors};
 ghost use Rattle.plain_enum.specs.Begin.{IsBegun, HasRoomForAll};
+ghost use Rattle.plain_enum.specs.Listed.{HasStopCause};
 ghost use Rattle.plain_enum.specs.Plain.{PassesInCone, WritesListing};
 
 use crate::answers::{FeasibleStop, PlainStop, Shown};
 use crate::begin::{Beginning, Room, begin};
 use crate::list::list_rows;
-use crate::prefix::Prefix;
+use crate::prefix::{Ended, Prefix};
 use linearity::lines_of;
 use poly_io::{Sink, WriteFault};
 use poly_model::{Kind, Listed, System, Vector};
@@ -55,7 +56,11 @@ pub fn list_plain<S: Sink>(alloc: Global, sys: &System, out: &mut S) -> Result<L
         at: &at,
         from: 1,
     };
-    print(&start, lines.as_slice(), &mut room, out)
+    match print(&start, lines.as_slice(), &mut room, out) {
+        Ok(listed) => Ok(listed),
+        Err(Ended::Overflow(overflow)) => Err(PlainStop::Overflow(overflow)),
+        Err(Ended::Stopped(WriteFault)) => Err(PlainStop::WriteFault),
+    }
 }
 
 /// Writes the listing from a dictionary at which the linear rows have been tried. It has these lines.
@@ -64,7 +69,7 @@ pub(crate) fn print<S: Sink>(
     lines: &[Vector],
     room: &mut Room,
     out: &mut S,
-) -> Result<Listed, PlainStop>
+) -> Result<Listed, Ended<WriteFault>>
     requires first { start.now.from ≡ 1 }
     requires room { HasRoomForAll start.now.sys.now start.now.free.now start.now.at.now
         room.old.deeper.items room.old.vector.items }
@@ -73,16 +78,13 @@ pub(crate) fn print<S: Sink>(
         IsBegun p start.now.at.now last start.now.free.now →
         lines.now ≡ coordinate_vectors last start.now.sys.now.n →
         WritesListing p (S.written out.old) (S.written out.new) result }
-    ensures overflow { (o : Passed) → IsErrOf result (PlainStop.Overflow o) → (p : Polyhedron) (last : Dictionary) →
+    ensures passes { (o : Passed) → IsErrOf result (Ended.Overflow o) → (p : Polyhedron) (last : Dictionary) →
         start.now.sys.now ≡ cone_of p → IsBegun p start.now.at.now last start.now.free.now → PassesInCone p o }
-    ensures memory { IsErrOf result PlainStop.Memory → ⊥ }
-    ensures later { S.faults out.old ≤ S.faults out.new }
-    ensures same { ¬ (IsErrOf result PlainStop.WriteFault) → S.faults out.new ≡ S.faults out.old }
-    ensures fault { IsErrOf result PlainStop.WriteFault → Rose (S.faults out.old) (S.faults out.new) }
+    ensures cause { HasStopCause (S.faults out.old) (S.faults out.new) result }
 {
     let listing = match print_head(start.sys.kind(), start.sys.n(), lines, out) {
         Ok(listing) => listing,
-        Err(WriteFault) => return Err(PlainStop::WriteFault),
+        Err(fault) => return Err(Ended::Stopped(fault)),
     };
     let begun = Shown { listing, rows: 0 };
     let Shown { listing, rows } = list_rows(start, room, begun, out)?;
@@ -91,7 +93,7 @@ pub(crate) fn print<S: Sink>(
             rows,
             lines: lines.len() as u32,
         }),
-        Err(WriteFault) => Err(PlainStop::WriteFault),
+        Err(fault) => Err(Ended::Stopped(fault)),
     }
 }
 

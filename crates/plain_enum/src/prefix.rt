@@ -13,9 +13,10 @@ pub struct Prefix<'a> {
     pub from: u32,
 }
 
-/// Why a search ended before its end: a number of a dictionary would pass 127 bits, or it was ended at a vector.
+/// Why a search ended before its end: a number of a dictionary would pass 127 bits, or it was stopped by what is done
+/// with what it finds.
 #[derive(Drop)]
 pub enum Ended<E> {
     Overflow(Overflow),
-    AtVector(E),
+    Stopped(E),
 }

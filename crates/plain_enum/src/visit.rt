@@ -1,5 +1,6 @@
-//! The search over prefixes of rows, and what is done at each vector that it finds. Where just one coordinate is left in
-//! the cobasis beside those that are free, its column is the direction on which the linear rows and all rows taken are 0.
+//! The search over prefixes of rows, and what is done at each vector that it finds. Where just one coordinate is left
+//! in the cobasis beside those that are free, its column is the direction on which the linear rows and all rows taken
+//! are 0.
 ghost use Rattle.std.specs.Prelude.{◌≡◌, ◌≤◌, ◌<◌, ℕ, ℤ, Bool, List, length, IfOk, IfErr, IsErrOf, []};
 ghost use Rattle.std.specs.List.{All};
 ghost use Rattle.poly_model.specs.declared.overflow.Overflow.{Overflow as Passed};
@@ -57,12 +58,12 @@ fn visit_left<O, E, V: Visit<O, E>>(
     write_direction(prefix.at, col, side, vector);
     match visitor.visit(vector, out) {
         Ok(next) => Ok(next),
-        Err(end) => Err(Ended::AtVector(end)),
+        Err(end) => Err(Ended::Stopped(end)),
     }
 }
 
-// Makes the next dictionary the one of the cobasis in which a row has taken the place of a column. Where that overflows,
-// the next one is as this one.
+// Makes the next dictionary the one of the cobasis in which a row has taken the place of a column. Where that
+// overflows, the next one is as this one.
 fn take_row(at: &Dict, row: Label, col: Label, next: &mut Dict) -> Result<(), Overflow>
     requires can { CanPivot at.now row.0 col.0 }
     requires shape { HasShapeOf at.now next.old }

@@ -12,7 +12,8 @@ returns-in-Err-clause-overflow c o h p file =
     record {
       phase = c.in-Err.ensures.passing_phase o is ∙ c.in-Ok.ensures.phase_is;
       passes = c.in-Err.ensures.passes o is p file
-          (first_of c.args.sys.now c.in-Ok.at c.in-Ok.ensures refl c.keeps_limits.ensures.some c.keeps_limits.ensures.narrow
+          (first_of c.args.sys.now c.in-Ok.at c.in-Ok.ensures refl c.keeps_limits.ensures.some
+          c.keeps_limits.ensures.narrow
           refl c.keeps_limits.ensures.few p file);
     }
 
@@ -24,7 +25,8 @@ returns-in-Err-enter_rows-clause-overflow c o h p file =
           ∙ c.enter_rows.ensures.phase ∙ c.in-Ok.ensures.phase_is;
       passes = c.in-Err-enter_rows.ensures.passes o is p file
           (subst (IsDictionaryOf p) (sym c.in-Ok-copy.ensures)
-          (second_of c.args.sys.now c.in-Ok.at c.in-Ok.ensures refl c.keeps_limits.ensures.some c.keeps_limits.ensures.narrow
+          (second_of c.args.sys.now c.in-Ok.at c.in-Ok.ensures refl c.keeps_limits.ensures.some
+          c.keeps_limits.ensures.narrow
           refl c.keeps_limits.ensures.few p file c.enter_rows.new.at
           (c.in_default-enter_rows.ensures.entered p file)));
     }

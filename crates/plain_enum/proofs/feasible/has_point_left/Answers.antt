@@ -11,9 +11,9 @@ returns-in-Ok-clause-answer c p last file b =
     no_vertex p c.args.start.now.at.now last c.args.start.now.free.now b each.0 each.1
     (none_positive _ _ each.0 _ _ each.2)
 
-pub returns-in-Err-AtVector-clause-answer : goal.returns-in-Err-AtVector-clause-answer
-returns-in-Err-AtVector-clause-answer c p last file b =
-    let each = (rw c.in-Err-AtVector.field-0-is at c.in-Err-AtVector.ensures.visited p last file b).part in
+pub returns-in-Err-Stopped-clause-answer : goal.returns-in-Err-Stopped-clause-answer
+returns-in-Err-Stopped-clause-answer c p last file b =
+    let each = (rw c.in-Err-Stopped.field-0-is at c.in-Err-Stopped.ensures.visited p last file b).part in
     some_vertex p c.args.start.now.at.now last c.args.start.now.free.now b each.0 each.1 each.2.last
     (last_inside _ _ _ _ each.0 _ _ each.2) each.2.ended
 

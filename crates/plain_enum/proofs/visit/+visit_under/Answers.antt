@@ -43,7 +43,8 @@ returns-in-Err-clause-passes g t c o e p cone fixed left marks at =
     c.args.visitor c.args.out.now c.rows.visitor c.rows.out c.rows.i p cone fixed left marks
     (c.rows.invariant.visited p cone fixed left marks at) c.in-Some-column_of.col.0 o
     c.in-Some-column_of.ensures.pivots
-    (subst (λ (v : Overflow). IsOverflow prefix.at.now c.rows.i c.in-Some-column_of.col.0 v) same c.in-Err.ensures.passes)
+    (subst (λ (v : Overflow). IsOverflow prefix.at.now c.rows.i c.in-Some-column_of.col.0 v) same
+    c.in-Err.ensures.passes)
 
 pub returns-in-Err-clause-room : goal.returns-in-Err-clause-room
 returns-in-Err-clause-room g t c =

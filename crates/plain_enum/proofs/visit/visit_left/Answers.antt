@@ -29,7 +29,8 @@ returns-in-Ok-clause-visited g c p cone fixed left marks at =
     let col = c.in-Some.col.0 in
     let now = prefix.at.now in
     let same : vector_on side (primitive_column now col prefix.sys.now.n) ≡ c.write_direction.new.vector =
-    ap (λ w. vector_on side (primitive_column now col w)) (sym c.requires.room.width) ∙ sym c.write_direction.ensures.value in
+    ap (λ w. vector_on side (primitive_column now col w)) (sym c.requires.room.width)
+    ∙ sym c.write_direction.ensures.value in
     visits_one g.V.Visit.visits g.V.Visit.ends c.args.visitor c.in-Ok.next c.args.out.now c.visit.new.out
     c.write_direction.new.vector (IsUnder cone marks)
     (subst (λ (y : Vector). Lists (IsUnder cone marks) (y ∷ [])) same
@@ -44,7 +45,8 @@ returns-in-Err-clause-visited g c p cone fixed left marks at =
     let col = c.in-Some.col.0 in
     let now = prefix.at.now in
     let same : vector_on side (primitive_column now col prefix.sys.now.n) ≡ c.write_direction.new.vector =
-    ap (λ w. vector_on side (primitive_column now col w)) (sym c.requires.room.width) ∙ sym c.write_direction.ensures.value in
+    ap (λ w. vector_on side (primitive_column now col w)) (sym c.requires.room.width)
+    ∙ sym c.write_direction.ensures.value in
     ends_at_one g.V.Visit.visits g.V.Visit.ends c.args.visitor c.args.out.now c.visit.new.out c.in-Err.end
     c.write_direction.new.vector (IsUnder cone marks)
     (subst (λ (y : Vector). Lists (IsUnder cone marks) (y ∷ [])) same
