@@ -2,4 +2,3 @@ pub mod FaultLemmas
 pub mod StatusLemmas
 pub mod EndLemmas
 pub mod AnswerLemmas
-pub mod NothingWritten

@@ -3,7 +3,7 @@ ghost use Rattle.std.specs.Prelude.{◌≡◌, ◌⊎◌, ◌+◌, ℕ};
 ghost use Rattle.poly_io.specs.Causes.{Rose};
 ghost use Rattle.poly_io.specs.Taken.{TakesAtMost};
 ghost use Rattle.poly_model.specs.declared.overflow.Overflow.{Overflow as Passed};
-ghost use Rattle.poly_model.specs.Systems.{Polyhedron, cone_of};
+ghost use Rattle.poly_model.specs.Systems.{cone_of};
 ghost use Rattle.poly_model.specs.Extreme.{IsFeasible};
 ghost use Rattle.poly_reader.specs.Limits.{most_file_bytes};
 ghost use Rattle.plain_enum.specs.Plain.{PassesInCone};
@@ -12,9 +12,9 @@ ghost use Rattle.lrs_cli.specs.Convert.{AnswersConvert, streams};
 
 use crate::status::Status;
 use hull_lift::system_of;
-use plain_enum::{FeasibleStop, PlainStop, feasible_plain, list_plain};
+use plain_enum::{ListStop, list_feasible};
 use poly_io::{Sink, Source};
-use poly_model::{Poly, System};
+use poly_model::Poly;
 use poly_reader::{ReadStop, read_poly};
 use std::alloc::Global;
 
@@ -50,33 +50,14 @@ fn print_listing<O: Sink>(alloc: Global, poly: &Poly, out: &mut O) -> Status
     let Ok(cone) = system_of(alloc, poly) else {
         return Status::OutOfMemory;
     };
-    match feasible_plain(alloc, &cone) {
-        Ok(true) => print_cone(alloc, &cone, out),
-        Ok(false) => Status::Infeasible,
-        Err(FeasibleStop::Overflow(overflow)) => Status::Overflow(overflow),
-        Err(FeasibleStop::Memory) => Status::OutOfMemory,
-    }
-}
-
-// Prints the listing of a cone.
-fn print_cone<O: Sink>(alloc: Global, cone: &System, out: &mut O) -> Status
-    ensures lists { Lists result }
-    ensures feasible { result ≡ Status.Infeasible → ⊥ }
-    ensures done { (rows lines : ℕ) → result ≡ Status.Done rows lines → (p : Polyhedron) → cone.now ≡ cone_of p →
-        IsFeasible (cone_of p) → WritesWhole (O.written out.old) (O.written out.new) rows lines p }
-    ensures overflow { (o : Passed) → result ≡ Status.Overflow o → (p : Polyhedron) → cone.now ≡ cone_of p → PassesInCone p o }
-    ensures stopped { StopsListing result → (p : Polyhedron) → cone.now ≡ cone_of p → WritesPart (O.written out.old) (O.written out.new) p }
-    ensures write_fault { result ≡ Status.WriteFault → Rose (O.faults out.old) (O.faults out.new) }
-    ensures writes { ¬ (result ≡ Status.WriteFault) → O.faults out.new ≡ O.faults out.old }
-    ensures unwritten { WritesNothing result → out.new ≡ out.old }
-{
-    match list_plain(alloc, cone, out) {
+    match list_feasible(alloc, &cone, out) {
         Ok(listed) => Status::Done {
             rows: listed.rows,
             lines: listed.lines,
         },
-        Err(PlainStop::Overflow(overflow)) => Status::Overflow(overflow),
-        Err(PlainStop::WriteFault) => Status::WriteFault,
-        Err(PlainStop::Memory) => Status::OutOfMemory,
+        Err(ListStop::Infeasible) => Status::Infeasible,
+        Err(ListStop::Overflow(overflow)) => Status::Overflow(overflow),
+        Err(ListStop::WriteFault) => Status::WriteFault,
+        Err(ListStop::Memory) => Status::OutOfMemory,
     }
 }

@@ -52,14 +52,16 @@ neg_zero : (e : ℤ) → neg_ℤ e ≡ pos 0 → e ≡ pos 0
 neg_zero e h = omega (arith, ints)
 
 not_negative : (p x e : ℤ) → pos 0 <ℤ p → p *ℤ x ≡ e → pos 0 ≤ℤ e → pos 0 ≤ℤ x
-not_negative p x e h m l = gives_at_most p (pos 0) x h (subst (λ t. t ≤ℤ (p *ℤ x)) (sym (mul_zero p)) (subst (λ t. pos 0 ≤ℤ t) (sym m) l))
+not_negative p x e h m l =
+    gives_at_most p (pos 0) x h (subst (λ t. t ≤ℤ (p *ℤ x)) (sym (mul_zero p)) (subst (λ t. pos 0 ≤ℤ t) (sym m) l))
 
 not_negative_back : (p x e : ℤ) → pos 0 <ℤ p → p *ℤ x ≡ e → pos 0 ≤ℤ x → pos 0 ≤ℤ e
 not_negative_back p x e h m l =
     subst (λ t. pos 0 ≤ℤ t) m (subst (λ t. t ≤ℤ (p *ℤ x)) (mul_zero p) (keeps_at_most p (pos 0) x h l))
 
 module _ (p : Polyhedron) (cone : ListedCone) (free : List ℕ) (d : Dictionary)
-    (fixed : List ℕ) (k : ℕ) (marks : List Bool) (stands : StandsAt p cone d fixed (k ∷ []) marks) (are : FixedAre (cone_of p).rows free d fixed)
+    (fixed : List ℕ) (k : ℕ) (marks : List Bool) (stands : StandsAt p cone d fixed (k ∷ []) marks)
+    (are : FixedAre (cone_of p).rows free d fixed)
     (s : LeavesColumn p cone d marks k) (listed : IsConeOf (cone_of p) cone) where
   abbrev z : Vector
   z = column_of d k p.n
@@ -130,7 +132,8 @@ module _ (p : Polyhedron) (cone : ListedCone) (free : List ℕ) (d : Dictionary)
       vanish_from_multiple m.0 m.1 (vector_on side y) z m.2 m.3 cone.base s.leaves.left.base
 
   -- the sign of each row, by its entry
-  sign_there : (side : Side) → IsOnSide d (length (cone_of p).rows) k side → (i : ℕ) → 0 < i → i ≤ length (cone_of p).rows →
+  sign_there : (side : Side) → IsOnSide d (length (cone_of p).rows) k side → (i : ℕ) → 0 < i → i ≤ length
+      (cone_of p).rows →
       pos 0 ≤ℤ sign_on side (Table.entry (table_of d) i k)
   sign_there Along h i a b = h i a b
   sign_there Against h i a b = let e = h i a b in omega (arith, ints)
@@ -152,7 +155,8 @@ module _ (p : Polyhedron) (cone : ListedCone) (free : List ℕ) (d : Dictionary)
     width = width_on side ∙ s.leaves.left.width;
     vanishing = vanish_on side;
     nonnegative = all_members (λ row. pos 0 ≤ℤ (row · vector_on side y)) cone.rows
-        (λ row c. subst (λ t. pos 0 ≤ℤ (t · vector_on side y)) (row_here row c) (at_least (suc c.0) (omega arith) (let l = c.1 in omega arith)));
+        (λ row c. subst (λ t. pos 0 ≤ℤ (t · vector_on side y)) (row_here row c)
+        (at_least (suc c.0) (omega arith) (let l = c.1 in omega arith)));
   }
     where
       at_least : (i : ℕ) → 0 < i → i ≤ length cone.rows → pos 0 ≤ℤ (row_at cone i · vector_on side y)
@@ -261,7 +265,8 @@ module _ (p : Polyhedron) (cone : ListedCone) (free : List ℕ) (d : Dictionary)
   pub none_on : ((side : Side) → IsShownOn (cone_of p) d k side → ⊥) → Lists (IsUnder cone marks) []
   none_on n = lists_none (IsUnder cone marks) (λ w u. none w ((under_is_tested cone listable marks z s.leaves w).0 u))
     where
-      none_at : (side : Side) → IsShownAlong cone z (vector_on side y) → PassesLocalTest cone (labels_of marks) s.leaves.duals z → ⊥
+      none_at : (side : Side) → IsShownAlong cone z (vector_on side y) → PassesLocalTest cone
+          (labels_of marks) s.leaves.duals z → ⊥
       none_at side a t =
           n side (record {
             on_side = side_of_cone side a.in_cone;
@@ -271,5 +276,6 @@ module _ (p : Polyhedron) (cone : ListedCone) (free : List ℕ) (d : Dictionary)
 
       none : (w : Vector) → IsShownAlong cone z w × PassesLocalTest cone (labels_of marks) s.leaves.duals z → ⊥
       none w (a, t) =
-          ⊎_elim (λ e. none_at Along (subst (IsShownAlong cone z) e a) t) (λ e. none_at Against (subst (IsShownAlong cone z) e a) t)
+          ⊎_elim (λ e. none_at Along (subst (IsShownAlong cone z) e a) t)
+          (λ e. none_at Against (subst (IsShownAlong cone z) e a) t)
           (up_to_sign y w z (primitive_on Along) (along_on Along) a.primitive a.along)

@@ -65,7 +65,8 @@ module _ (p : Polyhedron) where
 
     module _ (t : Table) (w : Writes (cone_space p) key t) where
       -- the value of a label where only k of the key is not 0
-      pub value_at_dual : (i : ℕ) → Contains (cone_space p).labels i → (k : ℕ) → Contains key k → (d : DualOver p key k) →
+      pub value_at_dual : (i : ℕ) → Contains (cone_space p).labels i → (k : ℕ) → Contains key k →
+          (d : DualOver p key k) →
           t.denominator *ℤ (form_of p i · d.vector)
           ≡ t.entry i k *ℤ (form_of p k · d.vector)
       value_at_dual i l k c d =
@@ -83,7 +84,8 @@ module _ (p : Polyhedron) where
           let x = sym (with_front (form_of p i) (pos 0) y) in
           zero_factor t.denominator (form_of p i · y)
           (ap (λ v. t.denominator *ℤ v) x
-          ∙ level_value (t.constant i) ((cone_space p).infinity · (pos 0 ∷ y)) (sum_over key (terms (cone_space p) t i (pos 0 ∷ y)))
+          ∙ level_value (t.constant i) ((cone_space p).infinity · (pos 0 ∷ y))
+          (sum_over key (terms (cone_space p) t i (pos 0 ∷ y)))
           (t.denominator *ℤ ((cone_space p).form i · (pos 0 ∷ y))) d.level (w.values i l (pos 0 ∷ y) d.inside)
           ∙ sum_zero key (terms (cone_space p) t i (pos 0 ∷ y))
           (λ k c. ap (λ v. t.entry i k *ℤ v) (with_front (form_of p k) (pos 0) y) ∙ h k c))

@@ -27,18 +27,8 @@ use Rattle.listing_laws.proofs.BaseLemmas.{first_basis_is_base}
 use Rattle.listing_laws.proofs.ConeLemmas.{is_listable}
 use Rattle.listing_laws.proofs.ListingLemmas.{whole_listing}
 use Rattle.listing_laws.proofs.WholeLists.{prefix_has_list}
-use Rattle.linear_laws.proofs.Members.{Contains-nil}
-use Rattle.plain_enum.specs.declared.answers.Shown.{Shown}
-use Rattle.plain_enum.specs.Listed.{HasWritten, WritesRows}
+use Rattle.plain_enum.specs.Listed.{HasWritten}
 use Rattle.plain_enum.specs.Plain.{WritesListing}
-use Rattle.plain_enum.proofs.ShowUnder.{writes_none}
-
--- where no vector has the property none is written
-pub writes_nothing : {E : Type 0} (P : Vector → Type 0) (kind : Kind) (old : Option (List ℕ)) (shown : Shown) →
-    ((y : Vector) → P y → ⊥) → WritesRows {E = E} kind shown.rows old old (Ok shown) P
-writes_nothing P kind old shown none =
-    writes_none kind old shown P shown.few
-    (record { distinct = tt; members = λ y. (λ c. absurd (Contains-nil y c), λ h. absurd (none y h)) })
 
 module _ (sys : System) (p : Polyhedron) (cone : ListedCone) (file : sys ≡ cone_of p) (is_cone : IsConeOf sys cone)
     (vectors : List Vector) (lines : AreLines (cone_of p) vectors) where
@@ -94,7 +84,8 @@ module _ (sys : System) (p : Polyhedron) (cone : ListedCone) (file : sys ≡ con
 
   pub stops_in_rows : {E : Type 0} (old mid new : Option (List ℕ)) (result : Result Listed E) → IsErr result →
       Appends old mid text_before →
-      (shown : List Vector) × Begins (IsUnder cone []) shown × AppendsPart mid new (flat_map (row_text sys.kind) shown) →
+      (shown : List Vector) × Begins (IsUnder cone []) shown × AppendsPart mid new
+      (flat_map (row_text sys.kind) shown) →
       WritesListing p old new result
   stops_in_rows old mid new result r head (shown, (rest, l), a) =
       let rows = flat_map (row_text sys.kind) in
@@ -105,7 +96,8 @@ module _ (sys : System) (p : Polyhedron) (cone : ListedCone) (file : sys ≡ con
 
   pub stops_in_end : {E : Type 0} (old mid then new : Option (List ℕ)) (result : Result Listed E) → IsErr result →
       Appends old mid text_before → (shown : List Vector) → Lists (IsUnder cone []) shown →
-      Appends mid then (flat_map (row_text sys.kind) shown) → AppendsPart then new end_text → WritesListing p old new result
+      Appends mid then (flat_map (row_text sys.kind) shown) → AppendsPart then new end_text →
+      WritesListing p old new result
   stops_in_end old mid then new result r head shown l rows a =
       part_of old new result r shown l
       (part_after old mid new text_before (flat_map (row_text sys.kind) shown ++ end_text) head

@@ -169,7 +169,8 @@ module _ (sys : System) (free : List ℕ) (d : Dictionary) (i depth : ℕ) (p : 
     is_space = subst (λ f. IsSpaceOf p f (cone_space p)) (sym (over.phase ∙ here.phase)) refl;
     point = (phase_points p).cone;
     table = table_of d;
-    dictionary = subst (λ ks. IsDictionary (cone_space p) ks (table_of d)) (sym over.key) here.stands.dictionary.dictionary;
+    dictionary =
+        subst (λ ks. IsDictionary (cone_space p) ks (table_of d)) (sym over.key) here.stands.dictionary.dictionary;
     r = i;
     s = k;
     outside = (

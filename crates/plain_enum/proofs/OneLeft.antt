@@ -64,9 +64,11 @@ module _ (p : Polyhedron) (cone : ListedCone) (d : Dictionary) (fixed : List ℕ
         ap (λ g. g · column_of d j p.n) (taken_form p cone d fixed (k ∷ []) marks s i e)
         ∙ zero_elsewhere i (in_second fixed (labels_of marks) (k ∷ []) i e) n
 
-    row_value : (i : ℕ) → 0 < i → i ≤ length cone.rows → row_at cone i · column_of d j p.n ≡ Table.entry (table_of d) i j
+    row_value : (i : ℕ) → 0 < i → i ≤ length cone.rows →
+        row_at cone i · column_of d j p.n ≡ Table.entry (table_of d) i j
     row_value i m n =
-        ap (λ g. g · column_of d j p.n) (row_form p cone s.over i m n) ∙ column.values i (row_is_label p cone s.over i m n)
+        ap (λ g. g · column_of d j p.n) (row_form p cone s.over i m n)
+        ∙ column.values i (row_is_label p cone s.over i m n)
 
   -- ---- the rows taken
   in_taken : (j : ℕ) → Contains (labels_of marks) j → Contains labels j
@@ -78,7 +80,8 @@ module _ (p : Polyhedron) (cone : ListedCone) (d : Dictionary) (fixed : List ℕ
 
   taken_is_not_fixed : (j : ℕ) → Contains (labels_of marks) j → Contains fixed j → ⊥
   taken_is_not_fixed j c e =
-      distinct_apart fixed (labels_of marks ++ k ∷ []) s.distinct j e (Contains-append_left (labels_of marks) (k ∷ []) j c)
+      distinct_apart fixed (labels_of marks ++ k ∷ []) s.distinct j e
+      (Contains-append_left (labels_of marks) (k ∷ []) j c)
 
   abbrev dual : (j : ℕ) → Contains (labels_of marks) j → DualVector cone (labels_of marks) j
   dual j c = record {
@@ -100,7 +103,8 @@ module _ (p : Polyhedron) (cone : ListedCone) (d : Dictionary) (fixed : List ℕ
     width = wide k in_left b;
     base = base_zero k in_left b (λ e. left_is_not_fixed p cone d fixed (k ∷ []) marks s k e (Contains-first k []));
     taken = λ i e. rows_zero k in_left b i e
-        (λ f. left_is_not_taken p cone d fixed (k ∷ []) marks s k (subst (Contains (labels_of marks)) f e) (Contains-first k []));
+        (λ f. left_is_not_taken p cone d fixed (k ∷ []) marks s k (subst (Contains (labels_of marks)) f e)
+        (Contains-first k []));
   }
 
   count : length cone.base + length (labels_of marks) + 1 ≡ cone.n

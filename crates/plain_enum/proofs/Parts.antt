@@ -35,7 +35,8 @@ distinct_apart (x ∷ xs) ys h k c d =
 
 -- ---- three parts
 -- a fact of each label of the three lists
-pub in_parts : (P : ℕ → Type 0) (xs ys zs : List ℕ) → ((k : ℕ) → Contains xs k → P k) → ((k : ℕ) → Contains ys k → P k) →
+pub in_parts : (P : ℕ → Type 0) (xs ys zs : List ℕ) → ((k : ℕ) → Contains xs k → P k) →
+    ((k : ℕ) → Contains ys k → P k) →
     ((k : ℕ) → Contains zs k → P k) → (k : ℕ) → Contains (xs ++ (ys ++ zs)) k → P k
 in_parts P xs ys zs f g h k c =
     ⊎_elim (f k) (λ d. ⊎_elim (g k) (h k) (Contains-append_cases ys zs k d)) (Contains-append_cases xs (ys ++ zs) k c)

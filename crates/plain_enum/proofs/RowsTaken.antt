@@ -24,7 +24,8 @@ use Rattle.plain_enum.specs.Standing.{form_of, HasRowsOf}
 abbrev ZeroFrom : ListedCone → ℕ → List Bool → Vector → Type 0
 ZeroFrom cone j ms w = (k : ℕ) → Contains (labels_from j ms) k → row_at cone k · w ≡ pos 0
 
-taken_zero : (cone : ListedCone) (w : Vector) (j : ℕ) (before gs : List Vector) (ms : List Bool) → AreRowsFrom cone j gs →
+taken_zero : (cone : ListedCone) (w : Vector) (j : ℕ) (before gs : List Vector) (ms : List Bool) →
+    AreRowsFrom cone j gs →
     length ms ≤ length gs → Vanish (taken before gs ms) w ↔ (Vanish before w × ZeroFrom cone j ms w)
 taken_zero cone w j before gs [] r l = (
   λ v. (subst (λ t. Vanish t w) (taken-nil before gs) v, λ k c. absurd (Contains-nil k c)),
@@ -70,5 +71,6 @@ module _ (p : Polyhedron) (cone : ListedCone) (over : HasRowsOf p cone) where
 
   pub row_is_label : (i : ℕ) → 0 < i → i ≤ length cone.rows → Contains (cone_space p).labels i
   row_is_label i a b =
-      Contains-append_left (range_with_len 1 (length (cone_of p).rows)) (map coordinate_label (range_with_len 0 (p.n - 0))) i
+      Contains-append_left (range_with_len 1 (length (cone_of p).rows))
+      (map coordinate_label (range_with_len 0 (p.n - 0))) i
       (range_has 1 (length (cone_of p).rows) i (omega arith) (omega (arith, as_many)))

@@ -1,17 +1,10 @@
 -- What is shown where the dictionary stands and one label is left: the one coordinate of the key that is not free.
-use Rattle.std.proofs.Common.{◌≡◌, ⊎_elim, Bool, ℕ, ◌-◌, ◌^◌, ◌<◌, ◌≤◌, List, [], ◌∷◌, length, map, refl, sym, ap, subst, ◌∙◌, arith, append-nil, Option, Ok, Err}
-use Rattle.std.specs.List.{Contains, flat_map, range_with_len}
-use Rattle.std.specs.Io.KnownBytes.{Appends}
-use Rattle.std.proofs.KnownBytes.{Appends-nil}
-use Rattle.std.proofs.lemmas.List.Concat.{flat_map-cons}
+use Rattle.std.proofs.Common.{◌≡◌, ⊎_elim, Bool, ℕ, ◌-◌, ◌^◌, ◌<◌, ◌≤◌, List, [], ◌∷◌, length, map, refl, sym, ap, subst, arith}
+use Rattle.std.specs.List.{Contains, range_with_len}
 use Rattle.std.proofs.lemmas.List.Elements.{Contains-append_cases}
-use Rattle.poly_num.specs.Vectors.{Vector}
 use Rattle.poly_model.specs.Limits.{most_columns}
-use Rattle.poly_model.specs.declared.kind.Kind.{Kind}
 use Rattle.poly_model.specs.Systems.{System, Polyhedron, cone_of}
 use Rattle.poly_model.specs.Spaces.{coordinate_label, cone_space}
-use Rattle.poly_model.specs.ListingText.{row_text}
-use Rattle.poly_io.specs.Written.{AppendsPart}
 use Rattle.linear_laws.proofs.Members.{Contains-nil, Contains-first, Contains-cons_cases}
 use Rattle.dictionary_laws.proofs.Filters.{range_only, map_only}
 use Rattle.dictionary_laws.proofs.Values.{is_label}
@@ -21,45 +14,17 @@ use Rattle.listing_laws.specs.ListedCone.{ListedCone, IsConeOf}
 use Rattle.listing_laws.specs.Lists.{Lists}
 use Rattle.listing_laws.specs.Prefixes.{IsUnder}
 use Rattle.plain_enum.specs.declared.side.Side.{Side}
-use Rattle.plain_enum.specs.declared.answers.Shown.{Shown}
 use Rattle.plain_enum.specs.Columns.{IsLeftCoordinate, LeavesNoCoordinate}
 use Rattle.plain_enum.specs.Shown.{IsShownOn, primitive_column, vector_on}
-use Rattle.plain_enum.specs.Listed.{IsAt, counted, WritesRows}
+use Rattle.plain_enum.specs.Listed.{IsAt, counted}
 use Rattle.plain_enum.specs.Standing.{StandsAt, LeavesColumn}
 use Rattle.plain_enum.proofs.FixedLabels.{FixedAre, left_in_key, left_not_free, is_left}
 use Rattle.plain_enum.proofs.OneLeft.{one_is_left}
 use Rattle.plain_enum.proofs.ColumnShown.{one_on, none_on}
 
--- ---- rows written
+-- ---- a count of rows, and none more
 pub counted_none : (rows : ℕ) → rows < 2 ^ 64 → rows ≡ counted rows 0
 counted_none rows l = omega arith
-
-pub writes_none : {E : Type 0} (kind : Kind) (old : Option (List ℕ)) (s : Shown) (P : Vector → Type 0) → s.rows < 2 ^ 64 →
-    Lists P [] → WritesRows {E = E} kind s.rows old old (Ok s) P
-writes_none kind old s P few l = record {
-  whole = ([], l, record { bytes = Appends-nil old; count = counted_none s.rows few });
-  part = tt;
-}
-
-one_text : (kind : Kind) (y : Vector) → flat_map (row_text kind) (y ∷ []) ≡ row_text kind y
-one_text kind y = flat_map-cons (row_text kind) y [] ∙ append-nil (row_text kind y)
-
-pub writes_one : {E : Type 0} (kind : Kind) (rows : ℕ) (old new : Option (List ℕ)) (s : Shown) (y : Vector) (P : Vector → Type 0) →
-    s.rows ≡ counted rows 1 → Lists P (y ∷ []) → Appends old new (row_text kind y) →
-    WritesRows {E = E} kind rows old new (Ok s) P
-writes_one kind rows old new s y P count l a = record {
-  whole = (
-    y ∷ [],
-    l,
-    record { bytes = subst (λ t. Appends old new t) (sym (one_text kind y)) a; count = count },
-  );
-  part = tt;
-}
-
-pub writes_part : {E : Type 0} (kind : Kind) (rows : ℕ) (old new : Option (List ℕ)) (e : E) (y : Vector) (P : Vector → Type 0) →
-    Lists P (y ∷ []) → AppendsPart old new (row_text kind y) → WritesRows {E = E} kind rows old new (Err e) P
-writes_part kind rows old new e y P l a =
-    record { whole = tt; part = (y ∷ [], ([], l), subst (λ t. AppendsPart old new t) (sym (one_text kind y)) a) }
 
 -- ---- the label that is left
 one_only : (left : List ℕ) → length left ≡ 1 → (k : ℕ) × (left ≡ k ∷ [])
@@ -100,7 +65,8 @@ module _ (sys : System) (free : List ℕ) (d : Dictionary) (from : ℕ) (p : Pol
       let r = (range_only 0 (p.n - 0) m.0 m.1).1 in
       let e = m.2 in
       omega arith)
-      (Contains-append_cases (range_with_len 1 (length (cone_of p).rows)) (map coordinate_label (range_with_len 0 (p.n - 0))) k
+      (Contains-append_cases (range_with_len 1 (length (cone_of p).rows))
+      (map coordinate_label (range_with_len 0 (p.n - 0))) k
       (is_label (cone_space p) d.key stands.dictionary.dictionary.cobasis k in_key))
 
   module _ (narrow : sys.n ≤ most_columns) (col : ℕ) (is : IsLeftCoordinate d free col) where
@@ -126,7 +92,8 @@ module _ (sys : System) (free : List ℕ) (d : Dictionary) (from : ℕ) (p : Pol
         Lists (IsUnder cone marks) (vector_on side (primitive_column d col sys.n) ∷ [])
     one_here side h =
         subst (λ n. Lists (IsUnder cone marks) (vector_on side (primitive_column d col n) ∷ [])) (sym same_width)
-        (subst (λ j. Lists (IsUnder cone marks) (vector_on side (primitive_column d j p.n) ∷ [])) (sym (is_the_one col is))
+        (subst (λ j. Lists (IsUnder cone marks) (vector_on side (primitive_column d j p.n) ∷ []))
+        (sym (is_the_one col is))
         (one_on p cone free d fixed k marks stands are leaves listed side
         (subst (λ j. IsShownOn (cone_of p) d j side) (is_the_one col is)
         (subst (λ s. IsShownOn s d col side) at.file h))))

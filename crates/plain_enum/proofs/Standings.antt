@@ -97,7 +97,8 @@ module _ (p : Polyhedron) (cone : ListedCone) (d : Dictionary) (fixed left : Lis
         let wide : length y ≡ p.n = e ∙ s.over.width in
         let term : (k : ℕ) → ℤ = λ k. Table.entry (table_of d) (length marks + 1) k *ℤ (form_of p k · y) in
         ap (λ g. g · y) (next_form p cone s.over marks l)
-        ∙ zero_by_terms p labels stands_dictionary.cobasis (table_of d) stands_dictionary.writes (length marks + 1) next_is_label
+        ∙ zero_by_terms p labels stands_dictionary.cobasis (table_of d) stands_dictionary.writes
+        (length marks + 1) next_is_label
         y wide
         (in_parts (λ k. term k ≡ pos 0) fixed (labels_of marks) left
         (λ k c. times_zero (Table.entry (table_of d) (length marks + 1) k) (form_of p k · y) (fixed_zero y wide v k c))

@@ -52,7 +52,8 @@ module _ (p : Polyhedron) (cone : ListedCone) (d new : Dictionary) (fixed left :
 
   -- ---- the row that enters was not in the key, but as the label that leaves
   pub only_leaving : Contains d.key r → r ≡ k
-  only_leaving c = ⊎_elim (λ (e : r ≡ k). e) (λ (n : r ≢ k). absurd (by n (dual_over p d.key s.dictionary.dictionary.cobasis k old)))
+  only_leaving c =
+      ⊎_elim (λ (e : r ≡ k). e) (λ (n : r ≢ k). absurd (by n (dual_over p d.key s.dictionary.dictionary.cobasis k old)))
       (cases_eq r k)
     where
       old : Contains d.key k
@@ -76,7 +77,8 @@ module _ (p : Polyhedron) (cone : ListedCone) (d new : Dictionary) (fixed left :
 
   entering : Contains labels_now r
   entering =
-      in_second fixed taken_now (without k left) r (Contains-append_right (labels_of marks) (r ∷ []) r (Contains-first r []))
+      in_second fixed taken_now (without k left) r
+      (Contains-append_right (labels_of marks) (r ∷ []) r (Contains-first r []))
 
   there : (j : ℕ) → Contains (parted fixed marks left) j → j ≢ k → Contains labels_now j
   there =
@@ -91,7 +93,8 @@ module _ (p : Polyhedron) (cone : ListedCone) (d new : Dictionary) (fixed left :
   in_taken_now P f e j c =
       ⊎_elim (f j)
       (λ (h : Contains (r ∷ []) j).
-      ⊎_elim (λ (q : j ≡ r). subst P (sym q) e) (λ (h : Contains [] j). absurd (Contains-nil j h)) (contains_cases r [] j h))
+      ⊎_elim (λ (q : j ≡ r). subst P (sym q) e) (λ (h : Contains [] j). absurd (Contains-nil j h))
+      (contains_cases r [] j h))
       (Contains-append_cases (labels_of marks) (r ∷ []) j c)
 
   kept : (j : ℕ) → Contains (parted fixed marks left) j → j ≢ k → Contains new.key j
@@ -138,11 +141,13 @@ module _ (p : Polyhedron) (cone : ListedCone) (d new : Dictionary) (fixed left :
   fixed_apart j c e =
       ⊎_elim
       (λ (h : Contains taken_now j). in_taken_now (λ i. Contains fixed i → ⊥)
-      (λ i m f. distinct_apart fixed (labels_of marks ++ left) s.distinct i f (Contains-append_left (labels_of marks) left i m))
+      (λ i m f. distinct_apart fixed (labels_of marks ++ left) s.distinct i f
+      (Contains-append_left (labels_of marks) left i m))
       (λ f. left_is_not_fixed p cone d fixed left marks s k
       (subst (Contains fixed) (only_leaving (s.key.back r (in_first fixed (labels_of marks) left r f))) f) leaving)
       j h c)
-      (λ (h : Contains (without k left) j). left_is_not_fixed p cone d fixed left marks s j c (without_only k left j h).0)
+      (λ (h : Contains (without k left) j). left_is_not_fixed p cone d fixed left marks s j c
+      (without_only k left j h).0)
       (Contains-append_cases taken_now (without k left) j e)
 
   distinct_now : AreDistinct labels_now

@@ -3,13 +3,15 @@ use Rattle.std.specs.Prelude.{◌≡◌, ℕ, ◌+◌, ◌-◌, ◌≤◌, Bool,
 use Rattle.std.specs.List.{Contains, filter}
 use Rattle.poly_model.specs.declared.overflow.Phase.TheVariants.{Cone}
 use Rattle.poly_model.specs.Keys.{IsAscending}
-use Rattle.poly_model.specs.Systems.{Row, Polyhedron, cone_of}
+use Rattle.poly_num.specs.Vectors.{Vector}
+use Rattle.poly_model.specs.Systems.{Row, System, Polyhedron, cone_of}
 use Rattle.poly_model.specs.Spaces.{is_row, is_member}
 use Rattle.dictionary.specs.MainPhase.{stays_in}
 use Rattle.dictionary.specs.Views.{Dictionary}
 use Rattle.linearity.specs.Columns.{columns_in}
 use Rattle.linearity.specs.Elimination.{IsDictionaryOf, IsEliminated}
 use Rattle.listing_laws.specs.ListedCone.{ListedCone, cone_over}
+use Rattle.plain_enum.specs.Listed.{HasRoomFor}
 use Rattle.plain_enum.specs.Standing.{form_of}
 
 -- the linear rows have been tried at `at`, and all rows at `last`, which comes after it: so its coordinates are the
@@ -39,3 +41,9 @@ is_kept free k = if is_row k then false else not (is_member (k - 8192) free)
 -- the labels of a key that are left
 abbrev pub left_in : List ℕ → List ℕ → List ℕ
 left_in free key = filter (is_kept free) key
+
+-- there is room for a search of all vectors: a dictionary for each further label that is left
+pub record HasRoomForAll (sys : System) (free : List ℕ) (d : Dictionary) (deeper : List Dictionary) (vector : Vector) :
+    Type 0 where
+  pub room : HasRoomFor sys d deeper vector
+  pub depth : length deeper ≡ length (left_in free d.key) - 1

@@ -1,26 +1,19 @@
--- Whether an H file is feasible, by what stands under a prefix of rows.
-use Rattle.std.specs.Prelude.{ℕ, Bool, true, false, pos, ◌<ℤ◌, List}
-use Rattle.poly_num.specs.Vectors.{Vector}
-use Rattle.poly_model.specs.Systems.{System, Polyhedron}
-use Rattle.poly_model.specs.Cones.{at}
-use Rattle.dictionary.specs.Views.{Dictionary}
-use Rattle.listing_laws.specs.ListedCone.{ListedCone}
-use Rattle.listing_laws.specs.Prefixes.{IsUnder}
-use Rattle.plain_enum.specs.Listed.{IsAt}
+-- What the listing of a file that is feasible says, and writes.
+use Rattle.std.specs.Prelude.{ℕ, List, Option, Result, ◌⊎◌, IsOk, IsErrOf}
+use Rattle.poly_model.specs.declared.listed.Listed.{Listed}
+use Rattle.poly_model.specs.declared.overflow.Overflow.{Overflow as Passed}
+use Rattle.poly_model.specs.Extreme.{IsFeasible}
+use Rattle.poly_model.specs.Systems.{Polyhedron, cone_of}
+use Rattle.plain_enum.specs.declared.answers.ListStop.{ListStop}
+use Rattle.plain_enum.specs.declared.answers.ListStop.TheVariants.{Infeasible, Overflow}
+use Rattle.plain_enum.specs.Plain.{PassesInCone, WritesListing}
 
--- a vector under the prefix with a positive first entry
-pub record HasPointUnder (cone : ListedCone) (marks : List Bool) : Type 0 where
-  pub vector : Vector
-  pub under : IsUnder cone marks vector
-  pub positive : pos 0 <ℤ at 0 vector
-
--- true has one, false has none
-abbrev pub TellsPoint : ListedCone → List Bool → Bool → Type 0
-TellsPoint cone marks true = HasPointUnder cone marks
-TellsPoint cone marks false = HasPointUnder cone marks → ⊥
-
--- wherever the dictionary stands, it is told whether a vector under the prefix has a positive first entry
-abbrev pub TellsUnder : System → List ℕ → Dictionary → ℕ → ℕ → Bool → Type 0
-TellsUnder sys free d from depth found =
-    (p : Polyhedron) (cone : ListedCone) (fixed left : List ℕ) (marks : List Bool) →
-    IsAt sys free d from depth p cone fixed left marks → TellsPoint cone marks found
+-- p is feasible, and its listing was written; or it is not; or a number passes. What was written otherwise is the
+-- beginning of a listing, and nothing, or p is feasible: `Unwritten` says that the sink is as it was
+pub record ListsIfFeasible (p : Polyhedron) (old new : Option (List ℕ)) (Unwritten : Type 0)
+    (result : Result Listed ListStop) : Type 0 where
+  pub written : WritesListing p old new result
+  pub feasible : IsOk result → IsFeasible (cone_of p)
+  pub infeasible : IsErrOf result Infeasible → ¬ (IsFeasible (cone_of p))
+  pub overflow : (o : Passed) → IsErrOf result (Overflow o) → PassesInCone p o
+  pub printed : Unwritten ⊎ IsFeasible (cone_of p)

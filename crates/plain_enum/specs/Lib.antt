@@ -6,3 +6,4 @@ pub mod Shown
 pub mod Listed
 pub mod Plain
 pub mod Feasible
+pub mod Visits

@@ -22,6 +22,7 @@ pub record IsCountedListing (p : Polyhedron) (text : List ℕ) (listed : Listed)
   pub lines : listed.lines ≡ length listing.lines
 
 -- known bytes grow by a listing at Ok, and by first bytes of one at Err
-pub record WritesListing {E : Type 0} (p : Polyhedron) (old new : Option (List ℕ)) (result : Result Listed E) : Type 0 where
+pub record WritesListing {E : Type 0} (p : Polyhedron) (old new : Option (List ℕ))
+    (result : Result Listed E) : Type 0 where
   pub whole : IfOk result (λ listed. (text : List ℕ) × IsCountedListing p text listed × Appends old new text)
   pub part : OnErr result ((text : List ℕ) × IsListing p text × AppendsPart old new text)

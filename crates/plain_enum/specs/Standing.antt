@@ -34,7 +34,8 @@ parted fixed marks left = fixed ++ (labels_of marks ++ left)
 
 -- d is a dictionary of the cone's space. Its key has the fixed labels, which are 0 exactly where the base is, as many
 -- as the base has rows; the labels of the rows taken; and the coordinates that are left; each once
-pub record StandsAt (p : Polyhedron) (cone : ListedCone) (d : Dictionary) (fixed left : List ℕ) (marks : List Bool) : Type 0 where
+pub record StandsAt (p : Polyhedron) (cone : ListedCone) (d : Dictionary) (fixed left : List ℕ)
+    (marks : List Bool) : Type 0 where
   pub over : HasRowsOf p cone
   pub dictionary : IsDictionaryIn (cone_space p) d
   pub within : length marks ≤ length cone.rows
@@ -54,7 +55,8 @@ pub record HasColumnValues (p : Polyhedron) (d : Dictionary) (col : ℕ) : Type 
 -- have their entries as values at both
 pub record LeavesColumn (p : Polyhedron) (cone : ListedCone) (d : Dictionary) (marks : List Bool) (k : ℕ) : Type 0 where
   pub leaves : LeavesOne cone marks (column_of d k p.n)
-  pub at_left : (i : ℕ) → 0 < i → i ≤ length cone.rows → row_at cone i · column_of d k p.n ≡ Table.entry (table_of d) i k
+  pub at_left : (i : ℕ) → 0 < i → i ≤ length cone.rows →
+      row_at cone i · column_of d k p.n ≡ Table.entry (table_of d) i k
   pub duals : (j : ℕ) (c : Contains (labels_of marks) j) → (leaves.duals j c).vector ≡ column_of d j p.n
   pub at_duals : (i : ℕ) → 0 < i → i ≤ length cone.rows → (j : ℕ) (c : Contains (labels_of marks) j) →
       row_at cone i · (leaves.duals j c).vector ≡ Table.entry (table_of d) i j

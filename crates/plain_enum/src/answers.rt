@@ -20,6 +20,16 @@ pub enum FeasibleStop {
     Memory,
 }
 
+/// Why a file was not listed, or its listing given up. What was written by then is left as it is; of a file without a
+/// point it is nothing.
+#[derive(Clone, Copy, PartialEq, Eq, Debug)]
+pub enum ListStop {
+    Infeasible,
+    Overflow(Overflow),
+    WriteFault,
+    Memory,
+}
+
 /// A listing on its way, and how many rows it has; the number stands still at `2^64 - 1`.
 #[derive(Drop)]
 pub struct Shown {

@@ -1,13 +1,13 @@
 //! With what a listing begins: equations and free columns, dictionaries to write over, one for each further row that a
 //! list takes, and room for a vector.
-ghost use Rattle.std.specs.Prelude.{◌≡◌, ◌-◌, IfOk, IsErrOf, length};
+ghost use Rattle.std.specs.Prelude.{◌≡◌, ◌-◌, ◌<◌, ◌≤◌, IfOk, IsErrOf, length};
 ghost use Rattle.std.specs.List.{All};
 ghost use Rattle.poly_model.specs.declared.overflow.Overflow.{Overflow as Passed};
 ghost use Rattle.poly_model.specs.Keys.{IsAscending};
+ghost use Rattle.poly_model.specs.Limits.{most_columns, most_cone_rows};
 ghost use Rattle.poly_model.specs.Systems.{Polyhedron, cone_of};
 ghost use Rattle.linearity.specs.Columns.{columns_in};
-ghost use Rattle.plain_enum.specs.Begin.{IsBegun, left_in};
-ghost use Rattle.plain_enum.specs.Columns.{HasRows};
+ghost use Rattle.plain_enum.specs.Begin.{IsBegun, HasRoomForAll, left_in};
 ghost use Rattle.plain_enum.specs.Listed.{HasShapeOf};
 ghost use Rattle.plain_enum.specs.Plain.{PassesInCone};
 
@@ -28,23 +28,25 @@ pub(crate) struct Beginning {
     pub last: Dict,
     /// The free columns, ascending.
     pub free: Vec<u32>,
-    /// A dictionary of the shape of `at` for each row that a list takes.
+    pub room: Room,
+}
+
+/// What a search writes over.
+#[derive(Drop)]
+pub(crate) struct Room {
+    /// Dictionaries of one shape, one for each row that a list takes.
     pub deeper: Vec<Dict>,
-    /// Room for a vector.
     pub vector: Vec<Num>,
 }
 
 /// What the listing of a system begins with.
 pub(crate) fn begin(alloc: Global, sys: &System) -> Result<Beginning, FeasibleStop>
     ensures begun { IfOk result (λ b. (p : Polyhedron) → sys.now ≡ cone_of p → IsBegun p b.at b.last b.free.items) }
-    ensures rows { IfOk result (λ b. HasRows (length sys.now.rows) b.at) }
-    ensures shapes { IfOk result (λ b. All (HasShapeOf b.at) b.deeper.items) }
-    ensures depth { IfOk result (λ b. length b.deeper.items ≡ length (left_in b.free.items b.at.key) - 1) }
-    ensures vector { IfOk result (λ b. length b.vector.items ≡ sys.now.n) }
+    ensures room { IfOk result (λ b. HasRoomForAll sys.now b.free.items b.at b.room.deeper.items b.room.vector.items) }
     ensures overflow { (o : Passed) → IsErrOf result (FeasibleStop.Overflow o) → (p : Polyhedron) →
         sys.now ≡ cone_of p → PassesInCone p o }
 {
-    let (_n, _rows) = (sys.n(), sys.rows());
+    keeps_limits(sys);
     let Ok(mut at) = Dict::new(alloc, sys, Phase::Cone) else {
         return Err(FeasibleStop::Memory);
     };
@@ -63,15 +65,25 @@ pub(crate) fn begin(alloc: Global, sys: &System) -> Result<Beginning, FeasibleSt
     }
 }
 
+// A system keeps the limits of a cone. Nothing is done: the clauses are told.
+fn keeps_limits(sys: &System)
+    ensures some { 0 < sys.now.n }
+    ensures narrow { sys.now.n ≤ most_columns }
+    ensures few { length sys.now.rows ≤ most_cone_rows }
+{
+    sys.n();
+    sys.rows();
+}
+
 // The free columns, and room for a listing from these dictionaries. The answer is `Err` only for want of memory.
 fn with_room(alloc: Global, sys: &System, at: Dict, last: Dict) -> Result<Beginning, AllocError>
     ensures at { IfOk result (λ b. b.at ≡ at) }
     ensures last { IfOk result (λ b. b.last ≡ last) }
     ensures columns { IfOk result (λ b. b.free.items ≡ columns_in last.key) }
     ensures ascending { IfOk result (λ b. IsAscending last.key) }
-    ensures shapes { IfOk result (λ b. All (HasShapeOf at) b.deeper.items) }
-    ensures depth { IfOk result (λ b. length b.deeper.items ≡ length (left_in b.free.items at.key) - 1) }
-    ensures vector { IfOk result (λ b. length b.vector.items ≡ sys.now.n) }
+    ensures shapes { IfOk result (λ b. All (HasShapeOf at) b.room.deeper.items) }
+    ensures depth { IfOk result (λ b. length b.room.deeper.items ≡ length (left_in b.free.items at.key) - 1) }
+    ensures vector { IfOk result (λ b. length b.room.vector.items ≡ sys.now.n) }
 {
     let free = free_columns(alloc, &last)?;
     let left = count_left(&at, &free);
@@ -81,8 +93,7 @@ fn with_room(alloc: Global, sys: &System, at: Dict, last: Dict) -> Result<Beginn
         at,
         last,
         free,
-        deeper,
-        vector,
+        room: Room { deeper, vector },
     })
 }
 

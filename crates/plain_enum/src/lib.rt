@@ -7,20 +7,25 @@
 mod answers;
 mod begin;
 mod feasible;
+mod feasible_listing;
 mod list;
 mod plain;
+mod prefix;
 mod shown;
 mod side;
 #[cfg(test)]
 mod tests;
+mod visit;
 
 ghost use Rattle.plain_enum.specs.Laws.{ValuesAtColumns, NewByEntry, FollowsByEntries, OneIsLeft, TestByEntries, BeginsAtEmptyPrefix, PivotTakes, DictionaryStays};
 
-pub use answers::{FeasibleStop, PlainStop, Shown};
+pub use answers::{FeasibleStop, ListStop, PlainStop, Shown};
 pub use feasible::feasible_plain;
-pub use list::{list_under, show};
+pub use feasible_listing::list_feasible;
 pub use plain::list_plain;
+pub use prefix::{Ended, Prefix};
 pub use side::{Side, column_of};
+pub use visit::{Visit, visit_under};
 
 /// The column of a label of the key is a vector at which each label has its entry there as value.
 pub fn values_at_columns()

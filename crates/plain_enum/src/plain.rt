@@ -1,8 +1,7 @@
 //! The listing of a system by subsets of its rows: each vector is shown at its lexicographically first independent
 //! list of tight rows.
-ghost use Rattle.std.specs.Prelude.{◌≡◌, ◌≤◌, ◌-◌, ◌++◌, ℕ, List, [], length, map, IfOk, IsErrOf};
-ghost use Rattle.std.specs.List.{All, flat_map};
-ghost use Rattle.poly_num.specs.Vectors.{Vector as Entries};
+ghost use Rattle.std.specs.Prelude.{◌≡◌, ◌≤◌, ◌++◌, length, IfOk, IsErrOf};
+ghost use Rattle.std.specs.List.{flat_map};
 ghost use Rattle.poly_io.specs.Causes.{HasCause, Rose};
 ghost use Rattle.poly_io.specs.Written.{WritesText};
 ghost use Rattle.poly_model.specs.Limits.{most_columns};
@@ -11,21 +10,17 @@ ghost use Rattle.poly_model.specs.ListingText.{head_text, vector_text};
 ghost use Rattle.poly_model.specs.Systems.{Polyhedron, cone_of};
 ghost use Rattle.dictionary.specs.Views.{Dictionary};
 ghost use Rattle.linearity.specs.Columns.{coordinate_vectors};
-ghost use Rattle.listing_laws.specs.Prefixes.{IsUnder};
-ghost use Rattle.plain_enum.specs.Begin.{IsBegun, begun_cone, left_in};
-ghost use Rattle.plain_enum.specs.Columns.{HasRows};
-ghost use Rattle.plain_enum.specs.Listed.{HasShapeOf, WritesRows};
+ghost use Rattle.plain_enum.specs.Begin.{IsBegun, HasRoomForAll};
+ghost use Rattle.plain_enum.specs.Listed.{HasStopCause};
 ghost use Rattle.plain_enum.specs.Plain.{PassesInCone, WritesListing};
 
 use crate::answers::{FeasibleStop, PlainStop, Shown};
-use crate::begin::{Beginning, begin};
-use crate::list::list_under;
-use crate::side::left_coordinate;
-use dictionary::Dict;
+use crate::begin::{Beginning, Room, begin};
+use crate::list::list_rows;
+use crate::prefix::{Ended, Prefix};
 use linearity::lines_of;
 use poly_io::{Sink, WriteFault};
 use poly_model::{Kind, Listed, System, Vector};
-use poly_num::Num;
 use row_printer::Listing;
 use std::alloc::Global;
 
@@ -46,8 +41,7 @@ pub fn list_plain<S: Sink>(alloc: Global, sys: &System, out: &mut S) -> Result<L
         at,
         last,
         free,
-        mut deeper,
-        mut vector,
+        mut room,
     } = match begin(alloc, sys) {
         Ok(begun) => begun,
         Err(FeasibleStop::Overflow(overflow)) => return Err(PlainStop::Overflow(overflow)),
@@ -56,53 +50,50 @@ pub fn list_plain<S: Sink>(alloc: Global, sys: &System, out: &mut S) -> Result<L
     let Ok(lines) = lines_of(alloc, &last, sys.n()) else {
         return Err(PlainStop::Memory);
     };
-    print(
+    let start = Prefix {
         sys,
-        &free,
-        lines.as_slice(),
-        &at,
-        &mut deeper,
-        &mut vector,
-        out,
-    )
+        free: &free,
+        at: &at,
+        from: 1,
+    };
+    match print(&start, lines.as_slice(), &mut room, out) {
+        Ok(listed) => Ok(listed),
+        Err(Ended::Overflow(overflow)) => Err(PlainStop::Overflow(overflow)),
+        Err(Ended::Stopped(WriteFault)) => Err(PlainStop::WriteFault),
+    }
 }
 
-// Writes the listing from a dictionary at which the linear rows have been tried.
-fn print<S: Sink>(
-    sys: &System,
-    free: &[u32],
+/// Writes the listing from a dictionary at which the linear rows have been tried. It has these lines.
+pub(crate) fn print<S: Sink>(
+    start: &Prefix,
     lines: &[Vector],
-    at: &Dict,
-    deeper: &mut [Dict],
-    vector: &mut [Num],
+    room: &mut Room,
     out: &mut S,
-) -> Result<Listed, PlainStop>
-    requires rows { HasRows (length sys.now.rows) at.now }
+) -> Result<Listed, Ended<WriteFault>>
+    requires first { start.now.from ≡ 1 }
+    requires room { HasRoomForAll start.now.sys.now start.now.free.now start.now.at.now
+        room.old.deeper.items room.old.vector.items }
     requires lines { length lines.now ≤ most_columns }
-    requires shapes { All (HasShapeOf at.now) deeper.old }
-    requires depth { length deeper.old ≡ length (left_in free.now at.now.key) - 1 }
-    requires vector { length vector.old ≡ sys.now.n }
-    ensures written { (p : Polyhedron) (last : Dictionary) → sys.now ≡ cone_of p → IsBegun p at.now last free.now →
-        lines.now ≡ coordinate_vectors last sys.now.n → WritesListing p (S.written out.old) (S.written out.new) result }
-    ensures overflow { (o : Passed) → IsErrOf result (PlainStop.Overflow o) → (p : Polyhedron) (last : Dictionary) →
-        sys.now ≡ cone_of p → IsBegun p at.now last free.now → PassesInCone p o }
-    ensures memory { IsErrOf result PlainStop.Memory → ⊥ }
-    ensures later { S.faults out.old ≤ S.faults out.new }
-    ensures same { ¬ (IsErrOf result PlainStop.WriteFault) → S.faults out.new ≡ S.faults out.old }
-    ensures fault { IsErrOf result PlainStop.WriteFault → Rose (S.faults out.old) (S.faults out.new) }
+    ensures written { (p : Polyhedron) (last : Dictionary) → start.now.sys.now ≡ cone_of p →
+        IsBegun p start.now.at.now last start.now.free.now →
+        lines.now ≡ coordinate_vectors last start.now.sys.now.n →
+        WritesListing p (S.written out.old) (S.written out.new) result }
+    ensures passes { (o : Passed) → IsErrOf result (Ended.Overflow o) → (p : Polyhedron) (last : Dictionary) →
+        start.now.sys.now ≡ cone_of p → IsBegun p start.now.at.now last start.now.free.now → PassesInCone p o }
+    ensures cause { HasStopCause (S.faults out.old) (S.faults out.new) result }
 {
-    let listing = match print_head(sys.kind(), sys.n(), lines, out) {
+    let listing = match print_head(start.sys.kind(), start.sys.n(), lines, out) {
         Ok(listing) => listing,
-        Err(WriteFault) => return Err(PlainStop::WriteFault),
+        Err(fault) => return Err(Ended::Stopped(fault)),
     };
     let begun = Shown { listing, rows: 0 };
-    let Shown { listing, rows } = list_left(sys, free, at, deeper, vector, begun, out)?;
+    let Shown { listing, rows } = list_rows(start, room, begun, out)?;
     match listing.finish(out) {
         Ok(()) => Ok(Listed {
             rows,
             lines: lines.len() as u32,
         }),
-        Err(WriteFault) => Err(PlainStop::WriteFault),
+        Err(fault) => Err(Ended::Stopped(fault)),
     }
 }
 
@@ -124,36 +115,4 @@ fn print_head<S: Sink>(
         listing = listing.line(out, line.as_slice())?;
     }
     Ok(listing)
-}
-
-// Shows the extreme vectors, from a dictionary at which the linear rows have been tried. Where no coordinate is left
-// there is none.
-fn list_left<S: Sink>(
-    sys: &System,
-    free: &[u32],
-    at: &Dict,
-    deeper: &mut [Dict],
-    vector: &mut [Num],
-    shown: Shown,
-    out: &mut S,
-) -> Result<Shown, PlainStop>
-    requires rows { HasRows (length sys.now.rows) at.now }
-    requires shapes { All (HasShapeOf at.now) deeper.old }
-    requires depth { length deeper.old ≡ length (left_in free.now at.now.key) - 1 }
-    requires vector { length vector.old ≡ sys.now.n }
-    requires kind { shown.listing ≡ sys.now.kind }
-    ensures written { (p : Polyhedron) (last : Dictionary) → sys.now ≡ cone_of p → IsBegun p at.now last free.now →
-        WritesRows sys.now.kind shown.rows (S.written out.old) (S.written out.new) result
-        (IsUnder (begun_cone p free.now at.now) []) }
-    ensures overflow { (o : Passed) → IsErrOf result (PlainStop.Overflow o) → (p : Polyhedron) (last : Dictionary) →
-        sys.now ≡ cone_of p → IsBegun p at.now last free.now → PassesInCone p o }
-    ensures memory { IsErrOf result PlainStop.Memory → ⊥ }
-    ensures later { S.faults out.old ≤ S.faults out.new }
-    ensures same { ¬ (IsErrOf result PlainStop.WriteFault) → S.faults out.new ≡ S.faults out.old }
-    ensures fault { IsErrOf result PlainStop.WriteFault → Rose (S.faults out.old) (S.faults out.new) }
-{
-    match left_coordinate(at, free) {
-        Some(_) => list_under(sys, free, at, deeper, 1, vector, shown, out),
-        None => Ok(shown),
-    }
 }

@@ -296,9 +296,9 @@ fn counts_the_rows_and_lines_of_a_listing(rt: HostRuntime) -> Result<(), Fail> {
 fn lists_a_hundred_points(rt: HostRuntime) -> Result<(), Fail> {
     let alloc = rt.alloc();
     let mut entries = Vec::new(alloc);
-    for i in 0..100 {
+    for i in 0..100u8 {
         entries.push(1)?;
-        entries.push(i)?;
+        entries.push(i128::from(i))?;
     }
     let poly = poly_with(alloc, Kind::V, 2, &entries, &[])?;
     let mut out = MemSink::new(alloc, &[]);

@@ -6,9 +6,8 @@ use Rattle.poly_reader.specs.declared.bad.BadFile.{BadFile}
 use Rattle.poly_reader.specs.declared.bad.ReadStop.{ReadStop}
 use Rattle.poly_reader.specs.declared.bad.ReadStop.TheVariants.{Fault, Bad}
 use Rattle.plain_enum.specs.Plain.{PassesInCone}
-use Rattle.lrs_cli.specs.declared.status.Status.{Status}
 use Rattle.lrs_cli.specs.Answers.{Lists, WritesWhole, WritesPart}
-use Rattle.lrs_cli.proofs.AnswerLemmas.{answers_memory, answers_read_fault, answers_bad_file}
+use Rattle.lrs_cli.proofs.AnswerLemmas.{answers_bad_file}
 use Rattle.lrs_cli.proofs.EndLemmas.{ends}
 use Rattle.lrs_cli.proofs.FaultLemmas.{described, fault_of_source, text_of_source}
 use Rattle.lrs_cli.proofs.convert.convert.Goals as goal

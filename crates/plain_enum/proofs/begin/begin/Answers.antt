@@ -1,8 +1,8 @@
-use Rattle.std.proofs.Common.{Err, true, sym, ap, subst, ◌∙◌}
+use Rattle.std.proofs.Common.{Err, true, refl, sym, ap, subst, ◌∙◌}
 use Rattle.std.specs.List.{Contains}
 use Rattle.dictionary.specs.Views.{Dictionary}
 use Rattle.linearity.specs.Elimination.{IsDictionaryOf}
-use Rattle.plain_enum.specs.Begin.{IsBegun}
+use Rattle.plain_enum.specs.Begin.{IsBegun, HasRoomForAll}
 use Rattle.plain_enum.proofs.Begun.{same_overflow, TriesAll, new_rows, first_of, second_of, is_begun}
 use Rattle.plain_enum.proofs.begin.begin.Goals as goal
 
@@ -12,8 +12,9 @@ returns-in-Err-clause-overflow c o h p file =
     record {
       phase = c.in-Err.ensures.passing_phase o is ∙ c.in-Ok.ensures.phase_is;
       passes = c.in-Err.ensures.passes o is p file
-          (first_of c.args.sys.now c.in-Ok.at c.in-Ok.ensures c.n-n.ensures.value c.n-n.ensures.some c.n-n.ensures.narrow
-          c.rows-rows.ensures.value c.rows-rows.ensures.few p file);
+          (first_of c.args.sys.now c.in-Ok.at c.in-Ok.ensures refl c.keeps_limits.ensures.some
+          c.keeps_limits.ensures.narrow
+          refl c.keeps_limits.ensures.few p file);
     }
 
 pub returns-in-Err-enter_rows-clause-overflow : goal.returns-in-Err-enter_rows-clause-overflow
@@ -24,8 +25,9 @@ returns-in-Err-enter_rows-clause-overflow c o h p file =
           ∙ c.enter_rows.ensures.phase ∙ c.in-Ok.ensures.phase_is;
       passes = c.in-Err-enter_rows.ensures.passes o is p file
           (subst (IsDictionaryOf p) (sym c.in-Ok-copy.ensures)
-          (second_of c.args.sys.now c.in-Ok.at c.in-Ok.ensures c.n-n.ensures.value c.n-n.ensures.some c.n-n.ensures.narrow
-          c.rows-rows.ensures.value c.rows-rows.ensures.few p file c.enter_rows.new.at
+          (second_of c.args.sys.now c.in-Ok.at c.in-Ok.ensures refl c.keeps_limits.ensures.some
+          c.keeps_limits.ensures.narrow
+          refl c.keeps_limits.ensures.few p file c.enter_rows.new.at
           (c.in_default-enter_rows.ensures.entered p file)));
     }
 
@@ -36,8 +38,8 @@ returns-in-Ok-with_room-clause-begun c p file =
     let room = c.in-Ok-with_room.ensures in
     subst (λ d. IsBegun p d c.in-Ok-with_room.begun.last c.in-Ok-with_room.begun.free.items) (sym room.at)
     (subst (λ d. IsBegun p at d c.in-Ok-with_room.begun.free.items) (sym room.last)
-    (is_begun c.args.sys.now c.in-Ok.at c.in-Ok.ensures c.n-n.ensures.value c.n-n.ensures.some c.n-n.ensures.narrow
-    c.rows-rows.ensures.value c.rows-rows.ensures.few p file at last c.in-Ok-with_room.begun.free.items
+    (is_begun c.args.sys.now c.in-Ok.at c.in-Ok.ensures refl c.keeps_limits.ensures.some c.keeps_limits.ensures.narrow
+    refl c.keeps_limits.ensures.few p file at last c.in-Ok-with_room.begun.free.items
     (c.in_default-enter_rows.ensures.entered p file)
     (subst (λ d. TriesAll c.args.sys.now p true d last) c.in-Ok-copy.ensures
     (c.in_default-enter_rows-2.ensures.entered p file))
@@ -45,8 +47,21 @@ returns-in-Ok-with_room-clause-begun c p file =
     (λ k m l. subst (λ d. Contains d.key k) c.in-Ok-copy.ensures (c.enter_rows-2.ensures.fewer k m l))
     room.ascending room.columns))
 
-pub returns-in-Ok-with_room-clause-rows : goal.returns-in-Ok-with_room-clause-rows
-returns-in-Ok-with_room-clause-rows c i a b =
-    subst (λ ks. Contains ks i)
-    (sym c.enter_rows.ensures.labels ∙ sym (ap (λ d. d.labels) c.in-Ok-with_room.ensures.at))
-    (new_rows c.args.sys.now c.in-Ok.at c.in-Ok.ensures i a b)
+pub returns-in-Ok-with_room-clause-room : goal.returns-in-Ok-with_room-clause-room
+returns-in-Ok-with_room-clause-room c =
+    let at = c.enter_rows.new.at in
+    let begun = c.in-Ok-with_room.begun in
+    let room = c.in-Ok-with_room.ensures in
+    subst (λ d. HasRoomForAll c.args.sys.now begun.free.items d begun.room.deeper.items begun.room.vector.items)
+    (sym room.at)
+    (record {
+      room = record {
+        rows = λ i a b. subst (λ ks. Contains ks i) (sym c.enter_rows.ensures.labels)
+            (new_rows c.args.sys.now c.in-Ok.at c.in-Ok.ensures i a b);
+        shapes = room.shapes;
+        width = room.vector;
+        some = c.keeps_limits.ensures.some;
+        narrow = c.keeps_limits.ensures.narrow;
+      };
+      depth = room.depth;
+    })

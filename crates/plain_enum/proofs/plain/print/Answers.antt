@@ -1,17 +1,19 @@
-use Rattle.std.proofs.Common.{◌≡◌, ℕ, List, Err, refl, sym, ap, subst, ◌∙◌, ◌++◌, length}
+use Rattle.std.proofs.Common.{◌≡◌, ◌≤◌, ℕ, List, Err, refl, sym, ap, subst, ◌∙◌, ◌++◌, length}
 use Rattle.std.proofs.lemmas.Result.{err_from_is_err_and}
 use Rattle.std.specs.Io.KnownBytes.{Appends}
 use Rattle.std.specs.List.{flat_map}
 use Rattle.poly_num.specs.Vectors.{Vector}
+use Rattle.poly_io.specs.Causes.{Rose}
 use Rattle.poly_io.specs.Written.{AppendsPart}
 use Rattle.poly_model.specs.declared.kind.Kind.{Kind}
 use Rattle.poly_model.specs.ListingText.{head_text, vector_text}
 use Rattle.poly_model.specs.Systems.{System}
-use Rattle.plain_enum.specs.declared.answers.PlainStop.TheVariants as PlainStop
+use Rattle.plain_enum.specs.declared.prefix.Ended.TheVariants as Ended
 use Rattle.plain_enum.specs.Begin.{begun_cone}
 use Rattle.plain_enum.proofs.BeginAt.{begun_lines, is_cone_of}
 use Rattle.plain_enum.proofs.LoopUnder.{err_of}
 use Rattle.plain_enum.proofs.ListingParts.{stops_in_head, stops_in_rows, stops_in_end, ends_whole}
+use Rattle.plain_enum.proofs.RowsShown.{stopped, not_stopped, cause_after}
 use Rattle.plain_enum.proofs.plain.print.Goals as goal
 
 -- what is written before the rows, of the kind and the width that the system tells
@@ -26,43 +28,49 @@ pub returns-in-Err-clause-written : goal.returns-in-Err-clause-written
 returns-in-Err-clause-written g c p last file b same =
     let old = g.S.Sink.written c.args.out.now in
     let mid = g.S.Sink.written c.print_head.new.out in
-    stops_in_head c.args.sys.now p (begun_cone p c.args.free.now c.args.at.now) file
-    (is_cone_of p c.args.at.now last c.args.free.now b c.args.sys.now file) c.args.lines.now
-    (begun_lines p c.args.at.now last c.args.free.now b c.args.sys.now c.args.lines.now file same) old mid _ refl
+    stops_in_head c.args.start.now.sys.now p (begun_cone p c.args.start.now.free.now c.args.start.now.at.now) file
+    (is_cone_of p c.args.start.now.at.now last c.args.start.now.free.now b c.args.start.now.sys.now file)
+    c.args.lines.now
+    (begun_lines p c.args.start.now.at.now last c.args.start.now.free.now b c.args.start.now.sys.now c.args.lines.now
+    file same) old mid _ refl
     (subst (λ t. AppendsPart old mid t)
-    (same_head c.args.sys.now c.args.lines.now c.kind.result c.n.result c.kind.ensures c.n.ensures.value)
+    (same_head c.args.start.now.sys.now c.args.lines.now c.kind.result c.n.result c.kind.ensures c.n.ensures.value)
     c.in-Err.ensures.text.part)
 
 pub returns-in_err-listing-clause-written : goal.returns-in_err-listing-clause-written
 returns-in_err-listing-clause-written g c p last file b same =
     let old = g.S.Sink.written c.args.out.now in
     let mid = g.S.Sink.written c.print_head.new.out in
-    stops_in_rows c.args.sys.now p (begun_cone p c.args.free.now c.args.at.now) file
-    (is_cone_of p c.args.at.now last c.args.free.now b c.args.sys.now file) c.args.lines.now
-    (begun_lines p c.args.at.now last c.args.free.now b c.args.sys.now c.args.lines.now file same)
-    old mid (g.S.Sink.written c.list_left.new.out) c.from_residual.result c.from_residual.ensures.0
+    stops_in_rows c.args.start.now.sys.now p (begun_cone p c.args.start.now.free.now c.args.start.now.at.now) file
+    (is_cone_of p c.args.start.now.at.now last c.args.start.now.free.now b c.args.start.now.sys.now file)
+    c.args.lines.now
+    (begun_lines p c.args.start.now.at.now last c.args.start.now.free.now b c.args.start.now.sys.now c.args.lines.now
+    file same)
+    old mid (g.S.Sink.written c.list_rows.new.out) c.from_residual.result c.from_residual.ensures.0
     (subst (λ t. Appends old mid t)
-    (same_head c.args.sys.now c.args.lines.now c.kind.result c.n.result c.kind.ensures c.n.ensures.value)
+    (same_head c.args.start.now.sys.now c.args.lines.now c.kind.result c.n.result c.kind.ensures c.n.ensures.value)
     c.in-Ok.ensures.text.whole)
     (c.in_err-listing.ensures.written p last file b).part
 
-pub returns-in_err-listing-clause-overflow : goal.returns-in_err-listing-clause-overflow
-returns-in_err-listing-clause-overflow g c o e p last file b =
+pub returns-in_err-listing-clause-passes : goal.returns-in_err-listing-clause-passes
+returns-in_err-listing-clause-passes g c o e p last file b =
     let q = err_from_is_err_and c.from_residual.result c.from_residual.ensures.1 in
-    let far : c.in_err-listing.field-0.0 ≡ PlainStop.Overflow o =
-    sym q.2 ∙ err_of c.from_residual.result (PlainStop.Overflow o) q.0 e q.1 in
-    c.in_err-listing.ensures.overflow o (ap (λ v. Err v) far) p last file b
+    let far : c.in_err-listing.field-0.0 ≡ Ended.Overflow o =
+    sym q.2 ∙ err_of c.from_residual.result (Ended.Overflow o) q.0 e q.1 in
+    c.in_err-listing.ensures.passes o (ap (λ v. Err v) far) p last file b
 
 pub returns-in-Ok-finish-clause-written : goal.returns-in-Ok-finish-clause-written
 returns-in-Ok-finish-clause-written g c p last file b same =
     let old = g.S.Sink.written c.args.out.now in
     let mid = g.S.Sink.written c.print_head.new.out in
-    ends_whole c.args.sys.now p (begun_cone p c.args.free.now c.args.at.now) file
-    (is_cone_of p c.args.at.now last c.args.free.now b c.args.sys.now file) c.args.lines.now
-    (begun_lines p c.args.at.now last c.args.free.now b c.args.sys.now c.args.lines.now file same)
-    old mid (g.S.Sink.written c.list_left.new.out) (g.S.Sink.written c.finish.new.out) _ refl
+    ends_whole c.args.start.now.sys.now p (begun_cone p c.args.start.now.free.now c.args.start.now.at.now) file
+    (is_cone_of p c.args.start.now.at.now last c.args.start.now.free.now b c.args.start.now.sys.now file)
+    c.args.lines.now
+    (begun_lines p c.args.start.now.at.now last c.args.start.now.free.now b c.args.start.now.sys.now c.args.lines.now
+    file same)
+    old mid (g.S.Sink.written c.list_rows.new.out) (g.S.Sink.written c.finish.new.out) _ refl
     (subst (λ t. Appends old mid t)
-    (same_head c.args.sys.now c.args.lines.now c.kind.result c.n.result c.kind.ensures c.n.ensures.value)
+    (same_head c.args.start.now.sys.now c.args.lines.now c.kind.result c.n.result c.kind.ensures c.n.ensures.value)
     c.in-Ok.ensures.text.whole)
     (c.in_ok-listing.ensures.written p last file b).whole
     c.in-Ok-finish.ensures.text.whole
@@ -72,11 +80,39 @@ returns-in-Err-finish-clause-written g c p last file b same =
     let old = g.S.Sink.written c.args.out.now in
     let mid = g.S.Sink.written c.print_head.new.out in
     let rows = (c.in_ok-listing.ensures.written p last file b).whole in
-    stops_in_end c.args.sys.now p (begun_cone p c.args.free.now c.args.at.now) file
-    (is_cone_of p c.args.at.now last c.args.free.now b c.args.sys.now file) c.args.lines.now
-    (begun_lines p c.args.at.now last c.args.free.now b c.args.sys.now c.args.lines.now file same)
-    old mid (g.S.Sink.written c.list_left.new.out) (g.S.Sink.written c.finish.new.out) _ refl
+    stops_in_end c.args.start.now.sys.now p (begun_cone p c.args.start.now.free.now c.args.start.now.at.now) file
+    (is_cone_of p c.args.start.now.at.now last c.args.start.now.free.now b c.args.start.now.sys.now file)
+    c.args.lines.now
+    (begun_lines p c.args.start.now.at.now last c.args.start.now.free.now b c.args.start.now.sys.now c.args.lines.now
+    file same)
+    old mid (g.S.Sink.written c.list_rows.new.out) (g.S.Sink.written c.finish.new.out) _ refl
     (subst (λ t. Appends old mid t)
-    (same_head c.args.sys.now c.args.lines.now c.kind.result c.n.result c.kind.ensures c.n.ensures.value)
+    (same_head c.args.start.now.sys.now c.args.lines.now c.kind.result c.n.result c.kind.ensures c.n.ensures.value)
     c.in-Ok.ensures.text.whole)
     rows.0 rows.1 rows.2.bytes c.in-Err-finish.ensures.text.part
+
+-- ---- the faults
+pub returns-in-Err-clause-cause : goal.returns-in-Err-clause-cause
+returns-in-Err-clause-cause g c =
+    stopped (g.S.Sink.faults c.args.out.now) (g.S.Sink.faults c.print_head.new.out) c.in-Err.fault
+    c.in-Err.ensures.cause.later c.in-Err.ensures.cause.failed
+
+pub returns-in_err-listing-clause-cause : goal.returns-in_err-listing-clause-cause
+returns-in_err-listing-clause-cause g c =
+    let q = err_from_is_err_and c.from_residual.result c.from_residual.ensures.1 in
+    cause_after (g.S.Sink.faults c.args.out.now) (g.S.Sink.faults c.print_head.new.out)
+    (g.S.Sink.faults c.list_rows.new.out) c.in_err-listing.field-0.0 c.from_residual.result c.in-Ok.ensures.cause.same
+    (q.1 ∙ ap (λ x. Err x) q.2) c.in_err-listing.ensures.cause
+
+pub returns-in-Ok-finish-clause-cause : goal.returns-in-Ok-finish-clause-cause
+returns-in-Ok-finish-clause-cause g c =
+    not_stopped (g.S.Sink.faults c.args.out.now) (g.S.Sink.faults c.finish.new.out) _
+    (c.in-Ok-finish.ensures.cause.same ∙ c.in_ok-listing.ensures.cause.same (λ e h. cc) ∙ c.in-Ok.ensures.cause.same)
+    (λ e h. cc)
+
+pub returns-in-Err-finish-clause-cause : goal.returns-in-Err-finish-clause-cause
+returns-in-Err-finish-clause-cause g c =
+    let same = c.in_ok-listing.ensures.cause.same (λ e h. cc) ∙ c.in-Ok.ensures.cause.same in
+    stopped (g.S.Sink.faults c.args.out.now) (g.S.Sink.faults c.finish.new.out) c.in-Err-finish.fault
+    (subst (λ n. n ≤ g.S.Sink.faults c.finish.new.out) same c.in-Err-finish.ensures.cause.later)
+    (subst (λ n. Rose n (g.S.Sink.faults c.finish.new.out)) same c.in-Err-finish.ensures.cause.failed)
