@@ -8,7 +8,7 @@ use Rattle.poly_reader.specs.Reading.{reading}
 use Rattle.plain_enum.specs.Plain.{PassesInCone}
 use Rattle.lrs_cli.specs.declared.status.Status.{Status}
 use Rattle.lrs_cli.specs.declared.status.Status.TheVariants.{Done, Usage, BadFile, Infeasible, Overflow, ReadFault, WriteFault, OutOfMemory}
-use Rattle.lrs_cli.specs.Answers.{Told, Knows, HasNoObstacle, IsBadFile, IsOverflow, Lists, Ends}
+use Rattle.lrs_cli.specs.Answers.{Told, Knows, HasNoObstacle, IsBadFile, HasOverflow, ComesOfPolyhedron, Ends}
 
 same_ok : (p q : Polyhedron) → ◌≡◌ {A = Result Polyhedron Fault} (Ok p) (Ok q) → p ≡ q
 same_ok p q e = cc
@@ -24,14 +24,14 @@ pub not_bad : (source : Option (List ℕ)) → Knows source HasNoObstacle → (f
 not_bad None k f t = k
 not_bad (Some text) k f t = not_both k.polyhedron f (sym k.read ∙ t)
 
-not_overflow : (source : Option (List ℕ)) → Knows source HasNoObstacle → (o : Passed) → Told source (IsOverflow o) → ⊥
+not_overflow : (source : Option (List ℕ)) → Knows source HasNoObstacle → (o : Passed) → Told source (HasOverflow o) → ⊥
 not_overflow None k o t = k
 not_overflow (Some text) k o t =
     k.holds o (subst (λ p. PassesInCone p o) (same_polyhedron text t.polyhedron k.polyhedron t.read k.read) t.holds)
 
 -- of a polyhedron's answers those are left that end
 module _ (source : Option (List ℕ)) (known : Knows source HasNoObstacle) where
-  pub ends : (s : Status) → Lists s → (s ≡ WriteFault → ⊥) → ((o : Passed) → s ≡ Overflow o → Told source (IsOverflow o)) →
+  pub ends : (s : Status) → ComesOfPolyhedron s → (s ≡ WriteFault → ⊥) → ((o : Passed) → s ≡ Overflow o → Told source (HasOverflow o)) →
       Ends s
   ends (Done rows lines) l w d = tt
   ends Infeasible l w d = tt

@@ -5,10 +5,10 @@ use Rattle.std.proofs.lemmas.Bool.{lt-ltb}
 use Rattle.poly_reader.specs.declared.bad.BadFile.{BadFile}
 use Rattle.poly_reader.specs.declared.bad.BadKind.TheVariants.{TooLong}
 use Rattle.poly_reader.specs.Limits.{most_file_bytes}
-use Rattle.poly_reader.specs.Reading.{reading}
+use Rattle.poly_reader.specs.Reading.{reading, IsFileOf}
 use Rattle.poly_reader.specs.Taking.{FindsPolyhedron, FindsFault}
 use Rattle.poly_model.specs.Systems.{Polyhedron}
-use Rattle.lrs_cli.specs.Answers.{Told, IsTextOf, Describes, IsBadFile}
+use Rattle.lrs_cli.specs.Answers.{Told, Describes, IsBadFile}
 
 abbrev too_long : BadFile
 too_long = record { kind = TooLong; line = 0 }
@@ -34,13 +34,13 @@ fault_of_source (Some whole) None f h = absurd h.taken
 fault_of_source (Some whole) (Some rest) f h = rw h.taken (fault_of_all h.text rest f h.enough h.read)
 
 -- the polyhedron that was found is that of all that the source had
-pub text_of_source : (old new : Option (List ℕ)) (p : Polyhedron) → FindsPolyhedron old new p → Told old (IsTextOf p)
+pub text_of_source : (old new : Option (List ℕ)) (p : Polyhedron) → FindsPolyhedron old new p → Told old (λ text. IsFileOf text p)
 text_of_source None new p h = tt
 text_of_source (Some whole) None p h = absurd h.taken
 text_of_source (Some whole) (Some rest) p h = rw (h.taken, h.ends, append-nil p.text) h.read
 
 -- what holds of the polyhedron of a text
-pub described : (P : Polyhedron → Type 0) (p : Polyhedron) (source : Option (List ℕ)) → Told source (IsTextOf p) → P p →
+pub described : (P : Polyhedron → Type 0) (p : Polyhedron) (source : Option (List ℕ)) → Told source (λ text. IsFileOf text p) → P p →
     Told source (Describes P)
 described P p None t h = tt
 described P p (Some text) t h = record { polyhedron = p; read = t; holds = h }

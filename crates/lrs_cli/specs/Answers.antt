@@ -1,5 +1,5 @@
 -- What an answer of the program says of the text that was read, and of what was written.
-use Rattle.std.specs.Prelude.{◌≡◌, ℕ, List, Option, Some, None, Ok, Err, ⊤}
+use Rattle.std.specs.Prelude.{ℕ, List, Option, Some, None, ⊤}
 use Rattle.std.specs.Io.KnownBytes.{Appends}
 use Rattle.poly_model.specs.declared.overflow.Overflow.{Overflow as Passed}
 use Rattle.poly_model.specs.Systems.{Polyhedron, cone_of}
@@ -7,7 +7,7 @@ use Rattle.poly_model.specs.Extreme.{IsFeasible}
 use Rattle.poly_model.specs.Listing.{IsListing}
 use Rattle.poly_io.specs.Written.{AppendsPart}
 use Rattle.poly_reader.specs.declared.bad.BadFile.{BadFile as Fault}
-use Rattle.poly_reader.specs.Reading.{reading}
+use Rattle.poly_reader.specs.Reading.{IsFileOf, IsFirstFault}
 use Rattle.plain_enum.specs.Plain.{IsCountedListing, PassesInCone}
 use Rattle.lrs_cli.specs.declared.status.Status.{Status}
 use Rattle.lrs_cli.specs.declared.status.Status.TheVariants.{Done, Usage, BadFile, Infeasible, Overflow, ReadFault, WriteFault, OutOfMemory}
@@ -22,14 +22,10 @@ abbrev pub Knows : Option (List ℕ) → (List ℕ → Type 0) → Type 0
 Knows None P = ⊥
 Knows (Some bytes) P = P bytes
 
--- the text describes this polyhedron
-abbrev pub IsTextOf : Polyhedron → List ℕ → Type 0
-IsTextOf p text = reading text ≡ Ok p
-
 -- the text describes a polyhedron with P
 pub record Describes (P : Polyhedron → Type 0) (text : List ℕ) : Type 0 where
   pub polyhedron : Polyhedron
-  pub read : reading text ≡ Ok polyhedron
+  pub read : IsFileOf text polyhedron
   pub holds : P polyhedron
 
 -- the text describes a polyhedron with a point
@@ -41,12 +37,12 @@ abbrev pub IsInfeasibleFile : List ℕ → Type 0
 IsInfeasibleFile text = Describes (λ p. IsFeasible (cone_of p) → ⊥) text
 
 -- a product that a pivot needs passes, at a dictionary of the cone of the polyhedron that the text describes
-abbrev pub IsOverflow : Passed → List ℕ → Type 0
-IsOverflow o text = Describes (λ p. PassesInCone p o) text
+abbrev pub HasOverflow : Passed → List ℕ → Type 0
+HasOverflow o text = Describes (λ p. PassesInCone p o) text
 
 -- the text describes no polyhedron, and this is the first fault
 abbrev pub IsBadFile : Fault → List ℕ → Type 0
-IsBadFile fault text = reading text ≡ Err fault
+IsBadFile fault text = IsFirstFault text fault
 
 -- p has a point, and what is known of the output grew by a listing of it, with so many rows and lines
 pub record WritesWhole (old new : Option (List ℕ)) (rows lines : ℕ) (p : Polyhedron) : Type 0 where
@@ -85,15 +81,15 @@ abbrev pub HasNoObstacle : List ℕ → Type 0
 HasNoObstacle text = Describes (λ p. (o : Passed) → PassesInCone p o → ⊥) text
 
 -- the answers that come once a polyhedron was read
-abbrev pub Lists : Status → Type 0
-Lists (Done rows lines) = Unit {0}
-Lists Infeasible = Unit {0}
-Lists (Overflow o) = Unit {0}
-Lists WriteFault = Unit {0}
-Lists OutOfMemory = Unit {0}
-Lists (BadFile f) = ⊥
-Lists Usage = ⊥
-Lists ReadFault = ⊥
+abbrev pub ComesOfPolyhedron : Status → Type 0
+ComesOfPolyhedron (Done rows lines) = Unit {0}
+ComesOfPolyhedron Infeasible = Unit {0}
+ComesOfPolyhedron (Overflow o) = Unit {0}
+ComesOfPolyhedron WriteFault = Unit {0}
+ComesOfPolyhedron OutOfMemory = Unit {0}
+ComesOfPolyhedron (BadFile f) = ⊥
+ComesOfPolyhedron Usage = ⊥
+ComesOfPolyhedron ReadFault = ⊥
 
 -- the answers of a listing that was given up
 abbrev pub StopsListing : Status → Type 0

@@ -10,7 +10,7 @@ use Rattle.poly_reader.specs.Limits.{most_file_bytes}
 use Rattle.poly_reader.specs.declared.bad.BadFile.{BadFile as Fault}
 use Rattle.lrs_cli.specs.declared.status.Status.{Status}
 use Rattle.lrs_cli.specs.declared.status.Status.TheVariants.{Done, Usage, BadFile, Infeasible, Overflow, ReadFault, WriteFault, OutOfMemory}
-use Rattle.lrs_cli.specs.Answers.{Told, Knows, IsListed, IsPartlyListed, IsFeasibleFile, IsInfeasibleFile, IsOverflow, IsBadFile, HasNoObstacle, StopsListing, WritesNothing, Ends}
+use Rattle.lrs_cli.specs.Answers.{Told, Knows, IsListed, IsPartlyListed, IsFeasibleFile, IsInfeasibleFile, HasOverflow, IsBadFile, HasNoObstacle, StopsListing, WritesNothing, Ends}
 
 -- the input and the output at a moment: the bytes that are left and that were written, where they are told, and how
 -- often a read and a write has failed
@@ -37,7 +37,7 @@ pub record AnswersConvert (before after : Streams) (Unwritten : Type 0) (answer 
   -- infeasible: the polyhedron has no point
   pub infeasible : answer ≡ Infeasible → Told before.left IsInfeasibleFile
   -- overflow: a product that a pivot needs passes, at a dictionary of its cone
-  pub overflow : (o : Passed) → answer ≡ Overflow o → Told before.left (IsOverflow o)
+  pub overflow : (o : Passed) → answer ≡ Overflow o → Told before.left (HasOverflow o)
   -- an overflow, a write fault: what was written is the beginning of a listing. It is none, or the polyhedron has a point
   pub stopped : StopsListing answer → Told before.left (IsPartlyListed before.written after.written)
   pub printed : StopsListing answer → Unwritten ⊎ Told before.left IsFeasibleFile

@@ -8,7 +8,7 @@ use Rattle.poly_io.specs.Written.{AppendsPart}
 use Rattle.lrs_cli.specs.declared.status.Status.{Status}
 use Rattle.lrs_cli.specs.declared.status.Status.TheVariants.{Usage, OutOfMemory}
 use Rattle.lrs_cli.specs.Convert.{Streams, Answers}
-use Rattle.lrs_cli.specs.StatusLine.{line_of, number_of}
+use Rattle.lrs_cli.specs.StatusLine.{status_text, status_number}
 
 -- the answer to the arguments of the process: that to the words, or why there are none
 abbrev pub AnswersArguments : Result (List (List ℕ)) LineStop → Streams → Streams → Type 0 → Type 0 → Status → Type 0
@@ -19,7 +19,7 @@ AnswersArguments (Err stops.Memory) before after Unread Unwritten answer = (answ
 -- the status line went out, or its first bytes, and then a write of it failed
 abbrev pub IsSaid : Option (List ℕ) → Option (List ℕ) → ℕ → ℕ → Status → Type 0
 IsSaid old new before after status =
-    Appends old new (line_of status) ⊎ (AppendsPart old new (line_of status) × Rose before after)
+    Appends old new (status_text status) ⊎ (AppendsPart old new (status_text status) × Rose before after)
 
 -- the process answers its arguments, says so, and ends with the answer's number
 pub record Ending (arguments : Result (List (List ℕ)) LineStop) (before after : Streams) (Unread Unwritten : Type 0)
@@ -27,4 +27,4 @@ pub record Ending (arguments : Result (List (List ℕ)) LineStop) (before after 
   pub answer : Status
   pub answers : AnswersArguments arguments before after Unread Unwritten answer
   pub said : Said answer
-  pub number_is : number ≡ number_of answer
+  pub number_is : number ≡ status_number answer

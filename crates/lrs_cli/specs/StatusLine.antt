@@ -37,22 +37,22 @@ places_text o = place_text o.a ++ (codes " " ++ (place_text o.b ++ (codes " " ++
 abbrev pub overflow_text : Overflow → List ℕ
 overflow_text o = phase_text o.phase ++ (codes " " ++ (key_text o.key ++ (codes " " ++ places_text o)))
 
-unfoldable pub line_of : Status → List ℕ
-line_of (Done rows lines) = codes "lrs: done " ++ (decimal rows ++ (codes " rows " ++ (decimal lines ++ codes " lines\n")))
-line_of Usage = codes "lrs: usage: lrs convert / run LEDGER / resume LEDGER / status LEDGER / job / demo KIND N\n"
-line_of (BadFile bad) = codes "lrs: bad file: " ++ (kind_text bad.kind ++ (codes " at line " ++ (decimal bad.line ++ codes "\n")))
-line_of Infeasible = codes "lrs: infeasible\n"
-line_of (Overflowed o) = codes "lrs: overflow " ++ (overflow_text o ++ codes "\n")
-line_of ReadFault = codes "lrs: read fault\n"
-line_of WriteFault = codes "lrs: write fault\n"
-line_of OutOfMemory = codes "lrs: out of memory\n"
+unfoldable pub status_text : Status → List ℕ
+status_text (Done rows lines) = codes "lrs: done " ++ (decimal rows ++ (codes " rows " ++ (decimal lines ++ codes " lines\n")))
+status_text Usage = codes "lrs: usage: lrs convert / run LEDGER / resume LEDGER / status LEDGER / job / demo KIND N\n"
+status_text (BadFile bad) = codes "lrs: bad file: " ++ (kind_text bad.kind ++ (codes " at line " ++ (decimal bad.line ++ codes "\n")))
+status_text Infeasible = codes "lrs: infeasible\n"
+status_text (Overflowed o) = codes "lrs: overflow " ++ (overflow_text o ++ codes "\n")
+status_text ReadFault = codes "lrs: read fault\n"
+status_text WriteFault = codes "lrs: write fault\n"
+status_text OutOfMemory = codes "lrs: out of memory\n"
 
-abbrev pub number_of : Status → ℕ
-number_of (Done rows lines) = 0
-number_of Usage = 2
-number_of (BadFile bad) = 3
-number_of Infeasible = 4
-number_of (Overflowed o) = 5
-number_of ReadFault = 6
-number_of WriteFault = 7
-number_of OutOfMemory = 15
+abbrev pub status_number : Status → ℕ
+status_number (Done rows lines) = 0
+status_number Usage = 2
+status_number (BadFile bad) = 3
+status_number Infeasible = 4
+status_number (Overflowed o) = 5
+status_number ReadFault = 6
+status_number WriteFault = 7
+status_number OutOfMemory = 15

@@ -7,7 +7,7 @@ ghost use Rattle.poly_model.specs.Systems.{cone_of};
 ghost use Rattle.poly_model.specs.Extreme.{IsFeasible};
 ghost use Rattle.poly_reader.specs.Limits.{most_file_bytes};
 ghost use Rattle.plain_enum.specs.Plain.{PassesInCone};
-ghost use Rattle.lrs_cli.specs.Answers.{WritesWhole, WritesPart, Lists, StopsListing, WritesNothing};
+ghost use Rattle.lrs_cli.specs.Answers.{WritesWhole, WritesPart, ComesOfPolyhedron, StopsListing, WritesNothing};
 ghost use Rattle.lrs_cli.specs.Convert.{AnswersConvert, streams};
 
 use crate::status::Status;
@@ -37,7 +37,7 @@ pub fn convert<I: Source, O: Sink>(alloc: Global, input: &mut I, out: &mut O) ->
 
 // Prints the listing of a polyhedron, once it is known that it has a point.
 fn print_listing<O: Sink>(alloc: Global, poly: &Poly, out: &mut O) -> Status
-    ensures lists { Lists result }
+    ensures lists { ComesOfPolyhedron result }
     ensures done { (rows lines : ℕ) → result ≡ Status.Done rows lines → WritesWhole (O.written out.old) (O.written out.new) rows lines poly.now }
     ensures infeasible { result ≡ Status.Infeasible → IsFeasible (cone_of poly.now) → ⊥ }
     ensures overflow { (o : Passed) → result ≡ Status.Overflow o → PassesInCone poly.now o }

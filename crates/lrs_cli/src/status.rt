@@ -3,7 +3,7 @@ ghost use Rattle.std.specs.Prelude.{◌≡◌, ◌∷◌, ◌++◌, codes, decim
 ghost use Rattle.poly_io.specs.Causes.{HasCause};
 ghost use Rattle.poly_io.specs.Written.{WritesText};
 ghost use Rattle.poly_model.specs.LabelText.{label_text, labels_text, key_text, place_text, phase_text};
-ghost use Rattle.lrs_cli.specs.StatusLine.{line_of, number_of, kind_text, overflow_text, places_text};
+ghost use Rattle.lrs_cli.specs.StatusLine.{status_text, status_number, kind_text, overflow_text, places_text};
 
 use poly_io::{Sink, WriteFault, write_all, write_count};
 use poly_model::{Key, Overflow, Phase, Place};
@@ -33,7 +33,7 @@ pub enum Status {
 impl Status {
     /// The exit status of the process.
     pub fn number(&self) -> u8
-        ensures { result ≡ number_of self.now }
+        ensures { result ≡ status_number self.now }
     {
         match self {
             Status::Done { .. } => 0,
@@ -49,9 +49,9 @@ impl Status {
 }
 
 /// Writes the line of a status, with its line feed.
-#[tactic(auto, unfolding(crate::specs::StatusLine::line_of))]
+#[tactic(auto, unfolding(crate::specs::StatusLine::status_text))]
 pub fn status_line<S: Sink>(status: &Status, out: &mut S) -> Result<(), WriteFault>
-    ensures text { WritesText (S.written out.old) (S.written out.new) result (line_of status.now) }
+    ensures text { WritesText (S.written out.old) (S.written out.new) result (status_text status.now) }
     ensures cause { HasCause (S.faults out.old) (S.faults out.new) result }
 {
     match status {
@@ -70,7 +70,7 @@ pub fn status_line<S: Sink>(status: &Status, out: &mut S) -> Result<(), WriteFau
 }
 
 fn done_line<S: Sink>(rows: u64, lines: u32, out: &mut S) -> Result<(), WriteFault>
-    ensures text { WritesText (S.written out.old) (S.written out.new) result (line_of (Status.Done rows lines)) }
+    ensures text { WritesText (S.written out.old) (S.written out.new) result (status_text (Status.Done rows lines)) }
     ensures cause { HasCause (S.faults out.old) (S.faults out.new) result }
 {
     write_all(out, b"lrs: done ")?;
@@ -81,7 +81,7 @@ fn done_line<S: Sink>(rows: u64, lines: u32, out: &mut S) -> Result<(), WriteFau
 }
 
 fn bad_file_line<S: Sink>(bad: BadFile, out: &mut S) -> Result<(), WriteFault>
-    ensures text { WritesText (S.written out.old) (S.written out.new) result (line_of (Status.BadFile bad)) }
+    ensures text { WritesText (S.written out.old) (S.written out.new) result (status_text (Status.BadFile bad)) }
     ensures cause { HasCause (S.faults out.old) (S.faults out.new) result }
 {
     write_all(out, b"lrs: bad file: ")?;
@@ -119,7 +119,7 @@ fn write_kind<S: Sink>(kind: BadKind, out: &mut S) -> Result<(), WriteFault>
 }
 
 fn overflow_line<S: Sink>(overflow: &Overflow, out: &mut S) -> Result<(), WriteFault>
-    ensures text { WritesText (S.written out.old) (S.written out.new) result (line_of (Status.Overflow overflow.now)) }
+    ensures text { WritesText (S.written out.old) (S.written out.new) result (status_text (Status.Overflow overflow.now)) }
     ensures cause { HasCause (S.faults out.old) (S.faults out.new) result }
 {
     write_all(out, b"lrs: overflow ")?;

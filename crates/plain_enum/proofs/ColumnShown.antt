@@ -22,10 +22,10 @@ use Rattle.linear_laws.specs.Corners.{IsInConeOf}
 use Rattle.linear_laws.proofs.Members.{all_at}
 use Rattle.linear_laws.proofs.Proportions.{vanish_from_multiple, multiples_from_values}
 use Rattle.dictionary.specs.Views.{Dictionary, table_of}
-use Rattle.hull_lift.specs.Facets.{column_of, IsTouchedAt, IsShownAs}
+use Rattle.hull_lift.specs.Facets.{primitive_column, column_of, IsTouchedAt, IsShownAs}
 use Rattle.listing_laws.specs.ListedCone.{ListedCone, row_at, IsListable, IsConeOf}
 use Rattle.listing_laws.specs.Lists.{Lists}
-use Rattle.listing_laws.specs.Prefixes.{labels_of, IsUnder}
+use Rattle.listing_laws.specs.Prefixes.{marked_labels, IsCornerUnder}
 use Rattle.listing_laws.specs.Directions.{PassesLocalTest, IsShownAlong}
 use Rattle.listing_laws.proofs.FirstLists.{labels_within}
 use Rattle.listing_laws.proofs.ListLemmas.{all_members, lists_none}
@@ -35,7 +35,7 @@ use Rattle.listing_laws.proofs.ShownLemmas.{under_is_tested, one_if_it_passes}
 use Rattle.plain_enum.specs.declared.side.Side.{Side}
 use Rattle.plain_enum.specs.declared.side.Side.TheVariants.{Along, Against}
 use Rattle.plain_enum.specs.Columns.{IsOnSide, IsFirst}
-use Rattle.plain_enum.specs.Shown.{IsShownOn, primitive_column, vector_on}
+use Rattle.plain_enum.specs.Shown.{IsShownOn, vector_on}
 use Rattle.plain_enum.specs.Standing.{StandsAt, LeavesColumn}
 use Rattle.plain_enum.proofs.Parts.{in_second}
 use Rattle.plain_enum.proofs.RowsTaken.{as_many}
@@ -177,7 +177,7 @@ module _ (p : Polyhedron) (cone : ListedCone) (free : List ℕ) (d : Dictionary)
 
   -- ---- the local test
   test_there : IsFirst (cone_of p).rows d (length (cone_of p).rows) k →
-      PassesLocalTest cone (labels_of marks) s.leaves.duals z
+      PassesLocalTest cone (marked_labels marks) s.leaves.duals z
   test_there h =
       (test_by_entries p cone d marks k s).1
       (λ i a e j c l.
@@ -185,11 +185,11 @@ module _ (p : Polyhedron) (cone : ListedCone) (free : List ℕ) (d : Dictionary)
       let within = stands.within in
       let few = stands.over.few in
       h i a (below i (omega arith)) e j
-      (stands.key.back j (in_second fixed (labels_of marks) (k ∷ []) j c))
+      (stands.key.back j (in_second fixed (marked_labels marks) (k ∷ []) j c))
       (omega (arith, as_many p cone stands.over))
       (taken_not_linear p cone d fixed (k ∷ []) marks stands (cone_of p).rows free are j c) l)
 
-  test_back : PassesLocalTest cone (labels_of marks) s.leaves.duals z →
+  test_back : PassesLocalTest cone (marked_labels marks) s.leaves.duals z →
       IsFirst (cone_of p).rows d (length (cone_of p).rows) k
   test_back h i a b e j c low n l =
       (test_by_entries p cone d marks k s).0 h i a e j
@@ -252,7 +252,7 @@ module _ (p : Polyhedron) (cone : ListedCone) (free : List ℕ) (d : Dictionary)
   listable : IsListable cone
   listable = is_listable (cone_of p) cone listed
 
-  pub one_on : (side : Side) → IsShownOn (cone_of p) d k side → Lists (IsUnder cone marks) (vector_on side y ∷ [])
+  pub one_on : (side : Side) → IsShownOn (cone_of p) d k side → Lists (IsCornerUnder cone marks) (vector_on side y ∷ [])
   one_on side h =
       one_if_it_passes cone listable marks z s.leaves (test_there h.first) (vector_on side y)
       (record {
@@ -262,11 +262,11 @@ module _ (p : Polyhedron) (cone : ListedCone) (free : List ℕ) (d : Dictionary)
         shown = (listed.shows (vector_on side y)).1 ((shown_as side p.kind).0 h.shown);
       })
 
-  pub none_on : ((side : Side) → IsShownOn (cone_of p) d k side → ⊥) → Lists (IsUnder cone marks) []
-  none_on n = lists_none (IsUnder cone marks) (λ w u. none w ((under_is_tested cone listable marks z s.leaves w).0 u))
+  pub none_on : ((side : Side) → IsShownOn (cone_of p) d k side → ⊥) → Lists (IsCornerUnder cone marks) []
+  none_on n = lists_none (IsCornerUnder cone marks) (λ w u. none w ((under_is_tested cone listable marks z s.leaves w).0 u))
     where
       none_at : (side : Side) → IsShownAlong cone z (vector_on side y) → PassesLocalTest cone
-          (labels_of marks) s.leaves.duals z → ⊥
+          (marked_labels marks) s.leaves.duals z → ⊥
       none_at side a t =
           n side (record {
             on_side = side_of_cone side a.in_cone;
@@ -274,7 +274,7 @@ module _ (p : Polyhedron) (cone : ListedCone) (free : List ℕ) (d : Dictionary)
             shown = (shown_as side p.kind).1 ((listed.shows (vector_on side y)).0 a.shown);
           })
 
-      none : (w : Vector) → IsShownAlong cone z w × PassesLocalTest cone (labels_of marks) s.leaves.duals z → ⊥
+      none : (w : Vector) → IsShownAlong cone z w × PassesLocalTest cone (marked_labels marks) s.leaves.duals z → ⊥
       none w (a, t) =
           ⊎_elim (λ e. none_at Along (subst (IsShownAlong cone z) e a) t)
           (λ e. none_at Against (subst (IsShownAlong cone z) e a) t)

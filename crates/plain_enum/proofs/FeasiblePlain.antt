@@ -10,7 +10,7 @@ use Rattle.cone_laws.specs.FeasibilityLaws.{HasVertex}
 use Rattle.dictionary.specs.Views.{Dictionary}
 use Rattle.listing_laws.specs.ListedCone.{IsShownCorner}
 use Rattle.listing_laws.specs.Lists.{Lists, Begins}
-use Rattle.listing_laws.specs.Prefixes.{IsUnder}
+use Rattle.listing_laws.specs.Prefixes.{IsCornerUnder}
 use Rattle.listing_laws.proofs.ConeLemmas.{extreme_is_shown_corner}
 use Rattle.plain_enum.specs.Begin.{IsBegun, fixed_in, begun_cone, left_in}
 use Rattle.plain_enum.specs.Columns.{LeavesNoCoordinate, IsLeftCoordinate}
@@ -33,7 +33,7 @@ module _ (p : Polyhedron) (at last : Dictionary) (free : List ℕ) (b : IsBegun 
 
   -- ---- where none is left
   -- no vector is extreme
-  pub nothing_under : LeavesNoCoordinate at free → (y : Vector) → IsUnder (begun_cone p free at) [] y → ⊥
+  pub nothing_under : LeavesNoCoordinate at free → (y : Vector) → IsCornerUnder (begun_cone p free at) [] y → ⊥
   nothing_under none y u =
       u.0.corner.primitive.0
       (zero_where_none p at last free b none y u.0.corner.in_cone.width u.0.corner.in_cone.vanishing)
@@ -43,7 +43,7 @@ module _ (p : Polyhedron) (at last : Dictionary) (free : List ℕ) (b : IsBegun 
   shown = extreme_is_shown_corner (cone_of p) (begun_cone p free at) (is_cone p at last free b)
 
   -- where all were visited, and none of them has a positive first entry
-  pub no_vertex : (xs : List Vector) → Lists (IsUnder (begun_cone p free at) []) xs →
+  pub no_vertex : (xs : List Vector) → Lists (IsCornerUnder (begun_cone p free at) []) xs →
       ((y : Vector) → Contains xs y → ¬ (pos 0 <ℤ entry 0 y)) → IsTrue false ↔ HasVertex (cone_of p)
   no_vertex xs l none = (
     λ (e : false ≡ true). absurd (cc),
@@ -51,7 +51,7 @@ module _ (p : Polyhedron) (at last : Dictionary) (free : List ℕ) (b : IsBegun 
   )
 
   -- where one of them has
-  pub some_vertex : (xs : List Vector) → Begins (IsUnder (begun_cone p free at) []) xs → (y : Vector) → Contains xs y →
+  pub some_vertex : (xs : List Vector) → Begins (IsCornerUnder (begun_cone p free at) []) xs → (y : Vector) → Contains xs y →
       pos 0 <ℤ entry 0 y → IsTrue true ↔ HasVertex (cone_of p)
   some_vertex xs l y c positive = (
     λ t. record {

@@ -9,7 +9,7 @@ use Rattle.poly_model.specs.Spaces.{is_row, is_member}
 use Rattle.dictionary.specs.Views.{Dictionary}
 use Rattle.dictionary.specs.MainPhase.{stays_in}
 use Rattle.listing_laws.specs.ListedCone.{ListedCone}
-use Rattle.listing_laws.specs.Prefixes.{labels_of}
+use Rattle.listing_laws.specs.Prefixes.{marked_labels}
 use Rattle.plain_enum.specs.Standing.{StandsAt}
 use Rattle.plain_enum.proofs.Parts.{distinct_apart, in_second, in_third}
 use Rattle.plain_enum.proofs.RowsTaken.{as_many}
@@ -54,30 +54,30 @@ module _ (rows : List Row) (free : List ℕ) where
 module _ (p : Polyhedron) (cone : ListedCone) (d : Dictionary) (fixed left : List ℕ) (marks : List Bool)
     (s : StandsAt p cone d fixed left marks) where
   pub left_in_key : (k : ℕ) → Contains left k → Contains d.key k
-  left_in_key k c = s.key.back k (in_third fixed (labels_of marks) left k c)
+  left_in_key k c = s.key.back k (in_third fixed (marked_labels marks) left k c)
 
-  taken_low : (k : ℕ) → Contains (labels_of marks) k → k < 8192
+  taken_low : (k : ℕ) → Contains (marked_labels marks) k → k < 8192
   taken_low k c = omega (arith, taken_within p cone d fixed left marks s k c, as_many p cone s.over, s.over.few)
 
   -- what is not fixed is a row taken, or left
   not_fixed_cases : (P : Type 0) (k : ℕ) → Contains d.key k → (Contains fixed k → ⊥) →
-      (Contains (labels_of marks) k → P) → (Contains left k → P) → P
+      (Contains (marked_labels marks) k → P) → (Contains left k → P) → P
   not_fixed_cases P k c n taken rest =
-      ⊎_elim (λ f. absurd (n f)) (λ r. ⊎_elim taken rest (Contains-append_cases (labels_of marks) left k r))
-      (Contains-append_cases fixed (labels_of marks ++ left) k (s.key.there k c))
+      ⊎_elim (λ f. absurd (n f)) (λ r. ⊎_elim taken rest (Contains-append_cases (marked_labels marks) left k r))
+      (Contains-append_cases fixed (marked_labels marks ++ left) k (s.key.there k c))
 
   module _ (rows : List Row) (free : List ℕ) (are : FixedAre rows free d fixed) where
     -- the rows of the key that are not linear are those taken
-    pub taken_not_linear : (k : ℕ) → Contains (labels_of marks) k → (row_of rows k).linear ≡ false
+    pub taken_not_linear : (k : ℕ) → Contains (marked_labels marks) k → (row_of rows k).linear ≡ false
     taken_not_linear k c =
         row_not_linear rows free d fixed are k
-        (s.key.back k (in_second fixed (labels_of marks) left k c)) (taken_low k c)
-        (λ f. distinct_apart fixed (labels_of marks ++ left) s.distinct k f
-        (Contains-append_left (labels_of marks) left k c))
+        (s.key.back k (in_second fixed (marked_labels marks) left k c)) (taken_low k c)
+        (λ f. distinct_apart fixed (marked_labels marks ++ left) s.distinct k f
+        (Contains-append_left (marked_labels marks) left k c))
 
-    pub is_taken : (k : ℕ) → Contains d.key k → k < 8192 → (row_of rows k).linear ≡ false → Contains (labels_of marks) k
+    pub is_taken : (k : ℕ) → Contains d.key k → k < 8192 → (row_of rows k).linear ≡ false → Contains (marked_labels marks) k
     is_taken k c low e =
-        not_fixed_cases (Contains (labels_of marks) k) k c (row_not_fixed rows free d fixed are k c low e) (λ t. t)
+        not_fixed_cases (Contains (marked_labels marks) k) k c (row_not_fixed rows free d fixed are k c low e) (λ t. t)
         (λ l. absurd (let high = s.coordinates k l in omega arith))
 
     -- the coordinates of the key that are not free are left

@@ -22,7 +22,7 @@ use Rattle.poly_io.specs.Written.{AppendsPart}
 use Rattle.poly_io.proofs.Parts.{part_before, part_after}
 use Rattle.listing_laws.specs.ListedCone.{ListedCone, IsConeOf, cone_over}
 use Rattle.listing_laws.specs.Lists.{Lists, Begins}
-use Rattle.listing_laws.specs.Prefixes.{IsUnder}
+use Rattle.listing_laws.specs.Prefixes.{IsCornerUnder}
 use Rattle.listing_laws.proofs.BaseLemmas.{first_basis_is_base}
 use Rattle.listing_laws.proofs.ConeLemmas.{is_listable}
 use Rattle.listing_laws.proofs.ListingLemmas.{whole_listing}
@@ -51,7 +51,7 @@ module _ (sys : System) (p : Polyhedron) (cone : ListedCone) (file : sys ≡ con
   abbrev text_of : List Vector → List ℕ
   text_of shown = text_at sys.kind sys.n shown
 
-  is_listing : (shown : List Vector) → Lists (IsUnder cone []) shown → IsListing p (text_of shown)
+  is_listing : (shown : List Vector) → Lists (IsCornerUnder cone []) shown → IsListing p (text_of shown)
   is_listing shown l = record {
     lines = vectors;
     shown = shown;
@@ -64,7 +64,7 @@ module _ (sys : System) (p : Polyhedron) (cone : ListedCone) (file : sys ≡ con
   }
 
   part_of : {E : Type 0} (old new : Option (List ℕ)) (result : Result Listed E) → IsErr result → (shown : List Vector) →
-      Lists (IsUnder cone []) shown → AppendsPart old new (text_of shown) → WritesListing p old new result
+      Lists (IsCornerUnder cone []) shown → AppendsPart old new (text_of shown) → WritesListing p old new result
   part_of old new (Ok x) r shown l a = absurd (let e : false ≡ true = r in cc)
   part_of old new (Err y) r shown l a = record { whole = tt; part = (text_of shown, is_listing shown l, a) }
 
@@ -84,7 +84,7 @@ module _ (sys : System) (p : Polyhedron) (cone : ListedCone) (file : sys ≡ con
 
   pub stops_in_rows : {E : Type 0} (old mid new : Option (List ℕ)) (result : Result Listed E) → IsErr result →
       Appends old mid text_before →
-      (shown : List Vector) × Begins (IsUnder cone []) shown × AppendsPart mid new
+      (shown : List Vector) × Begins (IsCornerUnder cone []) shown × AppendsPart mid new
       (flat_map (row_text sys.kind) shown) →
       WritesListing p old new result
   stops_in_rows old mid new result r head (shown, (rest, l), a) =
@@ -95,7 +95,7 @@ module _ (sys : System) (p : Polyhedron) (cone : ListedCone) (file : sys ≡ con
       (part_before end_text (subst (λ t. AppendsPart mid new t) (sym split) (part_before (rows rest) a))))
 
   pub stops_in_end : {E : Type 0} (old mid then new : Option (List ℕ)) (result : Result Listed E) → IsErr result →
-      Appends old mid text_before → (shown : List Vector) → Lists (IsUnder cone []) shown →
+      Appends old mid text_before → (shown : List Vector) → Lists (IsCornerUnder cone []) shown →
       Appends mid then (flat_map (row_text sys.kind) shown) → AppendsPart then new end_text →
       WritesListing p old new result
   stops_in_end old mid then new result r head shown l rows a =
@@ -106,7 +106,7 @@ module _ (sys : System) (p : Polyhedron) (cone : ListedCone) (file : sys ≡ con
   -- ---- where it ends
   pub ends_whole : {E : Type 0} (old mid then new : Option (List ℕ)) (listed : Listed) → listed.lines ≡ length vectors →
       Appends old mid text_before →
-      (shown : List Vector) × Lists (IsUnder cone []) shown × HasWritten sys.kind mid then 0 listed.rows shown →
+      (shown : List Vector) × Lists (IsCornerUnder cone []) shown × HasWritten sys.kind mid then 0 listed.rows shown →
       Appends then new end_text → WritesListing {E = E} p old new (Ok listed)
   unfolding is_listing
   ends_whole old mid then new listed count head (shown, l, h) a = record {

@@ -10,7 +10,7 @@ use Rattle.plain_enum.specs.Plain.{PassesInCone}
 use Rattle.dictionary_laws.proofs.Members.{without}
 use Rattle.dictionary.specs.Views.{Dictionary, CanPivot, IsPivot, IsOverflow}
 use Rattle.listing_laws.specs.ListedCone.{ListedCone, IsListable}
-use Rattle.listing_laws.specs.Prefixes.{taken_at, next_row as first_without_mark, IsUnder, IsListedUpTo}
+use Rattle.listing_laws.specs.Prefixes.{taken_at, next_row as first_without_mark, IsCornerUnder, IsListedUpTo}
 use Rattle.listing_laws.proofs.ConeLemmas.{is_listable}
 use Rattle.listing_laws.proofs.PrefixLemmas.{loop_begins, loop_skips, loop_takes, loop_ends}
 use Rattle.listing_laws.proofs.WholeLists.{loop_stops, loop_stops_within}
@@ -159,7 +159,7 @@ module _ {V O E : Type 0} (visits : V → O → Vector → V → O → Type 0) (
         module _ (later : O) where
           each_below : (result : Result V (Ended E)) →
               VisitsUnder visits ends sys free new (i + 1) less w q later result →
-              VisitsEach visits ends w q later result (IsUnder cone (s.marks ++ true ∷ []))
+              VisitsEach visits ends w q later result (IsCornerUnder cone (s.marks ++ true ∷ []))
           each_below result h = h p cone fixed (without k left) (s.marks ++ true ∷ []) deeper
 
           pub goes_on : (x : V) → VisitsUnder visits ends sys free new (i + 1) less w q later (Ok x) →
@@ -175,7 +175,7 @@ module _ {V O E : Type 0} (visits : V → O → Vector → V → O → Type 0) (
               }
 
           pub breaks : (x : Ended E) → VisitsUnder visits ends sys free new (i + 1) less w q later (Err x) →
-              VisitsEach visits ends v o later (Err x) (IsUnder cone prefix)
+              VisitsEach visits ends v o later (Err x) (IsCornerUnder cone prefix)
           breaks x h =
               let more = (each_below (Err x) h).part in
               record {
@@ -188,7 +188,7 @@ module _ {V O E : Type 0} (visits : V → O → Vector → V → O → Type 0) (
               }
 
     -- ---- where a number passes, and where it ends
-    pub stops : (x : Overflow) → VisitsEach visits ends v o q (Err (EndedOverflow x)) (IsUnder cone prefix)
+    pub stops : (x : Overflow) → VisitsEach visits ends v o q (Err (EndedOverflow x)) (IsCornerUnder cone prefix)
     stops x = record {
       whole = tt;
       part = (
@@ -198,7 +198,7 @@ module _ {V O E : Type 0} (visits : V → O → Vector → V → O → Type 0) (
       );
     }
 
-    pub ends_loop : length sys.rows < i → 0 < depth → VisitsEach visits ends v o q (Ok w) (IsUnder cone prefix)
+    pub ends_loop : length sys.rows < i → 0 < depth → VisitsEach visits ends v o q (Ok w) (IsCornerUnder cone prefix)
     ends_loop behind some = record {
       whole = (
         s.shown,

@@ -17,7 +17,7 @@ use Rattle.dictionary_laws.proofs.PhasePoints.{phase_points}
 use Rattle.dictionary.specs.Views.{Dictionary, CanPivot, IsPivot, IsOverflow, table_of}
 use Rattle.dictionary.specs.MainPhase.{stays_in}
 use Rattle.listing_laws.specs.ListedCone.{ListedCone}
-use Rattle.listing_laws.specs.Prefixes.{taken_at, next_row, labels_of}
+use Rattle.listing_laws.specs.Prefixes.{taken_at, next_row, marked_labels}
 use Rattle.listing_laws.proofs.FirstLists.{length-taken, labels-with}
 use Rattle.plain_enum.specs.Columns.{IsColumnOf, HasNoColumn}
 use Rattle.plain_enum.specs.Listed.{IsAt}
@@ -32,10 +32,10 @@ use Rattle.plain_enum.proofs.Steps.{only_leaving, pivot_takes, dictionary_stays}
 
 -- ---- how many labels are left
 count_left : (p : Polyhedron) (cone : ListedCone) (d : Dictionary) (fixed left : List ℕ) (marks : List Bool) →
-    StandsAt p cone d fixed left marks → length fixed + (length (labels_of marks) + length left) ≡ p.n
+    StandsAt p cone d fixed left marks → length fixed + (length (marked_labels marks) + length left) ≡ p.n
 count_left p cone d fixed left marks s =
     let all = length_of_cobasis p (parted fixed marks left) (stands_dictionary p cone d fixed left marks s).cobasis in
-    omega (arith, all, length-append fixed (labels_of marks ++ left), length-append (labels_of marks) left)
+    omega (arith, all, length-append fixed (marked_labels marks ++ left), length-append (marked_labels marks) left)
 
 -- ---- where a dictionary stands, and its next row
 module _ (sys : System) (free : List ℕ) (d : Dictionary) (i depth : ℕ) (p : Polyhedron)
@@ -121,7 +121,7 @@ module _ (sys : System) (free : List ℕ) (d : Dictionary) (i depth : ℕ) (p : 
       -- the row that enters is neither fixed nor linear
       not_fixed : Contains fixed i → ⊥
       not_fixed f =
-          let old = here.stands.key.back i (in_first fixed (labels_of marks) left i f) in
+          let old = here.stands.key.back i (in_first fixed (marked_labels marks) left i f) in
           let same : i ≡ k =
           here.next ∙ only_leaving p cone d new fixed left marks here.stands k (is_left k column)
           (subst (λ j. IsPivot d j k new) here.next pivot) (subst (Contains d.key) here.next old) in
@@ -158,7 +158,7 @@ module _ (sys : System) (free : List ℕ) (d : Dictionary) (i depth : ℕ) (p : 
             let all = count_left p cone d fixed left marks here.stands in
             let now = count_left p cone new fixed (without k left) (marks ++ true ∷ []) taken in
             let more = ap length (labels-with 1 marks) in
-            let one = length-append (labels_of marks) ((length marks + 1) ∷ []) in
+            let one = length-append (marked_labels marks) ((length marks + 1) ∷ []) in
             omega (arith, here.count, e, all, now, more, one);
       }
 

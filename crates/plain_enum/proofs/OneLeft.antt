@@ -15,7 +15,7 @@ use Rattle.dictionary_laws.proofs.Values.{is_label, own_row}
 use Rattle.dictionary.specs.Views.{Dictionary, table_of}
 use Rattle.hull_lift.specs.Facets.{constant_label, column_of}
 use Rattle.listing_laws.specs.ListedCone.{ListedCone, row_at}
-use Rattle.listing_laws.specs.Prefixes.{labels_of}
+use Rattle.listing_laws.specs.Prefixes.{marked_labels}
 use Rattle.listing_laws.specs.Directions.{DualVector, IsLeft, LeavesOne}
 use Rattle.listing_laws.proofs.FirstLists.{labels_within}
 use Rattle.plain_enum.specs.Standing.{form_of, parted, StandsAt, HasColumnValues, LeavesColumn}
@@ -57,12 +57,12 @@ module _ (p : Polyhedron) (cone : ListedCone) (d : Dictionary) (fixed : List ℕ
     base_zero : (Contains fixed j → ⊥) → Vanish cone.base (column_of d j p.n)
     base_zero n =
         (s.base (column_of d j p.n) column.width).1
-        (λ i e. zero_elsewhere i (in_first fixed (labels_of marks) (k ∷ []) i e) (λ f. n (subst (Contains fixed) f e)))
+        (λ i e. zero_elsewhere i (in_first fixed (marked_labels marks) (k ∷ []) i e) (λ f. n (subst (Contains fixed) f e)))
 
-    rows_zero : (i : ℕ) → Contains (labels_of marks) i → i ≢ j → row_at cone i · column_of d j p.n ≡ pos 0
+    rows_zero : (i : ℕ) → Contains (marked_labels marks) i → i ≢ j → row_at cone i · column_of d j p.n ≡ pos 0
     rows_zero i e n =
         ap (λ g. g · column_of d j p.n) (taken_form p cone d fixed (k ∷ []) marks s i e)
-        ∙ zero_elsewhere i (in_second fixed (labels_of marks) (k ∷ []) i e) n
+        ∙ zero_elsewhere i (in_second fixed (marked_labels marks) (k ∷ []) i e) n
 
     row_value : (i : ℕ) → 0 < i → i ≤ length cone.rows →
         row_at cone i · column_of d j p.n ≡ Table.entry (table_of d) i j
@@ -71,19 +71,19 @@ module _ (p : Polyhedron) (cone : ListedCone) (d : Dictionary) (fixed : List ℕ
         ∙ column.values i (row_is_label p cone s.over i m n)
 
   -- ---- the rows taken
-  in_taken : (j : ℕ) → Contains (labels_of marks) j → Contains labels j
-  in_taken j c = in_second fixed (labels_of marks) (k ∷ []) j c
+  in_taken : (j : ℕ) → Contains (marked_labels marks) j → Contains labels j
+  in_taken j c = in_second fixed (marked_labels marks) (k ∷ []) j c
 
-  taken_below : (j : ℕ) → Contains (labels_of marks) j → j < constant_label
+  taken_below : (j : ℕ) → Contains (marked_labels marks) j → j < constant_label
   taken_below j c =
       omega (arith, taken_within p cone d fixed (k ∷ []) marks s j c, as_many p cone s.over, s.over.few)
 
-  taken_is_not_fixed : (j : ℕ) → Contains (labels_of marks) j → Contains fixed j → ⊥
+  taken_is_not_fixed : (j : ℕ) → Contains (marked_labels marks) j → Contains fixed j → ⊥
   taken_is_not_fixed j c e =
-      distinct_apart fixed (labels_of marks ++ k ∷ []) s.distinct j e
-      (Contains-append_left (labels_of marks) (k ∷ []) j c)
+      distinct_apart fixed (marked_labels marks ++ k ∷ []) s.distinct j e
+      (Contains-append_left (marked_labels marks) (k ∷ []) j c)
 
-  abbrev dual : (j : ℕ) → Contains (labels_of marks) j → DualVector cone (labels_of marks) j
+  abbrev dual : (j : ℕ) → Contains (marked_labels marks) j → DualVector cone (marked_labels marks) j
   dual j c = record {
     vector = column_of d j p.n;
     width = wide j (in_taken j c) (taken_below j c);
@@ -95,27 +95,27 @@ module _ (p : Polyhedron) (cone : ListedCone) (d : Dictionary) (fixed : List ℕ
 
   -- ---- what is left
   in_left : Contains labels k
-  in_left = in_third fixed (labels_of marks) (k ∷ []) k (Contains-first k [])
+  in_left = in_third fixed (marked_labels marks) (k ∷ []) k (Contains-first k [])
 
-  left : IsLeft cone (labels_of marks) (column_of d k p.n)
+  left : IsLeft cone (marked_labels marks) (column_of d k p.n)
   left = record {
     nonzero = λ z. nonzero_here k in_left b (dot-zero (form_of p k) (column_of d k p.n) z);
     width = wide k in_left b;
     base = base_zero k in_left b (λ e. left_is_not_fixed p cone d fixed (k ∷ []) marks s k e (Contains-first k []));
     taken = λ i e. rows_zero k in_left b i e
-        (λ f. left_is_not_taken p cone d fixed (k ∷ []) marks s k (subst (Contains (labels_of marks)) f e)
+        (λ f. left_is_not_taken p cone d fixed (k ∷ []) marks s k (subst (Contains (marked_labels marks)) f e)
         (Contains-first k []));
   }
 
-  count : length cone.base + length (labels_of marks) + 1 ≡ cone.n
+  count : length cone.base + length (marked_labels marks) + 1 ≡ cone.n
   count =
       omega (
         arith,
         s.count,
         s.over.width,
         length_of_cobasis p labels here.cobasis,
-        length-append fixed (labels_of marks ++ k ∷ []),
-        length-append (labels_of marks) (k ∷ []),
+        length-append fixed (marked_labels marks ++ k ∷ []),
+        length-append (marked_labels marks) (k ∷ []),
       )
 
   abbrev leaves : LeavesOne cone marks (column_of d k p.n)
@@ -136,5 +136,5 @@ test_by_entries p cone d marks k s = (
   λ h i a e j c l. s.at_duals i a (within i j c l) j c ∙ h i a (sym (s.at_left i a (within i j c l)) ∙ e) j c l,
 )
   where
-    within : (i j : ℕ) → Contains (labels_of marks) j → i < j → i ≤ length cone.rows
+    within : (i j : ℕ) → Contains (marked_labels marks) j → i < j → i ≤ length cone.rows
     within i j c l = omega (arith, (labels_within 1 marks j c).1, s.leaves.within)

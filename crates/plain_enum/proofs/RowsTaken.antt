@@ -14,7 +14,7 @@ use Rattle.linear_laws.proofs.Members.{Contains-nil, Contains-first, Contains-la
 use Rattle.dictionary_laws.proofs.Filters.{range_has}
 use Rattle.dictionary_laws.proofs.Members.{by_cases}
 use Rattle.listing_laws.specs.ListedCone.{ListedCone, row_at}
-use Rattle.listing_laws.specs.Prefixes.{taken_at, next_row, labels_from, labels_of}
+use Rattle.listing_laws.specs.Prefixes.{taken_at, next_row, labels_from, marked_labels}
 use Rattle.listing_laws.proofs.FirstLists.{taken-nil}
 use Rattle.listing_laws.proofs.StandingLemmas.{AreRowsFrom, rows_by_label}
 use Rattle.listing_laws.proofs.PrefixLemmas.{next_label}
@@ -48,7 +48,7 @@ taken_zero cone w j before (g ∷ gs) (false ∷ ms) r l = taken_zero cone w (su
 
 pub vanish_at_taken : (cone : ListedCone) (marks : List Bool) (w : Vector) → length marks ≤ length cone.rows →
     Vanish (taken_at cone marks) w
-    ↔ (Vanish cone.base w × ((k : ℕ) → Contains (labels_of marks) k → row_at cone k · w ≡ pos 0))
+    ↔ (Vanish cone.base w × ((k : ℕ) → Contains (marked_labels marks) k → row_at cone k · w ≡ pos 0))
 vanish_at_taken cone marks w l = taken_zero cone w 1 cone.base cone.rows marks (rows_by_label cone) l
 
 -- ---- rows of the polyhedron's cone

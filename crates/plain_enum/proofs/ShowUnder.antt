@@ -9,13 +9,13 @@ use Rattle.linear_laws.proofs.Members.{Contains-nil, Contains-first, Contains-co
 use Rattle.dictionary_laws.proofs.Filters.{range_only, map_only}
 use Rattle.dictionary_laws.proofs.Values.{is_label}
 use Rattle.dictionary.specs.Views.{Dictionary}
-use Rattle.hull_lift.specs.Facets.{constant_label}
+use Rattle.hull_lift.specs.Facets.{primitive_column, constant_label}
 use Rattle.listing_laws.specs.ListedCone.{ListedCone, IsConeOf}
 use Rattle.listing_laws.specs.Lists.{Lists}
-use Rattle.listing_laws.specs.Prefixes.{IsUnder}
+use Rattle.listing_laws.specs.Prefixes.{IsCornerUnder}
 use Rattle.plain_enum.specs.declared.side.Side.{Side}
 use Rattle.plain_enum.specs.Columns.{IsLeftCoordinate, LeavesNoCoordinate}
-use Rattle.plain_enum.specs.Shown.{IsShownOn, primitive_column, vector_on}
+use Rattle.plain_enum.specs.Shown.{IsShownOn, vector_on}
 use Rattle.plain_enum.specs.Listed.{IsAt, counted}
 use Rattle.plain_enum.specs.Standing.{StandsAt, LeavesColumn}
 use Rattle.plain_enum.proofs.FixedLabels.{FixedAre, left_in_key, left_not_free, is_left}
@@ -82,17 +82,17 @@ module _ (sys : System) (free : List ℕ) (d : Dictionary) (from : ℕ) (p : Pol
     listed : IsConeOf (cone_of p) cone
     listed = subst (λ s. IsConeOf s cone) at.file at.is_cone
 
-    pub nothing_here : ((side : Side) → IsShownOn sys d col side → ⊥) → Lists (IsUnder cone marks) []
+    pub nothing_here : ((side : Side) → IsShownOn sys d col side → ⊥) → Lists (IsCornerUnder cone marks) []
     nothing_here n =
         none_on p cone free d fixed k marks stands are leaves listed
         (λ side h. n side (subst (λ s. IsShownOn s d col side) (sym at.file)
         (subst (λ j. IsShownOn (cone_of p) d j side) (sym (is_the_one col is)) h)))
 
     pub one_here : (side : Side) → IsShownOn sys d col side →
-        Lists (IsUnder cone marks) (vector_on side (primitive_column d col sys.n) ∷ [])
+        Lists (IsCornerUnder cone marks) (vector_on side (primitive_column d col sys.n) ∷ [])
     one_here side h =
-        subst (λ n. Lists (IsUnder cone marks) (vector_on side (primitive_column d col n) ∷ [])) (sym same_width)
-        (subst (λ j. Lists (IsUnder cone marks) (vector_on side (primitive_column d j p.n) ∷ []))
+        subst (λ n. Lists (IsCornerUnder cone marks) (vector_on side (primitive_column d col n) ∷ [])) (sym same_width)
+        (subst (λ j. Lists (IsCornerUnder cone marks) (vector_on side (primitive_column d j p.n) ∷ []))
         (sym (is_the_one col is))
         (one_on p cone free d fixed k marks stands are leaves listed side
         (subst (λ j. IsShownOn (cone_of p) d j side) (is_the_one col is)

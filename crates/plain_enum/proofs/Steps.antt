@@ -13,7 +13,7 @@ use Rattle.dictionary_laws.proofs.Members.{contains_cases, without, without_only
 use Rattle.dictionary_laws.proofs.PhasePoints.{phase_points}
 use Rattle.dictionary.specs.Views.{Dictionary, IsDictionaryIn, IsPivot}
 use Rattle.listing_laws.specs.ListedCone.{ListedCone}
-use Rattle.listing_laws.specs.Prefixes.{labels_of}
+use Rattle.listing_laws.specs.Prefixes.{marked_labels}
 use Rattle.listing_laws.proofs.FirstLists.{labels-with, labels-without, labels_within}
 use Rattle.plain_enum.specs.Standing.{form_of, parted, StandsAt}
 use Rattle.plain_enum.specs.Laws.{DictionaryStays}
@@ -57,7 +57,7 @@ module _ (p : Polyhedron) (cone : ListedCone) (d new : Dictionary) (fixed left :
       (cases_eq r k)
     where
       old : Contains d.key k
-      old = s.key.back k (in_third fixed (labels_of marks) left k leaving)
+      old = s.key.back k (in_third fixed (marked_labels marks) left k leaving)
 
       by : r ≢ k → DualOver p d.key k → ⊥
       by n e =
@@ -70,7 +70,7 @@ module _ (p : Polyhedron) (cone : ListedCone) (d new : Dictionary) (fixed left :
 
   -- ---- the labels
   abbrev taken_now : List ℕ
-  taken_now = labels_of marks ++ r ∷ []
+  taken_now = marked_labels marks ++ r ∷ []
 
   abbrev labels_now : List ℕ
   labels_now = fixed ++ (taken_now ++ without k left)
@@ -78,24 +78,24 @@ module _ (p : Polyhedron) (cone : ListedCone) (d new : Dictionary) (fixed left :
   entering : Contains labels_now r
   entering =
       in_second fixed taken_now (without k left) r
-      (Contains-append_right (labels_of marks) (r ∷ []) r (Contains-first r []))
+      (Contains-append_right (marked_labels marks) (r ∷ []) r (Contains-first r []))
 
   there : (j : ℕ) → Contains (parted fixed marks left) j → j ≢ k → Contains labels_now j
   there =
-      in_parts (λ j. j ≢ k → Contains labels_now j) fixed (labels_of marks) left
+      in_parts (λ j. j ≢ k → Contains labels_now j) fixed (marked_labels marks) left
       (λ j c n. in_first fixed taken_now (without k left) j c)
-      (λ j c n. in_second fixed taken_now (without k left) j (Contains-append_left (labels_of marks) (r ∷ []) j c))
+      (λ j c n. in_second fixed taken_now (without k left) j (Contains-append_left (marked_labels marks) (r ∷ []) j c))
       (λ j c n. in_third fixed taken_now (without k left) j (without_kept k left j c n))
 
   -- a fact of the rows taken and of the one that enters
-  in_taken_now : (P : ℕ → Type 0) → ((j : ℕ) → Contains (labels_of marks) j → P j) → P r →
+  in_taken_now : (P : ℕ → Type 0) → ((j : ℕ) → Contains (marked_labels marks) j → P j) → P r →
       (j : ℕ) → Contains taken_now j → P j
   in_taken_now P f e j c =
       ⊎_elim (f j)
       (λ (h : Contains (r ∷ []) j).
       ⊎_elim (λ (q : j ≡ r). subst P (sym q) e) (λ (h : Contains [] j). absurd (Contains-nil j h))
       (contains_cases r [] j h))
-      (Contains-append_cases (labels_of marks) (r ∷ []) j c)
+      (Contains-append_cases (marked_labels marks) (r ∷ []) j c)
 
   kept : (j : ℕ) → Contains (parted fixed marks left) j → j ≢ k → Contains new.key j
   kept j c n = exchanges.kept j (s.key.back j c) n
@@ -103,13 +103,13 @@ module _ (p : Polyhedron) (cone : ListedCone) (d new : Dictionary) (fixed left :
   back : (j : ℕ) → Contains labels_now j → Contains new.key j
   back =
       in_parts (Contains new.key) fixed taken_now (without k left)
-      (λ j c. kept j (in_first fixed (labels_of marks) left j c)
+      (λ j c. kept j (in_first fixed (marked_labels marks) left j c)
       (λ e. left_is_not_fixed p cone d fixed left marks s k (subst (Contains fixed) e c) leaving))
       (in_taken_now (Contains new.key)
-      (λ j c. kept j (in_second fixed (labels_of marks) left j c)
-      (λ e. left_is_not_taken p cone d fixed left marks s k (subst (Contains (labels_of marks)) e c) leaving))
+      (λ j c. kept j (in_second fixed (marked_labels marks) left j c)
+      (λ e. left_is_not_taken p cone d fixed left marks s k (subst (Contains (marked_labels marks)) e c) leaving))
       exchanges.entering)
-      (λ j c. let h = without_only k left j c in kept j (in_third fixed (labels_of marks) left j h.0) h.1)
+      (λ j c. let h = without_only k left j c in kept j (in_third fixed (marked_labels marks) left j h.0) h.1)
 
   same : HaveSameLabels new.key labels_now
   same = record {
@@ -121,12 +121,12 @@ module _ (p : Polyhedron) (cone : ListedCone) (d new : Dictionary) (fixed left :
   }
 
   -- ---- each stands once
-  old_parts : AreDistinct (labels_of marks ++ left)
-  old_parts = distinct_right fixed (labels_of marks ++ left) s.distinct
+  old_parts : AreDistinct (marked_labels marks ++ left)
+  old_parts = distinct_right fixed (marked_labels marks ++ left) s.distinct
 
   taken_distinct : AreDistinct taken_now
   taken_distinct =
-      distinct-append (labels_of marks) (r ∷ []) (distinct_left (labels_of marks) left old_parts) (Contains-nil r, tt)
+      distinct-append (marked_labels marks) (r ∷ []) (distinct_left (marked_labels marks) left old_parts) (Contains-nil r, tt)
       (λ j c e. ⊎_elim (λ (q : j ≡ r). absurd (omega (arith, (labels_within 1 marks j c).1, q)))
       (λ (h : Contains [] j). absurd (Contains-nil j h)) (contains_cases r [] j e))
 
@@ -135,16 +135,16 @@ module _ (p : Polyhedron) (cone : ListedCone) (d new : Dictionary) (fixed left :
       in_taken_now (λ j. Contains (without k left) j → ⊥)
       (λ j c e. left_is_not_taken p cone d fixed left marks s j c (without_only k left j e).0)
       (λ e. let h = without_only k left r e in
-      h.1 (only_leaving (s.key.back r (in_third fixed (labels_of marks) left r h.0))))
+      h.1 (only_leaving (s.key.back r (in_third fixed (marked_labels marks) left r h.0))))
 
   fixed_apart : AreApart fixed (taken_now ++ without k left)
   fixed_apart j c e =
       ⊎_elim
       (λ (h : Contains taken_now j). in_taken_now (λ i. Contains fixed i → ⊥)
-      (λ i m f. distinct_apart fixed (labels_of marks ++ left) s.distinct i f
-      (Contains-append_left (labels_of marks) left i m))
+      (λ i m f. distinct_apart fixed (marked_labels marks ++ left) s.distinct i f
+      (Contains-append_left (marked_labels marks) left i m))
       (λ f. left_is_not_fixed p cone d fixed left marks s k
-      (subst (Contains fixed) (only_leaving (s.key.back r (in_first fixed (labels_of marks) left r f))) f) leaving)
+      (subst (Contains fixed) (only_leaving (s.key.back r (in_first fixed (marked_labels marks) left r f))) f) leaving)
       j h c)
       (λ (h : Contains (without k left) j). left_is_not_fixed p cone d fixed left marks s j c
       (without_only k left j h).0)
@@ -152,9 +152,9 @@ module _ (p : Polyhedron) (cone : ListedCone) (d new : Dictionary) (fixed left :
 
   distinct_now : AreDistinct labels_now
   distinct_now =
-      distinct-append fixed (taken_now ++ without k left) (distinct_left fixed (labels_of marks ++ left) s.distinct)
+      distinct-append fixed (taken_now ++ without k left) (distinct_left fixed (marked_labels marks ++ left) s.distinct)
       (distinct-append taken_now (without k left) taken_distinct
-      (distinct_without k left (distinct_right (labels_of marks) left old_parts)) taken_apart)
+      (distinct_without k left (distinct_right (marked_labels marks) left old_parts)) taken_apart)
       fixed_apart
 
   pub pivot_takes : length marks < length cone.rows → StandsAt p cone new fixed (without k left) (marks ++ true ∷ [])

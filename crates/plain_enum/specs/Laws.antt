@@ -9,7 +9,7 @@ use Rattle.dictionary_laws.proofs.Members.{without}
 use Rattle.dictionary.specs.Views.{Dictionary, IsDictionaryIn, IsPivot, table_of}
 use Rattle.hull_lift.specs.Facets.{constant_label, column_of}
 use Rattle.listing_laws.specs.ListedCone.{ListedCone}
-use Rattle.listing_laws.specs.Prefixes.{taken_at, next_row, labels_of}
+use Rattle.listing_laws.specs.Prefixes.{taken_at, next_row, marked_labels}
 use Rattle.listing_laws.specs.Directions.{PassesLocalTest}
 use Rattle.plain_enum.specs.Begin.{IsBegun, fixed_in, begun_cone, left_in}
 use Rattle.plain_enum.specs.Standing.{StandsAt, HasColumnValues, LeavesColumn, PassesByEntries}
@@ -44,7 +44,7 @@ OneIsLeft = (p : Polyhedron) (cone : ListedCone) (d : Dictionary) (fixed : List 
 abbrev pub TestByEntries : Type 0
 TestByEntries = (p : Polyhedron) (cone : ListedCone) (d : Dictionary) (marks : List Bool) (k : ℕ) →
     (s : LeavesColumn p cone d marks k) →
-    PassesLocalTest cone (labels_of marks) s.leaves.duals (column_of d k p.n) ↔ PassesByEntries d marks k
+    PassesLocalTest cone (marked_labels marks) s.leaves.duals (column_of d k p.n) ↔ PassesByEntries d marks k
 
 -- ---- from prefix to prefix
 -- where the linear rows have been tried it stands at the empty prefix: equations and free coordinates are fixed

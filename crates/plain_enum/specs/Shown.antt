@@ -1,10 +1,9 @@
 -- Which way the direction that is left is shown, and its vector.
-use Rattle.std.specs.Prelude.{ℕ, pos, neg_ℤ, map, length}
+use Rattle.std.specs.Prelude.{ℕ, neg_ℤ, map, length}
 use Rattle.poly_num.specs.Vectors.{Vector}
-use Rattle.poly_num.specs.Divisors.{quotients, gcd_of_all}
 use Rattle.poly_model.specs.Systems.{System}
 use Rattle.dictionary.specs.Views.{Dictionary}
-use Rattle.hull_lift.specs.Facets.{column_of, IsShownAt}
+use Rattle.hull_lift.specs.Facets.{IsShownColumn}
 use Rattle.plain_enum.specs.declared.side.Side.{Side}
 use Rattle.plain_enum.specs.declared.side.Side.TheVariants.{Along, Against}
 use Rattle.plain_enum.specs.Columns.{IsOnSide, IsFirst}
@@ -14,11 +13,7 @@ use Rattle.plain_enum.specs.Columns.{IsOnSide, IsFirst}
 pub record IsShownOn (sys : System) (d : Dictionary) (col : ℕ) (side : Side) : Type 0 where
   pub on_side : IsOnSide d (length sys.rows) col side
   pub first : IsFirst sys.rows d (length sys.rows) col
-  pub shown : IsShownAt sys d col
-
--- the vector of a column without common divisor
-abbrev pub primitive_column : Dictionary → ℕ → ℕ → Vector
-primitive_column d col n = quotients (column_of d col n) (pos (gcd_of_all (column_of d col n)))
+  pub shown : IsShownColumn sys d col
 
 -- a vector, or its opposite
 abbrev pub vector_on : Side → Vector → Vector

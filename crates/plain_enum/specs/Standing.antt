@@ -11,7 +11,7 @@ use Rattle.dictionary_laws.specs.Keys.{AreDistinct, HaveSameLabels}
 use Rattle.dictionary.specs.Views.{Dictionary, IsDictionaryIn, table_of}
 use Rattle.hull_lift.specs.Facets.{column_of}
 use Rattle.listing_laws.specs.ListedCone.{ListedCone, row_at}
-use Rattle.listing_laws.specs.Prefixes.{labels_of}
+use Rattle.listing_laws.specs.Prefixes.{marked_labels}
 use Rattle.listing_laws.specs.Directions.{LeavesOne}
 
 -- the form of a label over the coordinates of the cone
@@ -30,7 +30,7 @@ pub record HasRowsOf (p : Polyhedron) (cone : ListedCone) : Type 0 where
 
 -- the labels of the base, then those of the rows taken, then those that are left
 abbrev pub parted : List ℕ → List Bool → List ℕ → List ℕ
-parted fixed marks left = fixed ++ (labels_of marks ++ left)
+parted fixed marks left = fixed ++ (marked_labels marks ++ left)
 
 -- d is a dictionary of the cone's space. Its key has the fixed labels, which are 0 exactly where the base is, as many
 -- as the base has rows; the labels of the rows taken; and the coordinates that are left; each once
@@ -57,12 +57,12 @@ pub record LeavesColumn (p : Polyhedron) (cone : ListedCone) (d : Dictionary) (m
   pub leaves : LeavesOne cone marks (column_of d k p.n)
   pub at_left : (i : ℕ) → 0 < i → i ≤ length cone.rows →
       row_at cone i · column_of d k p.n ≡ Table.entry (table_of d) i k
-  pub duals : (j : ℕ) (c : Contains (labels_of marks) j) → (leaves.duals j c).vector ≡ column_of d j p.n
-  pub at_duals : (i : ℕ) → 0 < i → i ≤ length cone.rows → (j : ℕ) (c : Contains (labels_of marks) j) →
+  pub duals : (j : ℕ) (c : Contains (marked_labels marks) j) → (leaves.duals j c).vector ≡ column_of d j p.n
+  pub at_duals : (i : ℕ) → 0 < i → i ≤ length cone.rows → (j : ℕ) (c : Contains (marked_labels marks) j) →
       row_at cone i · (leaves.duals j c).vector ≡ Table.entry (table_of d) i j
 
 -- the local test by entries: each row with the entry 0 in the column of k has the entry 0 in that of each later label
 abbrev pub PassesByEntries : Dictionary → List Bool → ℕ → Type 0
 PassesByEntries d marks k =
     (i : ℕ) → 0 < i → Table.entry (table_of d) i k ≡ pos 0 →
-    (j : ℕ) → Contains (labels_of marks) j → i < j → Table.entry (table_of d) i j ≡ pos 0
+    (j : ℕ) → Contains (marked_labels marks) j → i < j → Table.entry (table_of d) i j ≡ pos 0

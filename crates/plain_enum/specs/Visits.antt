@@ -6,7 +6,7 @@ use Rattle.poly_model.specs.Systems.{System, Polyhedron}
 use Rattle.dictionary.specs.Views.{Dictionary}
 use Rattle.listing_laws.specs.ListedCone.{ListedCone}
 use Rattle.listing_laws.specs.Lists.{Lists, Begins}
-use Rattle.listing_laws.specs.Prefixes.{IsUnder}
+use Rattle.listing_laws.specs.Prefixes.{IsCornerUnder}
 use Rattle.plain_enum.specs.declared.prefix.Ended.{Ended}
 use Rattle.plain_enum.specs.declared.prefix.Ended.TheVariants.{Overflow, Stopped}
 use Rattle.plain_enum.specs.Listed.{IsAt}
@@ -57,4 +57,4 @@ abbrev pub VisitsUnder : {V O E : Type 0} → (V → O → Vector → V → O �
     System → List ℕ → Dictionary → ℕ → ℕ → V → O → O → Result V (Ended E) → Type 0
 VisitsUnder visits ends sys free d from depth v o q result =
     (p : Polyhedron) (cone : ListedCone) (fixed left : List ℕ) (marks : List Bool) →
-    IsAt sys free d from depth p cone fixed left marks → VisitsEach visits ends v o q result (IsUnder cone marks)
+    IsAt sys free d from depth p cone fixed left marks → VisitsEach visits ends v o q result (IsCornerUnder cone marks)

@@ -3,7 +3,7 @@ ghost use Rattle.std.specs.Prelude.{◌≡◌, [], IsErrOf};
 ghost use Rattle.poly_model.specs.declared.overflow.Overflow.{Overflow as Passed};
 ghost use Rattle.poly_model.specs.Systems.{Polyhedron, cone_of};
 ghost use Rattle.dictionary.specs.Views.{Dictionary};
-ghost use Rattle.listing_laws.specs.Prefixes.{IsUnder};
+ghost use Rattle.listing_laws.specs.Prefixes.{IsCornerUnder};
 ghost use Rattle.plain_enum.specs.Begin.{IsBegun, HasRoomForAll, begun_cone};
 ghost use Rattle.plain_enum.specs.Listed.{WritesRow, FailsAtRow, HasStopCause, WritesRows};
 ghost use Rattle.plain_enum.specs.Plain.{PassesInCone};
@@ -44,7 +44,7 @@ pub(crate) fn list_rows<S: Sink>(
     ensures written { (p : Polyhedron) (last : Dictionary) → start.now.sys.now ≡ cone_of p →
         IsBegun p start.now.at.now last start.now.free.now →
         WritesRows start.now.sys.now.kind shown.rows (S.written out.old) (S.written out.new) result
-        (IsUnder (begun_cone p start.now.free.now start.now.at.now) []) }
+        (IsCornerUnder (begun_cone p start.now.free.now start.now.at.now) []) }
     ensures passes { (o : Passed) → IsErrOf result (Ended.Overflow o) → (p : Polyhedron) (last : Dictionary) →
         start.now.sys.now ≡ cone_of p → IsBegun p start.now.at.now last start.now.free.now → PassesInCone p o }
     ensures cause { HasStopCause (S.faults out.old) (S.faults out.new) result }

@@ -4,7 +4,8 @@ ghost use Rattle.std.specs.List.{Contains};
 ghost use Rattle.poly_model.specs.Limits.{most_columns};
 ghost use Rattle.plain_enum.specs.declared.side.Side.{Side as AnySide};
 ghost use Rattle.plain_enum.specs.Columns.{HasRows};
-ghost use Rattle.plain_enum.specs.Shown.{IsShownOn, primitive_column, vector_on};
+ghost use Rattle.hull_lift.specs.Facets.{primitive_column};
+ghost use Rattle.plain_enum.specs.Shown.{IsShownOn, vector_on};
 
 use crate::side::{Side, is_first, side_of};
 use dictionary::Dict;

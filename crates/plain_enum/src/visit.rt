@@ -7,7 +7,7 @@ ghost use Rattle.poly_model.specs.declared.overflow.Overflow.{Overflow as Passed
 ghost use Rattle.poly_model.specs.Systems.{Polyhedron, cone_of};
 ghost use Rattle.dictionary.specs.Views.{Dictionary, CanPivot, IsPivot, IsOverflow};
 ghost use Rattle.listing_laws.specs.ListedCone.{ListedCone};
-ghost use Rattle.listing_laws.specs.Prefixes.{IsUnder};
+ghost use Rattle.listing_laws.specs.Prefixes.{IsCornerUnder};
 ghost use Rattle.plain_enum.specs.Begin.{IsBegun, HasRoomForAll, begun_cone};
 ghost use Rattle.plain_enum.specs.Listed.{HasShapeOf, IsAt, HasRoomFor};
 ghost use Rattle.plain_enum.specs.Visits.{VisitsUnder, VisitsEach, VisitsSome};
@@ -135,7 +135,7 @@ pub(crate) fn visit_all<O, E, V: Visit<O, E>>(
     ensures visited { (p : Polyhedron) (last : Dictionary) → start.now.sys.now ≡ cone_of p →
         IsBegun p start.now.at.now last start.now.free.now →
         VisitsEach V.visits V.ends visitor out.old out.new result
-        (IsUnder (begun_cone p start.now.free.now start.now.at.now) []) }
+        (IsCornerUnder (begun_cone p start.now.free.now start.now.at.now) []) }
     ensures some { VisitsSome V.visits V.ends visitor out.old out.new result }
     ensures passes { (o : Passed) → IsErrOf result (Ended.Overflow o) → (p : Polyhedron) (last : Dictionary) →
         start.now.sys.now ≡ cone_of p → IsBegun p start.now.at.now last start.now.free.now → PassesInCone p o }

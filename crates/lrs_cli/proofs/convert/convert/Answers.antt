@@ -6,7 +6,7 @@ use Rattle.poly_reader.specs.declared.bad.BadFile.{BadFile}
 use Rattle.poly_reader.specs.declared.bad.ReadStop.{ReadStop}
 use Rattle.poly_reader.specs.declared.bad.ReadStop.TheVariants.{Fault, Bad}
 use Rattle.plain_enum.specs.Plain.{PassesInCone}
-use Rattle.lrs_cli.specs.Answers.{Lists, WritesWhole, WritesPart}
+use Rattle.lrs_cli.specs.Answers.{ComesOfPolyhedron, WritesWhole, WritesPart}
 use Rattle.lrs_cli.proofs.AnswerLemmas.{answers_bad_file}
 use Rattle.lrs_cli.proofs.EndLemmas.{ends}
 use Rattle.lrs_cli.proofs.FaultLemmas.{described, fault_of_source, text_of_source}
@@ -27,8 +27,8 @@ returns-in-Ok-clause-answers g c =
       stopped = λ s. described (WritesPart old new) poly source text (listing.stopped s);
       printed = λ s. ⊎_elim (λ k. inl k)
           (λ f. inr (described (λ p. IsFeasible (cone_of p)) poly source text f)) (listing.printed s);
-      bad_file = λ f e. absurd (subst Lists e listing.lists);
-      read_fault = λ e. absurd (subst Lists e listing.lists);
+      bad_file = λ f e. absurd (subst ComesOfPolyhedron e listing.lists);
+      read_fault = λ e. absurd (subst ComesOfPolyhedron e listing.lists);
       reads = λ n. c.in-Ok.ensures.same (λ e. cc);
       write_fault = listing.write_fault;
       writes = listing.writes;

@@ -3,7 +3,7 @@ use Rattle.std.proofs.lemmas.Result.{err_from_is_err_and}
 use Rattle.poly_num.specs.Vectors.{Vector}
 use Rattle.poly_model.specs.declared.overflow.Overflow.{Overflow}
 use Rattle.dictionary.specs.Views.{Dictionary, IsOverflow}
-use Rattle.listing_laws.specs.Prefixes.{IsUnder}
+use Rattle.listing_laws.specs.Prefixes.{IsCornerUnder}
 use Rattle.plain_enum.specs.declared.prefix.Ended.TheVariants as Ended
 use Rattle.plain_enum.specs.Listed.{HasRoomFor, IsAt}
 use Rattle.plain_enum.specs.Visits.{HasVisited, VisitsEach, VisitsSome}
@@ -77,7 +77,7 @@ returns-in_err-visitor-in-Some-clause-visited g t c p cone fixed left marks at =
     let q = err_from_is_err_and c.from_residual.result c.from_residual.ensures.1 in
     subst
     (λ r. VisitsEach g.V.Visit.visits g.V.Visit.ends c.args.visitor c.args.out.now c.visit_under.new.out r
-    (IsUnder cone marks)) (sym (q.1 ∙ ap (λ x. Err x) q.2))
+    (IsCornerUnder cone marks)) (sym (q.1 ∙ ap (λ x. Err x) q.2))
     (breaks g.V.Visit.visits g.V.Visit.ends prefix.sys.now prefix.free.now prefix.at.now (length c.args.deeper.now)
     c.args.visitor c.args.out.now c.rows.visitor c.rows.out c.rows.i p cone fixed left marks
     (c.rows.invariant.visited p cone fixed left marks at) (omega (arith, c.rows-test.true, c.rows-i-end.ensures.value))

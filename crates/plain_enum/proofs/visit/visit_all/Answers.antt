@@ -1,5 +1,5 @@
 use Rattle.std.proofs.Common.{[], length, refl, ap, ◌∙◌}
-use Rattle.listing_laws.specs.Prefixes.{IsUnder}
+use Rattle.listing_laws.specs.Prefixes.{IsCornerUnder}
 use Rattle.plain_enum.specs.Begin.{begun_cone}
 use Rattle.plain_enum.proofs.FeasiblePlain.{begins, nothing_under}
 use Rattle.plain_enum.proofs.VisitLemmas.{visits_where_none}
@@ -23,5 +23,5 @@ pub returns-in-None-clause-visited : goal.returns-in-None-clause-visited
 returns-in-None-clause-visited g c p last file b =
     let start = c.args.start.now in
     visits_where_none g.V.Visit.visits g.V.Visit.ends c.args.visitor c.args.out.now
-    (IsUnder (begun_cone p start.free.now start.at.now) [])
+    (IsCornerUnder (begun_cone p start.free.now start.at.now) [])
     (nothing_under p start.at.now last start.free.now b (c.in-None.ensures.none refl))
