@@ -1,5 +1,5 @@
 //! Polyhedra that can be drawn: whether they are feasible, and how many rows and lines their listings have.
-use crate::{FeasibleStop, PlainStop, feasible_plain, list_plain};
+use crate::{FeasibleStop, ListStop, PlainStop, feasible_plain, list_feasible, list_plain};
 use hull_lift::system_of;
 use poly_io::MemSink;
 use poly_model::{Kind, MOST_COLUMNS, MOST_FILE_ROWS, Phase, Poly};
@@ -231,6 +231,23 @@ fn tells_whether_a_file_is_feasible(rt: HostRuntime) -> Result<(), Fail> {
     Ok(())
 }
 
+#[test]
+fn lists_what_is_feasible(rt: HostRuntime) -> Result<(), Fail> {
+    for case in CASES {
+        let alloc = rt.alloc();
+        let cone = system_of(alloc, &poly_of(alloc, case)?)?;
+        let mut out = MemSink::new(alloc, &[]);
+        let told = match list_feasible(alloc, &cone, &mut out) {
+            Ok(_) => Some(true),
+            Err(ListStop::Infeasible) => Some(false),
+            Err(ListStop::Overflow(_)) => None,
+            Err(_) => return Err("memory, or a fault")?,
+        };
+        assert_eq!(rt; told, case.feasible, "{}", case.name);
+    }
+    Ok(())
+}
+
 /// A file without linear rows, how many rows and lines its listing has if no number passes, and how many bytes are
 /// written by then.
 #[derive(Clone, Copy)]
@@ -296,7 +313,7 @@ fn counts_the_rows_and_lines_of_a_listing(rt: HostRuntime) -> Result<(), Fail> {
 fn lists_a_hundred_points(rt: HostRuntime) -> Result<(), Fail> {
     let alloc = rt.alloc();
     let mut entries = Vec::new(alloc);
-    for i in 0..100u8 {
+    for i in 0..100u32 {
         entries.push(1)?;
         entries.push(i128::from(i))?;
     }
