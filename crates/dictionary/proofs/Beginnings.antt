@@ -12,7 +12,8 @@ use Rattle.poly_model.specs.declared.overflow.Phase.{Phase}
 use Rattle.poly_model.specs.Keys.{IsAscending, IsKey}
 use Rattle.poly_model.specs.Systems.{Row, row_of}
 use Rattle.poly_model.specs.Cones.{at, coordinate}
-use Rattle.poly_model.specs.Spaces.{Space, coordinate_label}
+use Rattle.poly_model.specs.Spaces.{Space}
+use Rattle.poly_model.specs.Labels.{coordinate_label}
 use Rattle.dictionary_laws.specs.Keys.{place_in}
 use Rattle.dictionary_laws.specs.Numbers.{Agree}
 use Rattle.dictionary_laws.specs.Coordinates.{coordinate_key, HasCoordinates, coordinate_table}

@@ -14,7 +14,8 @@ use Rattle.poly_model.specs.declared.kind.Kind.{Kind}
 use Rattle.poly_model.specs.declared.kind.Kind.TheVariants.{H, V}
 use Rattle.poly_model.specs.declared.overflow.Phase.TheVariants.{Main}
 use Rattle.poly_model.specs.Systems.{Row, row_of, Polyhedron, System, file_rows, added_row, cone_of}
-use Rattle.poly_model.specs.Spaces.{Space, is_row, is_member, is_left, cut_space, prepare_space, main_space}
+use Rattle.poly_model.specs.Spaces.{Space, is_member, is_left, cut_space, prepare_space, main_space}
+use Rattle.poly_model.specs.Labels.{is_row}
 use Rattle.poly_model.specs.Dictionaries.{IsCobasis, Writes}
 use Rattle.dictionary_laws.specs.Keys.{place_in}
 use Rattle.dictionary_laws.specs.Numbers.{ArePrimitive}

@@ -5,7 +5,8 @@ use Rattle.std.specs.List.{filter, flat_map}
 use Rattle.poly_num.specs.Vectors.{scale, IsPrimitive}
 use Rattle.poly_model.specs.declared.overflow.Phase.TheVariants.{Main}
 use Rattle.poly_model.specs.Systems.{Row, row_of, Polyhedron, System, cone_of}
-use Rattle.poly_model.specs.Spaces.{is_row, is_member, prepare_space, main_space}
+use Rattle.poly_model.specs.Spaces.{is_member, prepare_space, main_space}
+use Rattle.poly_model.specs.Labels.{is_row}
 use Rattle.dictionary_laws.specs.MainSpace.{stays, CanEnterMain}
 use Rattle.dictionary.specs.Cells.{cell}
 use Rattle.dictionary.specs.Views.{Dictionary, table_of, IsDictionaryIn}

@@ -10,7 +10,8 @@ use Rattle.poly_model.specs.declared.kind.Kind.TheVariants.{H, V}
 use Rattle.poly_model.specs.Keys.{IsAscending}
 use Rattle.poly_model.specs.Systems.{Row, row_of, Polyhedron}
 use Rattle.poly_model.specs.Cones.{coordinate}
-use Rattle.poly_model.specs.Spaces.{coordinate_label, is_row, label_form, labels_of, in_front, with_constants, without_constants, cut_space}
+use Rattle.poly_model.specs.Spaces.{label_form, labels_of, in_front, with_constants, without_constants, cut_space}
+use Rattle.poly_model.specs.Labels.{coordinate_label, is_row}
 use Rattle.linear_laws.proofs.Members.{all_at}
 use Rattle.dictionary_laws.specs.Coordinates.{HasCoordinates, coordinate_key, first_coordinate, ArePhaseCoordinates, AreCoordinateLabels}
 use Rattle.dictionary_laws.proofs.Members.{all_from}

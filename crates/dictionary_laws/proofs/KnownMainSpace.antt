@@ -11,7 +11,8 @@ use Rattle.poly_model.specs.declared.kind.Kind.TheVariants.{H}
 use Rattle.poly_model.specs.Systems.{Row, Polyhedron, cone_of}
 use Rattle.poly_model.specs.Cones.{at}
 use Rattle.poly_model.specs.FreeColumns.{IsFree, AreFreeColumns}
-use Rattle.poly_model.specs.Spaces.{prepare_space, coordinate_label}
+use Rattle.poly_model.specs.Spaces.{prepare_space}
+use Rattle.poly_model.specs.Labels.{coordinate_label}
 use Rattle.poly_model.specs.Dictionaries.{Table, IsDictionary}
 use Rattle.linear_laws.proofs.Members.{Contains-first, Contains-later, Contains-nil}
 use Rattle.dictionary_laws.specs.Coordinates.{coordinate_table}

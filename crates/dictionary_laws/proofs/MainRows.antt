@@ -9,7 +9,8 @@ use Rattle.poly_model.specs.declared.kind.Kind.{Kind}
 use Rattle.poly_model.specs.declared.kind.Kind.TheVariants.{H, V}
 use Rattle.poly_model.specs.Systems.{Row, no_row, row_of, first_unit, Polyhedron, file_rows, cone_of, cone_row, added_row, is_point_row}
 use Rattle.poly_model.specs.Cones.{coordinate}
-use Rattle.poly_model.specs.Spaces.{coordinate_label, is_row, label_form, linear_rows}
+use Rattle.poly_model.specs.Spaces.{label_form, linear_rows}
+use Rattle.poly_model.specs.Labels.{coordinate_label, is_row}
 use Rattle.linear_laws.proofs.AllLemmas.{all_left, all_right, all_both, all_from_map, all_to_map}
 use Rattle.linear_laws.proofs.Members.{all_at}
 use Rattle.poly_model.specs.Equations.{equation_labels}

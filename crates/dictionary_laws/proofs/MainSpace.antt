@@ -9,7 +9,8 @@ use Rattle.poly_num.specs.Vectors.{Vector, ◌·◌}
 use Rattle.poly_model.specs.declared.kind.Kind.{Kind}
 use Rattle.poly_model.specs.declared.kind.Kind.TheVariants.{H, V}
 use Rattle.poly_model.specs.Systems.{Row, row_of, Polyhedron, file_rows, added_row, cone_of}
-use Rattle.poly_model.specs.Spaces.{Space, IsInside, HasPoints, coordinate_label, is_row, is_left, is_member, labels_of, in_front, cut_space, prepare_space, main_space}
+use Rattle.poly_model.specs.Spaces.{Space, IsInside, HasPoints, is_left, is_member, labels_of, in_front, cut_space, prepare_space, main_space}
+use Rattle.poly_model.specs.Labels.{coordinate_label, is_row}
 use Rattle.poly_model.specs.Dictionaries.{Table, IsCobasis, Writes, IsDictionary}
 use Rattle.linear_laws.proofs.AllLemmas.{all_from_map, all_to_map}
 use Rattle.poly_model.proofs.RowLemmas.{row_from_one}

@@ -4,7 +4,8 @@ use Rattle.std.specs.List.{AllByRecursion, Contains, filter}
 use Rattle.std.proofs.lemmas.List.Elements.{All-from_recursion}
 use Rattle.poly_num.specs.Vectors.{Vector, ◌·◌}
 use Rattle.poly_model.specs.Independence.{Vanish, IsFirstBasis}
-use Rattle.poly_model.specs.Spaces.{Space, IsInside, IsDirection, is_row, marked, IsStartCobasis}
+use Rattle.poly_model.specs.Spaces.{Space, IsInside, IsDirection, marked, IsStartCobasis}
+use Rattle.poly_model.specs.Labels.{is_row}
 use Rattle.poly_model.specs.Dictionaries.{AreIndependent, IsCobasis}
 use Rattle.dictionary_laws.specs.Points.{RowsDetermine}
 use Rattle.linear_laws.proofs.Members.{Contains-first, Contains-later, Contains-nil}

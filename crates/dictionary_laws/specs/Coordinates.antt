@@ -6,7 +6,8 @@ use Rattle.poly_model.specs.declared.kind.Kind.TheVariants.{H, V}
 use Rattle.poly_model.specs.Keys.{IsAscending}
 use Rattle.poly_model.specs.Systems.{Polyhedron}
 use Rattle.poly_model.specs.Cones.{at, coordinate}
-use Rattle.poly_model.specs.Spaces.{Space, coordinate_label, cone_space, prepare_space}
+use Rattle.poly_model.specs.Spaces.{Space, cone_space, prepare_space}
+use Rattle.poly_model.specs.Labels.{coordinate_label}
 use Rattle.poly_model.specs.Dictionaries.{Table}
 use Rattle.dictionary_laws.specs.Keys.{AreDistinct, place_in}
 

@@ -4,7 +4,8 @@ use Rattle.std.specs.Prelude.{ℕ, ◌-◌, Bool, not, if◌then◌else◌, List
 use Rattle.std.specs.List.{Contains, filter}
 use Rattle.poly_model.specs.FreeColumns.{AreFreeColumns}
 use Rattle.poly_model.specs.Systems.{row_of, Polyhedron, cone_of}
-use Rattle.poly_model.specs.Spaces.{coordinate_label, is_row, is_member, prepare_space, main_space, HasPoints}
+use Rattle.poly_model.specs.Spaces.{is_member, prepare_space, main_space, HasPoints}
+use Rattle.poly_model.specs.Labels.{coordinate_label, is_row}
 use Rattle.poly_model.specs.Dictionaries.{Table, IsCobasis, Writes}
 use Rattle.poly_model.specs.Equations.{HasPointOn, equation_labels}
 use Rattle.dictionary_laws.specs.Points.{AreSettled}

@@ -4,7 +4,8 @@ use Rattle.std.specs.List.{AllByRecursion, Contains, filter}
 use Rattle.poly_num.specs.Vectors.{Vector, ◌·◌, IsZero}
 use Rattle.poly_model.specs.declared.kind.Kind.TheVariants.{V}
 use Rattle.poly_model.specs.Systems.{Polyhedron}
-use Rattle.poly_model.specs.Spaces.{Space, IsDirection, is_row, cone_space, prepare_space, main_space, lifted, HasPoints}
+use Rattle.poly_model.specs.Spaces.{Space, IsDirection, cone_space, prepare_space, main_space, lifted, HasPoints}
+use Rattle.poly_model.specs.Labels.{is_row}
 use Rattle.poly_model.specs.Dictionaries.{Table}
 
 -- no equation can enter the key for a label that is none: its entries at those are 0

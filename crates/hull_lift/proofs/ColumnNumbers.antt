@@ -6,7 +6,8 @@ use Rattle.std.specs.List.{Contains}
 use Rattle.std.proofs.lemmas.Bool.{cond-false, ne_eqb}
 use Rattle.poly_num.specs.Vectors.{Vector, ◌·◌}
 use Rattle.poly_num.proofs.Ring.{lin}
-use Rattle.poly_model.specs.Spaces.{Space, coordinate_label, is_member}
+use Rattle.poly_model.specs.Spaces.{Space, is_member}
+use Rattle.poly_model.specs.Labels.{coordinate_label}
 use Rattle.poly_model.specs.Dictionaries.{Table, sum_over}
 use Rattle.dictionary_laws.proofs.Members.{sum_zero}
 use Rattle.dictionary_laws.proofs.Directions.{times_zero, zero_times}

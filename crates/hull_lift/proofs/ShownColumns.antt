@@ -14,7 +14,8 @@ use Rattle.poly_model.specs.Systems.{Row, row_of, no_row, Polyhedron, cone_of}
 use Rattle.poly_model.proofs.RowLemmas.{row_from_one}
 use Rattle.poly_model.specs.Cones.{coordinate}
 use Rattle.poly_model.specs.Extreme.{TouchesPoint, IsShown}
-use Rattle.poly_model.specs.Spaces.{Space, is_row, label_form}
+use Rattle.poly_model.specs.Spaces.{Space, label_form}
+use Rattle.poly_model.specs.Labels.{is_row}
 use Rattle.poly_model.specs.Dictionaries.{Table}
 use Rattle.dictionary_laws.proofs.Directions.{times_zero, zero_times}
 use Rattle.dictionary_laws.proofs.Values.{value_along}

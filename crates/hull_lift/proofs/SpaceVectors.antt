@@ -12,7 +12,8 @@ use Rattle.poly_model.specs.declared.overflow.Phase.{Phase}
 use Rattle.poly_model.specs.declared.overflow.Phase.TheVariants.{Cone, Prepare, Main, First}
 use Rattle.poly_model.specs.Systems.{Row, row_of, Polyhedron, file_rows, cone_of}
 use Rattle.poly_model.specs.Cones.{at, coordinate}
-use Rattle.poly_model.specs.Spaces.{Space, IsInside, IsSpaceOf, coordinate_label, is_row, is_left, is_member, label_form, labels_of, in_front, with_constants, without_constants, linear_rows, cut_space, cone_space, prepare_space, main_space}
+use Rattle.poly_model.specs.Spaces.{Space, IsInside, IsSpaceOf, is_left, is_member, label_form, labels_of, in_front, with_constants, without_constants, linear_rows, cut_space, cone_space, prepare_space, main_space}
+use Rattle.poly_model.specs.Labels.{coordinate_label, is_row}
 use Rattle.linear_laws.proofs.Entries.{coordinate_reads}
 use Rattle.dictionary_laws.specs.Coordinates.{first_coordinate}
 use Rattle.dictionary_laws.proofs.Filters.{filter_only, filter_kept, range_only, range_has, map_only, map_has, member_has}

@@ -6,7 +6,8 @@ use Rattle.poly_num.specs.Divisors.{quotients, gcd_of_all}
 use Rattle.poly_model.specs.declared.kind.Kind.{Kind}
 use Rattle.poly_model.specs.declared.kind.Kind.TheVariants.{H, V}
 use Rattle.poly_model.specs.Systems.{System, row_of}
-use Rattle.poly_model.specs.Spaces.{coordinate_label, is_member}
+use Rattle.poly_model.specs.Spaces.{is_member}
+use Rattle.poly_model.specs.Labels.{coordinate_label}
 use Rattle.poly_model.specs.Dictionaries.{Table}
 use Rattle.dictionary.specs.Views.{Dictionary, table_of}
 

@@ -8,7 +8,8 @@ use Rattle.poly_model.specs.declared.kind.Kind.TheVariants.{H, V}
 use Rattle.poly_model.specs.declared.overflow.Phase.{Phase}
 use Rattle.poly_model.specs.declared.overflow.Phase.TheVariants.{Cone, Prepare}
 use Rattle.poly_model.specs.Systems.{System, Polyhedron, row_of, file_rows, added_row, cone_of}
-use Rattle.poly_model.specs.Spaces.{Space, IsSpaceOf, HasPoints, coordinate_label, labels_of, cone_space, cut_space, prepare_space}
+use Rattle.poly_model.specs.Spaces.{Space, IsSpaceOf, HasPoints, labels_of, cone_space, cut_space, prepare_space}
+use Rattle.poly_model.specs.Labels.{coordinate_label}
 use Rattle.poly_model.specs.Dictionaries.{Table}
 use Rattle.dictionary_laws.proofs.CoordinateSpaces.{coordinate_keys}
 use Rattle.dictionary_laws.proofs.Filters.{range_only, map_only}

@@ -12,7 +12,8 @@ use Rattle.poly_model.specs.declared.overflow.Phase.{Phase}
 use Rattle.poly_model.specs.declared.overflow.Phase.TheVariants.{Cone, Prepare}
 use Rattle.poly_model.specs.Systems.{Row, no_row, row_of, first_unit, Polyhedron, file_rows, added_row, cone_of}
 use Rattle.poly_model.specs.Cones.{at}
-use Rattle.poly_model.specs.Spaces.{Space, IsDirection, IsSpaceOf, coordinate_label, label_form, labels_of, with_constants, cut_space, cone_space, prepare_space}
+use Rattle.poly_model.specs.Spaces.{Space, IsDirection, IsSpaceOf, label_form, labels_of, with_constants, cut_space, cone_space, prepare_space}
+use Rattle.poly_model.specs.Labels.{coordinate_label}
 use Rattle.linear_laws.proofs.Entries.{coordinate_reads}
 use Rattle.dictionary_laws.proofs.Filters.{range_only, range_has, map_only}
 use Rattle.hull_lift.proofs.SpaceVectors.{coordinate_is_label, same_form, with_front}

@@ -12,7 +12,8 @@ use Rattle.poly_num.proofs.VectorLemmas.{dot-scale}
 use Rattle.poly_model.specs.declared.overflow.Phase.TheVariants.{Cone, Prepare, First}
 use Rattle.poly_model.specs.Systems.{Polyhedron, cone_of}
 use Rattle.poly_model.specs.Cones.{at}
-use Rattle.poly_model.specs.Spaces.{coordinate_label, is_member, label_form}
+use Rattle.poly_model.specs.Spaces.{is_member, label_form}
+use Rattle.poly_model.specs.Labels.{coordinate_label}
 use Rattle.poly_model.specs.Dictionaries.{Table, sum_over}
 use Rattle.dictionary_laws.specs.Numbers.{IsOwnRow}
 use Rattle.dictionary_laws.proofs.Duals.{Dual, dual_of}

@@ -7,7 +7,8 @@ use Rattle.poly_num.proofs.Order.{zero_factor, mul_nonzero, positive_nonzero}
 use Rattle.poly_model.specs.Systems.{Row, Polyhedron, cone_of}
 use Rattle.poly_model.specs.Cones.{at}
 use Rattle.poly_model.specs.FreeColumns.{IsFree}
-use Rattle.poly_model.specs.Spaces.{coordinate_label, label_form}
+use Rattle.poly_model.specs.Spaces.{label_form}
+use Rattle.poly_model.specs.Labels.{coordinate_label}
 use Rattle.poly_model.specs.Dictionaries.{Table}
 use Rattle.dictionary_laws.proofs.Members.{contains_or, sum_zero, sum_single}
 use Rattle.dictionary_laws.proofs.Directions.{times_zero, zero_times}

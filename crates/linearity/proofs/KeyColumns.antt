@@ -4,12 +4,13 @@ use Rattle.std.specs.Prelude.{not}
 use Rattle.std.specs.List.{Contains}
 use Rattle.std.proofs.lemmas.Bool.{ltb-false, le-ltb, not-true, not_from_false}
 use Rattle.poly_model.specs.Keys.{IsAscending}
-use Rattle.poly_model.specs.Spaces.{coordinate_label, is_row}
+use Rattle.poly_model.specs.Labels.{coordinate_label, is_row}
 use Rattle.linear_laws.proofs.Members.{Contains-first, Contains-later, all_at}
 use Rattle.dictionary_laws.proofs.Members.{all_from}
 use Rattle.dictionary_laws.proofs.Filters.{filter_only, filter_kept, map_only, map_has}
 use Rattle.dictionary.proofs.KeptPlaces.{ascending_filter}
-use Rattle.linearity.specs.Columns.{is_coordinate, coordinates_in, columns_in}
+use Rattle.linearity.specs.Columns.{coordinates_in, columns_in}
+use Rattle.poly_model.specs.Labels.{is_coordinate}
 
 -- a label is that of a coordinate exactly from 8192 on
 coordinate_from : (k : ℕ) → 8192 ≤ k → is_coordinate k ≡ true

@@ -7,7 +7,7 @@ use Rattle.poly_num.specs.Vectors.{Vector, ◌·◌}
 use Rattle.poly_num.proofs.Order.{positive_nonzero}
 use Rattle.poly_model.specs.Systems.{row_of, first_unit, Polyhedron, cone_of}
 use Rattle.poly_model.specs.Cones.{at, IsTight}
-use Rattle.poly_model.specs.Spaces.{coordinate_label}
+use Rattle.poly_model.specs.Labels.{coordinate_label}
 use Rattle.poly_model.specs.Dictionaries.{Table}
 use Rattle.poly_model.specs.FreeColumns.{IsFree}
 use Rattle.linear_laws.proofs.Entries.{within_from_entry}

@@ -10,14 +10,15 @@ use Rattle.poly_num.proofs.PrimitiveLemmas.{MakesPrimitive-quotients}
 use Rattle.poly_model.specs.Keys.{IsAscending}
 use Rattle.poly_model.specs.Systems.{Polyhedron, cone_of}
 use Rattle.poly_model.specs.Cones.{at}
-use Rattle.poly_model.specs.Spaces.{coordinate_label}
+use Rattle.poly_model.specs.Labels.{coordinate_label}
 use Rattle.poly_model.specs.FreeColumns.{IsLine, AreFreeColumns, AreLinesOf}
 use Rattle.linear_laws.proofs.Entries.{at-scale, at-zero}
 use Rattle.linear_laws.proofs.Members.{Contains-first, Contains-later}
 use Rattle.dictionary_laws.proofs.Filters.{filter_only}
 use Rattle.dictionary.specs.Views.{Dictionary}
 use Rattle.hull_lift.specs.Facets.{column_of, primitive_column}
-use Rattle.linearity.specs.Columns.{is_coordinate, coordinates_in, columns_in, coordinate_vectors}
+use Rattle.linearity.specs.Columns.{coordinates_in, columns_in, coordinate_vectors}
+use Rattle.poly_model.specs.Labels.{is_coordinate}
 use Rattle.linearity.specs.Elimination.{IsDictionaryOf, IsEliminated}
 use Rattle.linearity.specs.Laws.{EliminationLeavesLines}
 use Rattle.linearity.proofs.ConeReadings.{cone_readings}

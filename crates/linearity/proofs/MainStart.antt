@@ -13,7 +13,8 @@ use Rattle.poly_model.specs.Systems.{row_of, Row, Polyhedron, file_rows, added_r
 use Rattle.poly_model.proofs.RowLemmas.{row_from_one}
 use Rattle.poly_model.specs.FreeColumns.{AreFreeColumns}
 use Rattle.poly_model.specs.Cones.{coordinate}
-use Rattle.poly_model.specs.Spaces.{coordinate_label, equations, is_row, is_member, is_left, labels_of, cut_space, prepare_space, main_space, IsStartCobasis}
+use Rattle.poly_model.specs.Spaces.{equations, is_member, is_left, labels_of, cut_space, prepare_space, main_space, IsStartCobasis}
+use Rattle.poly_model.specs.Labels.{coordinate_label, is_row}
 use Rattle.poly_model.specs.Dictionaries.{Table}
 use Rattle.dictionary_laws.specs.Coordinates.{coordinate_key}
 use Rattle.poly_model.specs.Equations.{HasPointOn}

@@ -10,7 +10,8 @@ use Rattle.poly_num.proofs.VectorLemmas.{dot_comm, dot-neg}
 use Rattle.poly_model.specs.Systems.{no_row, row_of, Polyhedron, cone_of}
 use Rattle.poly_model.proofs.RowLemmas.{row_from_one}
 use Rattle.poly_model.specs.Cones.{at, coordinate, IsTight}
-use Rattle.poly_model.specs.Spaces.{coordinate_label, is_row, label_form}
+use Rattle.poly_model.specs.Spaces.{label_form}
+use Rattle.poly_model.specs.Labels.{coordinate_label, is_row}
 use Rattle.linear_laws.proofs.Entries.{coordinate_reads}
 use Rattle.linear_laws.proofs.Tails.{dot_to_entry}
 use Rattle.cone_laws.proofs.FeasibleLemmas.{first_unit_reads}

@@ -7,7 +7,8 @@ use Rattle.poly_num.specs.Vectors.{◌·◌}
 use Rattle.poly_num.proofs.Order.{zero_factor, mul_nonzero, positive_nonzero}
 use Rattle.poly_model.specs.Systems.{row_of, Row, Polyhedron, cone_of}
 use Rattle.poly_model.specs.FreeColumns.{AreFreeColumns, IsFree}
-use Rattle.poly_model.specs.Spaces.{Space, is_row, coordinate_label, prepare_space, main_space, IsStartCobasis}
+use Rattle.poly_model.specs.Spaces.{Space, prepare_space, main_space, IsStartCobasis}
+use Rattle.poly_model.specs.Labels.{is_row, coordinate_label}
 use Rattle.poly_model.specs.Dictionaries.{Table, IsCobasis, Writes}
 use Rattle.poly_model.specs.Equations.{HasPointOn, equation_labels}
 use Rattle.dictionary_laws.proofs.Members.{contains_or}

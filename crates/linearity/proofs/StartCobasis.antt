@@ -7,7 +7,8 @@ use Rattle.poly_num.specs.Vectors.{Vector, ◌·◌}
 use Rattle.poly_num.proofs.Order.{zero_factor, positive_nonzero}
 use Rattle.poly_model.specs.Keys.{IsAscending}
 use Rattle.poly_model.specs.Independence.{Vanish, Follows, IsNew, IsFirstBasis}
-use Rattle.poly_model.specs.Spaces.{Space, IsDirection, is_row, is_member, marked, IsStartCobasis}
+use Rattle.poly_model.specs.Spaces.{Space, IsDirection, is_member, marked, IsStartCobasis}
+use Rattle.poly_model.specs.Labels.{is_row}
 use Rattle.poly_model.specs.Dictionaries.{Table, IsCobasis, Writes, sum_over}
 use Rattle.linear_laws.proofs.AllLemmas.{all_left, all_right, all_both, all_from_map, all_to_map}
 use Rattle.linear_laws.proofs.Members.{Contains-nil, Contains-first, Contains-later, all_at, less_or_equal, ascending_is_one}

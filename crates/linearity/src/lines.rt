@@ -4,7 +4,8 @@ ghost use Rattle.std.specs.List.{Contains};
 ghost use Rattle.poly_model.specs.Limits.{most_columns};
 ghost use Rattle.poly_model.specs.Keys.{IsAscending};
 ghost use Rattle.hull_lift.specs.Facets.{primitive_column};
-ghost use Rattle.linearity.specs.Columns.{is_coordinate, columns_in, coordinate_vectors};
+ghost use Rattle.linearity.specs.Columns.{columns_in, coordinate_vectors};
+ghost use Rattle.poly_model.specs.Labels.{is_coordinate};
 
 use dictionary::Dict;
 use hull_lift::facet_row;

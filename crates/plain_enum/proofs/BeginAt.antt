@@ -11,7 +11,8 @@ use Rattle.poly_model.specs.Independence.{Vanish}
 use Rattle.poly_model.specs.Systems.{Row, row_of, no_row, System, Polyhedron, cone_of}
 use Rattle.poly_model.specs.Cones.{IsTight}
 use Rattle.poly_model.specs.FreeColumns.{IsFree, IsZeroAtFree, AreFreeColumns, AreLinesOf, AreLines}
-use Rattle.poly_model.specs.Spaces.{IsSpaceOf, coordinate_label, is_row, is_member, cone_space}
+use Rattle.poly_model.specs.Spaces.{IsSpaceOf, is_member, cone_space}
+use Rattle.poly_model.specs.Labels.{coordinate_label, is_row}
 use Rattle.poly_model.specs.Dictionaries.{Table}
 use Rattle.poly_model.proofs.RowLemmas.{row_from_one}
 use Rattle.linear_laws.proofs.AllLemmas.{all_from_map, all_to_map}

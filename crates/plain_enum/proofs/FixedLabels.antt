@@ -5,7 +5,8 @@ use Rattle.std.specs.List.{Contains}
 use Rattle.std.proofs.lemmas.Bool.{lt-ltb, le-ltb, cond-true, cond-false, false_from_ne_true, not_from_true, not_from_false}
 use Rattle.std.proofs.lemmas.List.Elements.{Contains-append_left, Contains-append_cases}
 use Rattle.poly_model.specs.Systems.{Row, row_of, Polyhedron}
-use Rattle.poly_model.specs.Spaces.{is_row, is_member}
+use Rattle.poly_model.specs.Spaces.{is_member}
+use Rattle.poly_model.specs.Labels.{is_row}
 use Rattle.dictionary.specs.Views.{Dictionary}
 use Rattle.dictionary.specs.MainPhase.{stays_in}
 use Rattle.listing_laws.specs.ListedCone.{ListedCone}

@@ -8,7 +8,8 @@ use Rattle.poly_num.specs.Vectors.{Vector, ◌·◌}
 use Rattle.poly_model.specs.Independence.{Vanish, taken}
 use Rattle.poly_model.specs.Systems.{Row, row_of, no_row, Polyhedron, cone_of}
 use Rattle.poly_model.specs.Cones.{coordinate}
-use Rattle.poly_model.specs.Spaces.{is_row, coordinate_label, cone_space}
+use Rattle.poly_model.specs.Spaces.{cone_space}
+use Rattle.poly_model.specs.Labels.{is_row, coordinate_label}
 use Rattle.poly_model.proofs.RowLemmas.{row_from_one}
 use Rattle.linear_laws.proofs.Members.{Contains-nil, Contains-first, Contains-later}
 use Rattle.dictionary_laws.proofs.Filters.{range_has}

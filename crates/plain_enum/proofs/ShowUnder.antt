@@ -4,7 +4,8 @@ use Rattle.std.specs.List.{Contains, range_with_len}
 use Rattle.std.proofs.lemmas.List.Elements.{Contains-append_cases}
 use Rattle.poly_model.specs.Limits.{most_columns}
 use Rattle.poly_model.specs.Systems.{System, Polyhedron, cone_of}
-use Rattle.poly_model.specs.Spaces.{coordinate_label, cone_space}
+use Rattle.poly_model.specs.Spaces.{cone_space}
+use Rattle.poly_model.specs.Labels.{coordinate_label}
 use Rattle.linear_laws.proofs.Members.{Contains-nil, Contains-first, Contains-cons_cases}
 use Rattle.dictionary_laws.proofs.Filters.{range_only, map_only}
 use Rattle.dictionary_laws.proofs.Values.{is_label}

@@ -5,7 +5,8 @@ use Rattle.poly_model.specs.declared.overflow.Phase.TheVariants.{Cone}
 use Rattle.poly_model.specs.Keys.{IsAscending}
 use Rattle.poly_num.specs.Vectors.{Vector}
 use Rattle.poly_model.specs.Systems.{Row, System, Polyhedron, cone_of}
-use Rattle.poly_model.specs.Spaces.{is_row, is_member}
+use Rattle.poly_model.specs.Spaces.{is_member}
+use Rattle.poly_model.specs.Labels.{is_row}
 use Rattle.dictionary.specs.MainPhase.{stays_in}
 use Rattle.dictionary.specs.Views.{Dictionary}
 use Rattle.linearity.specs.Columns.{columns_in}

@@ -36,11 +36,11 @@ pub key_front : (xs ys : List ℕ) → IsKey (xs ++ ys) → IsKey xs
 key_front xs ys h = record { room = omega (arith, h.room, length-append xs ys); ascending = ascending_front xs ys h.ascending }
 
 -- a key whose labels are taken one after the other is a key on the way
-pub key_on_the_way : (xs ys : List ℕ) (i : ℕ) → i < length ys → IsKey (xs ++ ys) → IsKey (xs ++ take i ys ++ get_or ys i 0 ∷ [])
-key_on_the_way xs ys i l h = key_front _ (drop (i + 1) ys) (subst IsKey split h)
+pub key_on_the_way : (xs ys : List ℕ) (i other : ℕ) → i < length ys → IsKey (xs ++ ys) → IsKey (xs ++ take i ys ++ get_or ys i other ∷ [])
+key_on_the_way xs ys i other l h = key_front _ (drop (i + 1) ys) (subst IsKey split h)
   where
-    split : xs ++ ys ≡ xs ++ take i ys ++ get_or ys i 0 ∷ [] ++ drop (i + 1) ys
-    split = ap (λ zs. xs ++ zs) (sym (take-append-drop (i + 1) ys) ∙ ap (λ zs. zs ++ drop (i + 1) ys) (take_more ys i 0 l) ∙ append_assoc (take i ys) _ _) ∙ sym (append_assoc xs (take i ys) _) ∙ sym (append_assoc (xs ++ take i ys) _ _)
+    split : xs ++ ys ≡ xs ++ take i ys ++ get_or ys i other ∷ [] ++ drop (i + 1) ys
+    split = ap (λ zs. xs ++ zs) (sym (take-append-drop (i + 1) ys) ∙ ap (λ zs. zs ++ drop (i + 1) ys) (take_more ys i other l) ∙ append_assoc (take i ys) _ _) ∙ sym (append_assoc xs (take i ys) _) ∙ sym (append_assoc (xs ++ take i ys) _ _)
 
 -- one number less
 all_without : (P : ℕ → Type 0) (i : ℕ) (xs : List ℕ) → AllByRecursion P xs → AllByRecursion P (take i xs ++ drop (suc i) xs)

@@ -22,7 +22,7 @@ three_labels : key_text (2 ∷ 8193 ∷ 8202 ∷ []) ≡ codes "3 2 x1 x10"
 unfolding labels_text digits
 three_labels = refl
 
-entry_of_a_row : place_text (record { row = record { 0 = 12 }; col = record { 0 = 8193 } }) ≡ codes "12,x1"
+entry_of_a_row : place_text (record { row = 12; col = 8193 }) ≡ codes "12,x1"
 unfolding digits
 entry_of_a_row = refl
 

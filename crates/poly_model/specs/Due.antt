@@ -3,6 +3,7 @@ use Rattle.std.specs.Prelude.{◌≡◌, ◌⊎◌, ℕ, ◌≤◌, true, List, 
 use Rattle.std.specs.List.{Contains}
 use Rattle.poly_model.specs.declared.overflow.Overflow.{Overflow}
 use Rattle.poly_model.specs.declared.overflow.Phase.TheVariants.{Prepare, Main, First}
+use Rattle.poly_model.specs.Labels.{IsCoordinate}
 use Rattle.poly_model.specs.Systems.{row_of, Polyhedron, cone_of}
 use Rattle.poly_model.specs.FreeColumns.{AreFreeColumns}
 use Rattle.poly_model.specs.Spaces.{IsStartCobasis, main_space}
@@ -31,8 +32,8 @@ pub record IsAskedBefore (p : Polyhedron) (o : Overflow) (passes : Passes p o) :
   pub start : List ℕ
   pub is_start : IsStartCobasis (main_space p free) start
   pub row : IsEntering p start passes.r
-  pub column : 8192 ≤ passes.s
-  pub labels : (k : ℕ) → Contains o.key k → (8192 ≤ k) ⊎ IsEntering p start k
+  pub column : IsCoordinate passes.s
+  pub labels : (k : ℕ) → Contains o.key k → IsCoordinate k ⊎ IsEntering p start k
 
 -- ---- in phase one
 -- of a start cobasis that is not feasible: the first exchange, for t; or a later one, of the row of the ratio test or of t

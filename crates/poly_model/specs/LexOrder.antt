@@ -2,7 +2,8 @@
 -- said of the labels of a space.
 use Rattle.std.specs.Prelude.{◌≡◌, ◌⊎◌, ℕ, not, ◌==◌, if◌then◌else◌, ℤ, pos, neg_ℤ, ◌-ℤ◌, ◌*ℤ◌, ◌<ℤ◌, List, [], ◌∷◌, ◌++◌, map}
 use Rattle.std.specs.List.{Contains, filter}
-use Rattle.poly_model.specs.Spaces.{is_row, is_member}
+use Rattle.poly_model.specs.Spaces.{is_member}
+use Rattle.poly_model.specs.Labels.{is_row}
 use Rattle.poly_model.specs.Dictionaries.{Table}
 
 -- the first number that is not 0 is positive, if there is one

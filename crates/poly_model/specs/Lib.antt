@@ -1,4 +1,5 @@
 pub mod Limits
+pub mod Labels
 pub mod Keys
 pub mod KeyRoom
 pub mod LabelText

@@ -4,18 +4,19 @@ use Rattle.std.specs.List.{Contains}
 use Rattle.poly_num.specs.Numbers.{Crosses}
 use Rattle.poly_model.specs.declared.overflow.Overflow.{Overflow}
 use Rattle.poly_model.specs.declared.overflow.Place.{Place}
+use Rattle.poly_model.specs.Labels.{constant_label}
 use Rattle.poly_model.specs.Systems.{Polyhedron}
 use Rattle.poly_model.specs.Spaces.{Space, HasPoints, IsSpaceOf}
 use Rattle.poly_model.specs.Dictionaries.{Table, IsDictionary}
 
 -- row i and column j
 abbrev pub IsPlace : Place → ℕ → ℕ → Type 0
-IsPlace place i j = (place.row.0 ≡ i) × (place.col.0 ≡ j)
+IsPlace place i j = (place.row ≡ i) × (place.col ≡ j)
 
--- the number at a place; 65535 is the column of constants
+-- the number at a place, which stands in the column of constants or in that of a label
 abbrev pub number_at : Table → Place → ℤ
 number_at t place =
-    if place.col.0 == 65535 then t.constant place.row.0 else t.entry place.row.0 place.col.0
+    if place.col == constant_label then t.constant place.row else t.entry place.row place.col
 
 -- the exchange of row r for column s multiplies the entries at (r, s) and (i, j), and those at (i, s) and (r, j)
 pub record IsInner (labels key : List ℕ) (r s : ℕ) (o : Overflow) : Type 0 where
@@ -23,7 +24,7 @@ pub record IsInner (labels key : List ℕ) (r s : ℕ) (o : Overflow) : Type 0 w
   pub j : ℕ
   pub row : Contains labels i
   pub other_row : i ≢ r
-  pub column : Contains key j ⊎ (j ≡ 65535)
+  pub column : Contains key j ⊎ (j ≡ constant_label)
   pub other_column : j ≢ s
   pub a : IsPlace o.a r s
   pub b : IsPlace o.b i j

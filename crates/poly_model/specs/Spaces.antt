@@ -1,5 +1,5 @@
 -- The spaces of the four phases, with a linear form for each label.
-use Rattle.std.specs.Prelude.{◌≡◌, ◌≢◌, ℕ, suc, ◌+◌, ◌-◌, ◌==◌, nat_lt, Bool, true, false, not, cond, if◌then◌else◌, ℤ, pos, List, [], ◌∷◌, ◌++◌, map, length}
+use Rattle.std.specs.Prelude.{◌≡◌, ◌≢◌, ℕ, suc, ◌+◌, ◌-◌, ◌==◌, Bool, true, false, not, cond, if◌then◌else◌, ℤ, pos, List, [], ◌∷◌, ◌++◌, map, length}
 use Rattle.std.specs.List.{filter, list_any, range_with_len}
 use Rattle.poly_num.specs.Vectors.{Vector, ◌·◌}
 use Rattle.poly_model.specs.declared.kind.Kind.{Kind}
@@ -7,6 +7,7 @@ use Rattle.poly_model.specs.declared.kind.Kind.TheVariants.{H, V}
 use Rattle.poly_model.specs.declared.overflow.Phase.{Phase}
 use Rattle.poly_model.specs.declared.overflow.Phase.TheVariants.{Cone, Prepare, Main, First}
 use Rattle.poly_model.specs.Independence.{Vanish, IsFirstBasis}
+use Rattle.poly_model.specs.Labels.{is_row, coordinate_label, coordinate_index}
 use Rattle.poly_model.specs.Systems.{Row, row_of, Polyhedron, file_rows, cone_of}
 use Rattle.poly_model.specs.Cones.{coordinate}
 use Rattle.poly_model.specs.FreeColumns.{AreFreeColumns}
@@ -36,17 +37,9 @@ pub record HasPoints (space : Space) : Type 0 where
   pub inside : IsInside space vector
   pub finite : space.infinity · vector ≢ pos 0
 
--- the label of coordinate j
-abbrev pub coordinate_label : ℕ → ℕ
-coordinate_label j = 8192 + j
-
--- a label below 8192 is that of a row
-abbrev pub is_row : ℕ → Bool
-is_row k = nat_lt k 8192
-
 -- the entries of a row, or the form of a coordinate
 abbrev pub label_form : List Row → ℕ → Vector
-label_form rows k = if is_row k then (row_of rows k).entries else coordinate (k - 8192)
+label_form rows k = if is_row k then (row_of rows k).entries else coordinate (coordinate_index k)
 
 -- the labels of m rows, and of coordinates j up to and without n
 abbrev pub labels_of : ℕ → ℕ → ℕ → List ℕ

@@ -6,13 +6,13 @@ ghost use Rattle.std.specs.List.Sorted.{IsStrictlyIncreasing};
 ghost use Rattle.poly_model.specs.Limits.{most_labels};
 ghost use Rattle.poly_model.specs.Keys.{IsKey, lower_of, with_label};
 
-use crate::MOST_LABELS;
+use crate::{Label, MOST_LABELS};
 use std::marker::Model;
 
 /// At most `MOST_LABELS` labels, strictly ascending, kept in place. Contracts see the list of their numbers.
 #[derive(Clone, Copy, PartialEq, Eq, Hash, Debug)]
 pub struct Key {
-    labels: [u16; MOST_LABELS],
+    labels: [Label; MOST_LABELS],
     len: u16,
 }
 
@@ -40,13 +40,13 @@ impl Key {
         ensures { result ≡ [] }
     {
         Key {
-            labels: [0; MOST_LABELS],
+            labels: [Label::EXTRA; MOST_LABELS],
             len: 0,
         }
     }
 
     /// The key of these labels: none exactly where they are more than `MOST_LABELS` or do not ascend strictly.
-    pub fn from_ascending(labels: &[u16]) -> Option<Key>
+    pub fn from_ascending(labels: &[Label]) -> Option<Key>
         ensures { SomeIff result (IsKey labels.now) labels.now }
     {
         if labels.len() <= MOST_LABELS && ascends(labels) {
@@ -71,8 +71,8 @@ impl Key {
         self.len == 0
     }
 
-    /// The numbers of its labels, ascending.
-    pub fn labels(&self) -> &[u16]
+    /// Its labels, ascending.
+    pub fn labels(&self) -> &[Label]
         ensures value { result.now ≡ self.now }
         ensures key { IsKey result.now }
     {
@@ -97,7 +97,7 @@ impl Key {
     }
 
     /// The same with this label too.
-    pub fn with(&self, label: u16) -> Key
+    pub fn with(&self, label: Label) -> Key
         requires { length self.now < most_labels }
         ensures value { result ≡ with_label label self.now }
         ensures room { length result ≤ length self.now + 1 }
@@ -111,7 +111,7 @@ impl Key {
         Key::of(below).followed_by(&[label]).followed_by(above)
     }
 
-    fn of(labels: &[u16]) -> Key
+    fn of(labels: &[Label]) -> Key
         requires { IsKey labels.now }
         ensures { result ≡ labels.now }
     {
@@ -119,7 +119,7 @@ impl Key {
     }
 
     // The labels of this key and then those.
-    fn followed_by(self, labels: &[u16]) -> Key
+    fn followed_by(self, labels: &[Label]) -> Key
         requires { IsKey (self ++ labels.now) }
         ensures { result ≡ self ++ labels.now }
     {
@@ -130,7 +130,7 @@ impl Key {
         longer
     }
 
-    fn push(&mut self, label: u16)
+    fn push(&mut self, label: Label)
         requires { IsKey (self.old ++ label ∷ []) }
         ensures { self.new ≡ self.old ++ label ∷ [] }
     {
@@ -140,28 +140,30 @@ impl Key {
 }
 
 // Whether the labels ascend strictly.
-fn ascends(labels: &[u16]) -> bool
+fn ascends(labels: &[Label]) -> bool
     ensures { IsTrue result ↔ IsStrictlyIncreasing labels.now }
 {
-    labels.windows(2).all(|pair| pair[0] < pair[1])
+    labels
+        .windows(2)
+        .all(|pair| pair[0].number() < pair[1].number())
 }
 
 // How many labels, from the first on, are below this one.
-fn lower(labels: &[u16], label: u16) -> usize
+fn lower(labels: &[Label], label: Label) -> usize
     ensures value { result ≡ lower_of label labels.now }
     ensures within { result ≤ length labels.now }
 {
     for (i, l) in labels.iter().enumerate() {
-        if label <= *l {
+        if label.number() <= l.number() {
             return i;
         }
     }
     labels.len()
 }
 
-fn stands_at(labels: &[u16], at: usize, label: u16) -> bool
+fn stands_at(labels: &[Label], at: usize, label: Label) -> bool
     ensures yes { IsTrue result → (at < length labels.now) × (slice_index labels.now at ≡ label) }
     ensures no { IsFalse result → at < length labels.now → slice_index labels.now at ≢ label }
 {
-    at < labels.len() && labels[at] == label
+    at < labels.len() && labels[at].is_same(label)
 }

@@ -1,32 +1,92 @@
 //! The names of the rows and columns of a dictionary.
-ghost use Rattle.std.specs.Prelude.{◌≡◌, ◌+◌, ◌<◌, ◌≤◌};
+ghost use Rattle.std.specs.Prelude.{◌≡◌, ◌↔◌, ◌<◌, IsTrue};
+ghost use Rattle.poly_model.specs.Labels.{first_coordinate, IsRow, IsCoordinate, coordinate_label, coordinate_index, is_row};
 
-/// The name of a row or a column of a dictionary: 0 is the extra variable `t`, 1 to 8191 are rows,
-/// 8192 + j is coordinate j, and 65535 is the constant column.
+use std::marker::Model;
+
+/// The number of the label of coordinate 0.
+pub const FIRST_COORDINATE: u16 = 8192;
+
+/// The number of the label of the constant column.
+pub const CONSTANT: u16 = 65535;
+
+/// The name of a row or a column of a dictionary, which contracts see as its number: 0 is the extra variable `t`,
+/// 1 to 8191 are rows, 8192 + j is coordinate j, and 65535 is the constant column. Labels are ordered by their numbers.
 #[derive(Clone, Copy, PartialEq, Eq, PartialOrd, Ord, Hash, Debug)]
-pub struct Label(pub u16);
+pub struct Label {
+    number: u16,
+}
+
+impl Model for Label {
+    ghost use Rattle.std.specs.Prelude.{ℕ};
+
+    ghost Value = { ℕ };
+
+    ghost view = { λ label. label.number };
+
+    ghost inverse = { λ n. record { number = n } };
+}
 
 impl Label {
     /// The extra variable of phase one.
-    pub const EXTRA: Label = Label(0);
+    pub const EXTRA: Label = Label { number: 0 };
 
     /// The constant column.
-    pub const CONSTANT: Label = Label(65535);
+    pub const CONSTANT: Label = Label { number: CONSTANT };
 
-    /// Row `i`, counted from 1.
-    pub fn row(i: u16) -> Label
+    /// Row i, counted from 1.
+    pub fn row(i: u32) -> Label
         requires positive { 0 < i }
-        requires within { i < 8192 }
-        ensures { result.0 ≡ i }
+        requires within { i < first_coordinate }
+        ensures { result ≡ i }
     {
-        Label(i)
+        Label { number: i as u16 }
     }
 
-    /// Coordinate `j`, counted from 0.
-    pub fn coordinate(j: u16) -> Label
-        requires { j < 8192 }
-        ensures { result.0 ≡ 8192 + j }
+    /// Coordinate j, counted from 0.
+    pub fn coordinate(j: u32) -> Label
+        requires { j < first_coordinate }
+        ensures { result ≡ coordinate_label j }
     {
-        Label(8192 + j)
+        Label {
+            number: FIRST_COORDINATE + j as u16,
+        }
+    }
+
+    /// Its number.
+    pub fn number(self) -> u16
+        ensures { result ≡ self }
+    {
+        self.number
+    }
+
+    /// Whether it is a row's; `t` counts as row 0.
+    pub fn is_row(self) -> bool
+        ensures row { IsTrue result ↔ IsRow self }
+        ensures value { result ≡ is_row self }
+    {
+        self.number < FIRST_COORDINATE
+    }
+
+    /// Whether it is a coordinate's; the constant column counts as one.
+    pub fn is_coordinate(self) -> bool
+        ensures { IsTrue result ↔ IsCoordinate self }
+    {
+        self.number >= FIRST_COORDINATE
+    }
+
+    /// Which coordinate it is, counted from 0.
+    pub fn coordinate_index(self) -> u32
+        requires { IsCoordinate self }
+        ensures { result ≡ coordinate_index self }
+    {
+        u32::from(self.number - FIRST_COORDINATE)
+    }
+
+    /// Whether both are one: `==` as a call that says so.
+    pub fn is_same(self, other: Label) -> bool
+        ensures { IsTrue result ↔ (self ≡ other) }
+    {
+        self.number == other.number
     }
 }

@@ -4,6 +4,7 @@
 #![tactic(auto)]
 
 mod cells;
+mod free;
 mod key;
 mod kind;
 mod label;
@@ -18,6 +19,7 @@ mod system;
 #[cfg(test)]
 mod tests;
 
+pub use free::FreeColumns;
 pub use key::Key;
 pub use kind::{Kind, RowKind, WorkKind};
 pub use label::Label;

@@ -5,7 +5,7 @@ ghost use Rattle.poly_model.specs.Systems.{row_of};
 ghost use Rattle.poly_model.specs.Tables.{IsShaped, cone_rows_in, is_point_kind};
 
 use crate::cells::row_at;
-use crate::{Kind, RowKind};
+use crate::{Kind, Label, RowKind};
 use poly_num::Num;
 use std::marker::Model;
 
@@ -100,6 +100,14 @@ impl System {
     {
         let linear: &[bool] = &self.linear;
         linear[i as usize - 1]
+    }
+
+    /// Whether this label is that of a linear row; one that is no row of the system is not.
+    pub fn is_linear_row(&self, label: Label) -> bool
+        ensures { result ≡ (row_of self.now.rows label).linear }
+    {
+        let row = u32::from(label.number());
+        0 < row && row <= self.rows() && self.is_linear(row)
     }
 
     /// Whether row i, counted from 1, is a point of a V file.

@@ -25,18 +25,24 @@ fn numbers(alloc: Global) -> Result<Vec<Num>, AllocError>
 
 #[test]
 fn keys_gain_and_lose_labels(rt: HostRuntime) -> Result<(), Fail> {
-    let key = Key::from_ascending(&[2, 5, 9]).ok_or("ascending")?;
+    let (second, fifth, ninth) = (Label::row(2), Label::row(5), Label::row(9));
+    let key = Key::from_ascending(&[second, fifth, ninth]).ok_or("ascending")?;
     assert_eq!(rt; key.len(), 3);
-    assert_eq!(rt; key.with(7).labels(), [2, 5, 7, 9].as_slice());
-    assert_eq!(rt; key.with(5), key);
-    assert_eq!(rt; key.without_at(1).labels(), [2, 9].as_slice());
+    assert_eq!(rt;
+        key.with(Label::row(7)).labels(),
+        [second, fifth, Label::row(7), ninth].as_slice()
+    );
+    assert_eq!(rt; key.with(fifth), key);
+    assert_eq!(rt; key.without_at(1).labels(), [second, ninth].as_slice());
     assert_eq!(rt; key.without_at(0).without_at(0).without_at(0), Key::empty());
     assert!(rt; Key::empty().is_empty());
-    assert!(rt; !key.is_same(&key.with(7)));
-    assert_eq!(rt; Key::from_ascending(&[2, 2]), None);
+    assert!(rt; !key.is_same(&key.with(Label::row(7))));
+    assert_eq!(rt; Key::from_ascending(&[second, second]), None);
     assert_eq!(rt; Root::new(key).key(), key);
-    assert_eq!(rt; Label::row(3), Label(3));
-    assert_eq!(rt; Label::coordinate(2), Label(8194));
+    assert_eq!(rt; (second.number(), Label::coordinate(2).number()), (2, 8194));
+    assert!(rt; second.is_row() && !second.is_coordinate());
+    assert!(rt; Label::coordinate(0).is_coordinate() && !Label::coordinate(0).is_row());
+    assert_eq!(rt; Label::coordinate(7).coordinate_index(), 7);
     Ok(())
 }
 

@@ -6,7 +6,8 @@ use Rattle.std.proofs.lemmas.Bool.{eqb-true}
 use Rattle.std.proofs.lemmas.Int.{ints}
 use Rattle.poly_num.specs.Vectors.{Vector, ◌·◌}
 use Rattle.poly_num.proofs.VectorLemmas.{dot-zero}
-use Rattle.poly_model.specs.Spaces.{Space, IsInside, IsDirection, is_row, is_member, lift_of, lifted}
+use Rattle.poly_model.specs.Spaces.{Space, IsInside, IsDirection, is_member, lift_of, lifted}
+use Rattle.poly_model.specs.Labels.{is_row}
 use Rattle.linear_laws.proofs.Entries.{zeros, length-zeros, IsZero-zeros}
 use Rattle.dictionary_laws.proofs.Directions.{times_zero, vanish_zero}
 use Rattle.dictionary_laws.proofs.Filters.{member_has, member_only}

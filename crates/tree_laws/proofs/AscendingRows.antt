@@ -7,7 +7,8 @@ use Rattle.poly_model.specs.declared.kind.Kind.{Kind}
 use Rattle.poly_model.specs.declared.kind.Kind.TheVariants.{H, V}
 use Rattle.poly_model.specs.Keys.{IsAscending}
 use Rattle.poly_model.specs.Systems.{Polyhedron, file_rows, cone_of, added_row}
-use Rattle.poly_model.specs.Spaces.{Space, is_row, is_left, labels_of, lifted, main_space}
+use Rattle.poly_model.specs.Spaces.{Space, is_left, labels_of, lifted, main_space}
+use Rattle.poly_model.specs.Labels.{is_row}
 use Rattle.poly_model.specs.LexOrder.{rows_in}
 use Rattle.linear_laws.proofs.Members.{Contains-first, Contains-later, all_at}
 use Rattle.linear_laws.proofs.AllLemmas.{all_both}

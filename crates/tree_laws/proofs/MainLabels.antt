@@ -9,7 +9,8 @@ use Rattle.poly_model.specs.declared.kind.Kind.{Kind}
 use Rattle.poly_model.specs.declared.kind.Kind.TheVariants.{H, V}
 use Rattle.poly_model.specs.Systems.{Row, no_row, row_of, first_unit, Polyhedron, file_rows, cone_of, added_row, is_point_row}
 use Rattle.poly_model.specs.Cones.{coordinate, Meets, IsTight}
-use Rattle.poly_model.specs.Spaces.{Space, coordinate_label, is_row, is_left, label_form, labels_of, linear_rows, cut_space}
+use Rattle.poly_model.specs.Spaces.{Space, is_left, label_form, labels_of, linear_rows, cut_space}
+use Rattle.poly_model.specs.Labels.{coordinate_label, is_row}
 use Rattle.cone_laws.specs.Faces.{fixed_rows}
 use Rattle.poly_model.proofs.RowLemmas.{row_from_one}
 use Rattle.dictionary_laws.proofs.Filters.{filter_only, filter_kept, range_only, range_has, map_only}

@@ -7,7 +7,8 @@ use Rattle.std.proofs.lemmas.List.Elements.{All-contains}
 use Rattle.poly_num.specs.Vectors.{Vector, ◌·◌}
 use Rattle.poly_num.proofs.Ring.{expand, lin}
 use Rattle.poly_num.proofs.Order.{cancel, positive_nonzero}
-use Rattle.poly_model.specs.Spaces.{Space, is_row, is_member}
+use Rattle.poly_model.specs.Spaces.{Space, is_member}
+use Rattle.poly_model.specs.Labels.{is_row}
 use Rattle.poly_model.specs.Dictionaries.{Table, sum_over}
 use Rattle.poly_model.specs.LexOrder.{rows_in}
 use Rattle.poly_model.specs.Tree.{IsRowDictionary}

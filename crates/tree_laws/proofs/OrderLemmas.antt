@@ -4,7 +4,8 @@ use Rattle.std.specs.List.{Contains, filter}
 use Rattle.std.proofs.lemmas.Bool.{not_from_false, false_from_ne_true, cond_both, true≢false}
 use Rattle.std.proofs.lemmas.List.Elements.{Contains-append_left, Contains-append_right, Contains-append_cases}
 use Rattle.poly_model.specs.Keys.{IsAscending}
-use Rattle.poly_model.specs.Spaces.{Space, is_row, is_member}
+use Rattle.poly_model.specs.Spaces.{Space, is_member}
+use Rattle.poly_model.specs.Labels.{is_row}
 use Rattle.poly_model.specs.LexOrder.{rows_in, outside, within, order, backwards, Precedes, IsEarlier}
 use Rattle.poly_model.specs.Tree.{IsRowOutside}
 use Rattle.linear_laws.proofs.Members.{all_at}

@@ -1,6 +1,6 @@
 use Rattle.std.specs.List.{range_with_len}
 use Rattle.std.proofs.lemmas.List.FromFn.{map-range_with_len_more}
-use Rattle.poly_model.specs.Spaces.{coordinate_label}
+use Rattle.poly_model.specs.Labels.{coordinate_label}
 use Rattle.std.proofs.Common.{map, ℕ, List, subst, ◌-◌, ◌++◌, ◌∷◌, [], ap, sym, ◌∙◌, arith}
 use Rattle.poly_model.specs.Keys.{IsKey}
 use Rattle.dictionary.proofs.Beginnings.{coordinates_are_key}

@@ -1,7 +1,7 @@
 use Rattle.std.proofs.Common.{◌≡◌, ◌-◌, ◌≤◌, map}
 use Rattle.std.specs.List.{range_with_len}
 use Rattle.std.specs.Vec.{vec_len}
-use Rattle.poly_model.specs.Spaces.{coordinate_label}
+use Rattle.poly_model.specs.Labels.{coordinate_label}
 use Rattle.dictionary.proofs.new.coordinate_labels.Given as goal
 
 abbrev pub invariant-loop-j : goal.invariant-loop-j

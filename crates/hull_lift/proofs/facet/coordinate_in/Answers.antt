@@ -1,7 +1,8 @@
 use Rattle.std.proofs.Common.{◌≡◌, false, subst, sym, ◌∙◌}
 use Rattle.std.specs.List.{Contains}
 use Rattle.std.proofs.lemmas.Bool.{cond-false, false_from_ne_true, iff_false}
-use Rattle.poly_model.specs.Spaces.{coordinate_label, is_member}
+use Rattle.poly_model.specs.Spaces.{is_member}
+use Rattle.poly_model.specs.Labels.{coordinate_label}
 use Rattle.dictionary_laws.proofs.Filters.{member_only}
 use Rattle.hull_lift.specs.Facets.{number_in, infinity_in}
 use Rattle.hull_lift.proofs.facet.coordinate_in.Goals as goal

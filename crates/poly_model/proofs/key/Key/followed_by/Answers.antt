@@ -5,4 +5,4 @@ pub push-requires : goal.push-requires
 push-requires c =
     let ls = c.args.labels.now in
     let i = c.loop-label.label-index in
-    rw c.loop-label.invariant (key_on_the_way c.args.self ls i c.loop-label-test.true c.requires)
+    rw (c.loop-label.invariant, c.label-item.is) (key_on_the_way c.args.self ls i _ c.loop-label-test.true c.requires)
