@@ -108,8 +108,8 @@ module _ (p : Polyhedron) (at last : Dictionary) (free : List ℕ) (b : IsBegun 
       fixed_has (coordinate_label j)
       (b.later (coordinate_label j) (column_only last.key j (subst (λ ks. Contains ks j) b.columns c)) high)
       (coordinate_stays rows free (coordinate_label j) high
-      ∙ not_from_true (is_member (coordinate_label coordinate_index j) free)
-      (member_has (coordinate_label coordinate_index j) free (subst (Contains free) (sym there) c)))
+      ∙ not_from_true (is_member (coordinate_index (coordinate_label j)) free)
+      (member_has (coordinate_index (coordinate_label j)) free (subst (Contains free) (sym there) c)))
 
   -- ---- which labels are left
   left_only : (k : ℕ) → Contains left k → Contains at.key k × (IsCoordinate k) × (is_member (coordinate_index k) free ≡ false)

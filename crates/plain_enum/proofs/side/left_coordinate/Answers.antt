@@ -1,4 +1,4 @@
-use Rattle.std.proofs.Common.{◌≡◌, ◌+◌, get_or, true, false, IsNone, IfSome, sym, subst, ◌∙◌, arith}
+use Rattle.std.proofs.Common.{◌≡◌, ◌+◌, get_or, true, false, IsNone, IsFalse, IfSome, sym, subst, ◌∙◌, arith}
 use Rattle.std.proofs.lemmas.Option.{IfSome_then}
 use Rattle.std.proofs.lemmas.Grind.{get_or_default_zero}
 use Rattle.poly_model.specs.Labels.{IsCoordinate, coordinate_index}
@@ -13,7 +13,7 @@ labels-preserved c =
     let items = c.labels-label-items.result.now in
     let i = c.labels.label-index in
     let label : c.label-item.result ≡ get_or items i 0 = c.label-item.is ∙ get_or_default_zero items i _ c.labels-test.true in
-    let other : IsTrue (not c.is_kept.result) → IsCoordinate (get_or items i 0) → is_member (coordinate_index (get_or items i 0)) free ≡ false → ⊥ = λ w. subst (λ k. IsCoordinate k → is_member (coordinate_index k) free ≡ false → ⊥) label
+    let other : IsFalse c.is_kept.result → IsCoordinate (get_or items i 0) → is_member (coordinate_index (get_or items i 0)) free ≡ false → ⊥ = λ w. subst (λ k. IsCoordinate k → is_member (coordinate_index k) free ≡ false → ⊥) label
         (c.is_kept.ensures.other w) in
     elim c.if-is_kept.branch [
       | then-is_kept w ↦ record {
