@@ -7,7 +7,7 @@ ghost use Prim.Native.Nat.{◌∣◌};
 ghost use Rattle.poly_num.specs.Numbers.{IsNum, IsWord};
 ghost use Rattle.poly_num.specs.Divisors.{IsGcdOf};
 ghost use Rattle.poly_num.specs.Halves.{IsHalf};
-ghost use Rattle.dictionary.specs.Cells.{cell, pivot_cell, IsExchanged};
+ghost use Rattle.dictionary.specs.Cells.{cell, pivot_cell, AreNarrow, CanExchange, IsExchanged};
 ghost use Rattle.dictionary.specs.WordExchange.{HasUnitRow, IsCommonTo, IsSignOf, IsShiftedRow, IsLeftOf, IsScaled, IsRescaled, IsRowOver};
 
 use crate::cells::{at_place, cell_at};
@@ -288,15 +288,10 @@ fn row_fits_half(others: bool, c: Num) -> bool
 fn exchange_over(cells: &mut [Num], pivot_row: &mut [Num], x: &Exchange, shift: Num) -> bool
     requires size { length cells.old ≡ x.now.height * x.now.width }
     requires room { length pivot_row.old ≡ x.now.width }
-    requires row { x.now.row < x.now.height }
-    requires column { x.now.column < x.now.width }
-    requires denominator { pos 0 <ℤ x.now.denominator }
-    requires nonzero { pivot_cell x.now cells.old ≢ pos 0 }
-    requires word { IsWord x.now.denominator }
-    requires words { All IsWord cells.old }
+    requires can { CanExchange x.now cells.old }
+    requires narrow { AreNarrow cells.old x.now.denominator }
     requires unit { HasUnitRow x.now cells.old }
-    requires shift { shift ≡ pivot_cell x.now cells.old -ℤ x.now.denominator }
-    requires shift_word { IsWord shift }
+    requires shift { (shift ≡ pivot_cell x.now cells.old -ℤ x.now.denominator) × IsWord shift }
     ensures exchanged { IsExchanged x.now cells.old cells.new }
     ensures room { length pivot_row.new ≡ x.now.width }
     ensures narrow { IsTrue result → All IsWord cells.new }
@@ -337,12 +332,8 @@ fn exchange_over(cells: &mut [Num], pivot_row: &mut [Num], x: &Exchange, shift: 
 pub fn exchange_words(cells: &mut [Num], pivot_row: &mut [Num], x: &Exchange) -> bool
     requires size { length cells.old ≡ x.now.height * x.now.width }
     requires room { length pivot_row.old ≡ x.now.width }
-    requires row { x.now.row < x.now.height }
-    requires column { x.now.column < x.now.width }
-    requires denominator { pos 0 <ℤ x.now.denominator }
-    requires nonzero { pivot_cell x.now cells.old ≢ pos 0 }
-    requires word { IsWord x.now.denominator }
-    requires words { All IsWord cells.old }
+    requires can { CanExchange x.now cells.old }
+    requires narrow { AreNarrow cells.old x.now.denominator }
     requires unit { HasUnitRow x.now cells.old }
     ensures exchanged { IsExchanged x.now cells.old cells.new }
     ensures room { length pivot_row.new ≡ x.now.width }

@@ -6,18 +6,21 @@ use Rattle.std.proofs.lemmas.List.{with_items_is}
 use Rattle.poly_model.specs.Keys.{with_label}
 use Rattle.dictionary_laws.specs.Keys.{place_in}
 use Rattle.dictionary.specs.declared.exchange.Exchange.{Exchange}
-use Rattle.dictionary.specs.Cells.{Fits}
+use Rattle.dictionary.specs.Cells.{Fits, CanExchange}
 use Rattle.dictionary.specs.WordExchange.{HasUnitRow}
 use Rattle.dictionary.proofs.NarrowCells.{has_unit_row, narrow_at}
 use Rattle.dictionary.specs.Views.{Dictionary, exchange_at, CanPivot, IsPivot, IsWhole}
-use Rattle.dictionary.proofs.CarriedOut.{column_bound, place_bound, width_after, carried_out}
+use Rattle.dictionary.proofs.CarriedOut.{can_exchange, place_bound, width_after, carried_out}
 use Rattle.dictionary.proofs.dict.Dict.carry_out.Goals as goal
 
-pub exchange_cells-self-inside-requires-clause-column : goal.exchange_cells-self-inside-requires-clause-column
-exchange_cells-self-inside-requires-clause-column c =
-    column_bound c.args.self.now c.args.row c.args.col
-    (subst (λ (d : Dictionary). IsWhole d) c.self.view_is c.self.invariant.1) c.requires.can
-    c.args.x.now c.requires.exchange
+pub exchange_cells-self-inside-requires-clause-can : goal.exchange_cells-self-inside-requires-clause-can
+exchange_cells-self-inside-requires-clause-can c =
+    let now = c.args.self.now in
+    subst (λ (v : List ℤ). CanExchange c.args.x.now v)
+    (sym (c.deref_mut.ensures.value ∙ ap (λ (d : Dictionary). d.cells) c.self.view_is))
+    (subst (λ (x : Exchange). CanExchange x now.cells) (sym c.requires.exchange)
+    (can_exchange now c.args.row c.args.col
+    (subst (λ (d : Dictionary). IsWhole d) c.self.view_is c.self.invariant.1) c.requires.can))
 
 pub exchange_cells-self-inside-requires-clause-fits : goal.exchange_cells-self-inside-requires-clause-fits
 exchange_cells-self-inside-requires-clause-fits c =
