@@ -61,7 +61,7 @@ pub record AreExchangedCells (x : Exchange) (old new : List ℤ) : Type 0 where
   pub cells : (i j : ℕ) → i < x.height → j < x.width → IsExchangedCell x old i j (cell x.width new i j)
 
 -- the common divisor is divided out, and the cell at the place is positive
-pub record IsReduced (place : ℕ) (old new : List ℤ) : Type 0 where
+pub record IsMadePrimitive (place : ℕ) (old new : List ℤ) : Type 0 where
   pub multiple : (g : ℤ) × (old ≡ scale g new)
   pub positive : pos 0 <ℤ slice_index_or new place (pos 0)
   pub least : IsPrimitive new

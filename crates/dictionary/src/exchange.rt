@@ -3,7 +3,7 @@ ghost use Rattle.std.specs.Prelude.{◌≡◌, ◌≢◌, ◌<◌, ◌*◌, ◌*
 ghost use Rattle.std.specs.List.{slice_index_or, All};
 ghost use Rattle.poly_num.specs.Numbers.{IsNum, IsWord, Crosses};
 ghost use Rattle.dictionary.specs.WordExchange.{HasUnitRow};
-ghost use Rattle.dictionary.specs.Cells.{AreNarrow, cell, Fits, CanExchange, IsPivotRow, AreExchangedCells, IsReduced, IsExchanged};
+ghost use Rattle.dictionary.specs.Cells.{AreNarrow, cell, Fits, CanExchange, IsPivotRow, AreExchangedCells, IsMadePrimitive, IsExchanged};
 
 use crate::cells::{at_place, cell_at};
 use crate::words::exchange_words;
@@ -87,10 +87,10 @@ fn write(cells: &mut [Num], pivot_row: &[Num], x: &Exchange)
 }
 
 // Divides out what is common, and makes the cell at the place positive.
-fn reduce(cells: &mut [Num], place: usize)
+fn make_primitive(cells: &mut [Num], place: usize)
     requires place { place < length cells.old }
     requires nonzero { slice_index_or cells.old place (pos 0) ≢ pos 0 }
-    ensures { IsReduced place cells.old cells.new }
+    ensures { IsMadePrimitive place cells.old cells.new }
 {
     primitive(cells);
     if !at_place(cells, place).is_positive() {
@@ -109,7 +109,7 @@ pub fn exchange_in_place(cells: &mut [Num], pivot_row: &mut [Num], x: &Exchange)
 {
     copy_row(cells, x, pivot_row);
     write(cells, pivot_row, x);
-    reduce(cells, x.row * x.width + x.column);
+    make_primitive(cells, x.row * x.width + x.column);
 }
 
 /// Exchanges the row and the column, where no product passes: in one pass over the table where the cells

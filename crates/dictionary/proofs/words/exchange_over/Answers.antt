@@ -13,8 +13,8 @@ use Rattle.dictionary.proofs.LeastOver.{least_exchanged}
 use Rattle.dictionary.proofs.words.exchange_over.Goals.{After-word_product-own, After-quick_row-first}
 use Rattle.dictionary.proofs.words.exchange_over.Goals as goal
 
-pub over_common-p-requires-clause-divides : goal.over_common-p-requires-clause-divides
-over_common-p-requires-clause-divides c =
+pub common_quotient-p-requires-clause-divides : goal.common_quotient-p-requires-clause-divides
+common_quotient-p-requires-clause-divides c =
     let x = c.args.x.now in
     let h = c.common_factor-common in
     let t = c.sign_number-sign in
@@ -35,8 +35,8 @@ rows-init c =
       words = λ _. c.requires.narrow.1;
     }
 
-pub over_common-c-requires-clause-divides : goal.over_common-c-requires-clause-divides
-over_common-c-requires-clause-divides c =
+pub common_quotient-c-requires-clause-divides : goal.common_quotient-c-requires-clause-divides
+common_quotient-c-requires-clause-divides c =
     let h = c.common_factor-common in
     let same = c.cell_at.ensures
     ∙ c.rows.invariant.over.rest c.rows.i c.args.x.now.column c.rows-test.true c.requires.can.column (omega arith) in
@@ -47,8 +47,8 @@ word_product-own-requires-clause-right c =
     let x = c.args.x.now in
     let same = c.cell_at.ensures
     ∙ c.rows.invariant.over.rest c.rows.i x.column c.rows-test.true c.requires.can.column (omega arith) in
-    quotient_word c.over_common-c.result c.common_factor-common.result c.cell_at.result
-    c.common_factor-common.ensures.positive c.over_common-c.ensures
+    quotient_word c.common_quotient-c.result c.common_factor-common.result c.cell_at.result
+    c.common_factor-common.ensures.positive c.common_quotient-c.ensures
     (subst IsWord (sym same)
     (word_at x c.args.cells.now c.requires.size c.requires.narrow.1 c.rows.i x.column c.rows-test.true c.requires.can.column))
 
@@ -66,12 +66,12 @@ quick_row-first-requires-clause-half c t =
     let g = divisor_half c.args.x.now.denominator c.rows.divisor c.requires.can.denominator c.rows.invariant.over.divides f.2 in
     (f.0, f.1, own.1, g)
 
-p_word : (c : After-word_product-own) → IsWord c.over_common-p.result
+p_word : (c : After-word_product-own) → IsWord c.common_quotient-p.result
 p_word c =
     let x = c.args.x.now in
     let t = c.sign_number-sign in
-    quotient_word c.over_common-p.result c.common_factor-common.result c.word_product.result
-    c.common_factor-common.ensures.positive c.over_common-p.ensures
+    quotient_word c.common_quotient-p.result c.common_factor-common.result c.word_product.result
+    c.common_factor-common.ensures.positive c.common_quotient-p.ensures
     (subst IsWord (sym c.word_product.ensures)
     (turned_word t.result c.cell_at-pivot.result t.ensures.size
     (subst IsWord (sym c.cell_at-pivot.ensures)
@@ -84,9 +84,9 @@ own_word c =
     let same = c.cell_at.ensures
     ∙ c.rows.invariant.over.rest c.rows.i x.column c.rows-test.true c.requires.can.column (omega arith) in
     subst IsWord (sym c.word_product-own.ensures)
-    (turned_word t.result c.over_common-c.result t.ensures.size
-    (quotient_word c.over_common-c.result c.common_factor-common.result c.cell_at.result
-    c.common_factor-common.ensures.positive c.over_common-c.ensures
+    (turned_word t.result c.common_quotient-c.result t.ensures.size
+    (quotient_word c.common_quotient-c.result c.common_factor-common.result c.cell_at.result
+    c.common_factor-common.ensures.positive c.common_quotient-c.ensures
     (subst IsWord (sym same)
     (word_at x c.args.cells.now c.requires.size c.requires.narrow.1 c.rows.i x.column c.rows-test.true c.requires.can.column))))
 
@@ -99,18 +99,18 @@ row_word c j hj =
 
 -- what is to be written in row i and column j
 is_new : (c : After-quick_row-first) → (j : ℕ) → j < c.args.x.now.width → (n : ℤ) →
-    n ≡ cell c.args.x.now.width c.args.cells.now c.rows.i j *ℤ c.over_common-p.result -ℤ c.word_product-own.result *ℤ get_or c.copy_shifted.new.row j (pos 0) →
+    n ≡ cell c.args.x.now.width c.args.cells.now c.rows.i j *ℤ c.common_quotient-p.result -ℤ c.word_product-own.result *ℤ get_or c.copy_shifted.new.row j (pos 0) →
     IsExchangedCell c.args.x.now c.args.cells.now c.rows.i j ((c.sign_number-sign.result *ℤ c.common_factor-common.result) *ℤ n)
 is_new c j hj n en =
     let x = c.args.x.now in
     let q = c.requires in
     let t = c.sign_number-sign in
     let sign = subst (λ (z : ℤ). IsSignOf z t.result) c.cell_at-pivot.ensures t.ensures in
-    let ep = c.over_common-p.ensures ∙ c.word_product.ensures ∙ ap (λ (z : ℤ). t.result *ℤ z) c.cell_at-pivot.ensures in
-    let ec = c.over_common-c.ensures ∙ c.cell_at.ensures
+    let ep = c.common_quotient-p.ensures ∙ c.word_product.ensures ∙ ap (λ (z : ℤ). t.result *ℤ z) c.cell_at-pivot.ensures in
+    let ec = c.common_quotient-c.ensures ∙ c.cell_at.ensures
     ∙ c.rows.invariant.over.rest c.rows.i x.column c.rows-test.true q.can.column (omega arith) in
-    undivided_is x c.args.cells.now c.copy_shifted.new.row c.common_factor-common.result t.result c.over_common-p.result
-    c.args.shift q.can.column sign c.copy_shifted.ensures q.shift.0 ep c.rows.i j hj c.over_common-c.result
+    undivided_is x c.args.cells.now c.copy_shifted.new.row c.common_factor-common.result t.result c.common_quotient-p.result
+    c.args.shift q.can.column sign c.copy_shifted.ensures q.shift.0 ep c.rows.i j hj c.common_quotient-c.result
     c.word_product-own.result n ec c.word_product-own.ensures en
 
 pub word_row-from-requires-clause-words : goal.word_row-from-requires-clause-words
@@ -145,7 +145,7 @@ quick_over c =
     let g = c.rows.divisor in
     let r = c.quick_row-first.ensures.row in
     let row = c.copy_shifted.new.row in
-    let p = c.over_common-p.result in
+    let p = c.common_quotient-p.result in
     let own = c.word_product-own.result in
     let new = c.quick_row-first.new.cells in
     over_row x old f i 0 c.quick_row-first.result g row p own c.rows.cells new c.rows-test.true r
@@ -175,7 +175,7 @@ columns-init c =
     let g = c.rows.divisor in
     let s = c.word_row-from.ensures.row in
     let row = c.copy_shifted.new.row in
-    let p = c.over_common-p.result in
+    let p = c.common_quotient-p.result in
     let own = c.word_product-own.result in
     let new = c.word_row-from.new.cells in
     let u = quick_over (goal.at.columns-init c).After-quick_row-first in
@@ -211,13 +211,13 @@ word_cross-n-requires-clause-d c =
     subst IsWord (sym c.at_place.ensures)
     (row_word (goal.at.word_cross-n-requires-clause-d c).After-word_product-own c.columns.j c.columns-test.true)
 
-pub over-z-requires-clause-word : goal.over-z-requires-clause-word
-over-z-requires-clause-word c =
+pub exact_quotient-z-requires-clause-word : goal.exact_quotient-z-requires-clause-word
+exact_quotient-z-requires-clause-word c =
     divisor_word c.args.x.now.denominator c.columns.divisor c.requires.can.denominator c.columns.invariant.over.divides
     c.requires.narrow.0
 
-pub over-z-requires-clause-fits : goal.over-z-requires-clause-fits
-over-z-requires-clause-fits c =
+pub exact_quotient-z-requires-clause-fits : goal.exact_quotient-z-requires-clause-fits
+exact_quotient-z-requires-clause-fits c =
     let x = c.args.x.now in
     let q = c.requires in
     let t = c.sign_number-sign in
@@ -239,14 +239,14 @@ columns-preserved c =
     let t = c.sign_number-sign in
     let h = c.common_factor-common in
     let f = t.result *ℤ h.result in
-    let g = c.over-z in
+    let g = c.exact_quotient-z in
     let row = c.copy_shifted.new.row in
     let n = c.word_cross-n.result in
     let sign = subst (λ (z : ℤ). IsSignOf z t.result) c.cell_at-pivot.ensures t.ensures in
     let nonzero = factor_nonzero (pivot_cell x old) t.result h.result q.can.nonzero sign h.ensures.positive in
     let same = c.cell_at-e.ensures
     ∙ c.columns.invariant.over.rest i j c.rows-test.true c.columns-test.true (omega arith) in
-    let en : n ≡ cell x.width old i j *ℤ c.over_common-p.result -ℤ c.word_product-own.result *ℤ get_or row j (pos 0) =
+    let en : n ≡ cell x.width old i j *ℤ c.common_quotient-p.result -ℤ c.word_product-own.result *ℤ get_or row j (pos 0) =
     c.word_cross-n.ensures ∙ rw (same, c.at_place.ensures) refl in
     let is = is_new (goal.at.columns-preserved c).After-quick_row-first j c.columns-test.true n en in
     record {
@@ -269,16 +269,16 @@ rows-preserved-then-stays c =
     let t = c.sign_number-sign in
     let h = c.common_factor-common in
     let sign = subst (λ (z : ℤ). IsSignOf z t.result) c.cell_at-pivot.ensures t.ensures in
-    let ep = c.over_common-p.ensures ∙ c.word_product.ensures ∙ ap (λ (z : ℤ). t.result *ℤ z) c.cell_at-pivot.ensures in
-    let ec = c.over_common-c.ensures ∙ c.cell_at.ensures
+    let ep = c.common_quotient-p.ensures ∙ c.word_product.ensures ∙ ap (λ (z : ℤ). t.result *ℤ z) c.cell_at-pivot.ensures in
+    let ec = c.common_quotient-c.ensures ∙ c.cell_at.ensures
     ∙ c.rows.invariant.over.rest i x.column c.rows-test.true q.can.column (omega arith) in
     let same = c.stays.ensures c.if-stays.true in
     record {
       over =
           over_stays x old (t.result *ℤ h.result) i c.rows.divisor c.rows.cells c.rows-test.true
           (λ j hj.
-          stays_is x old c.copy_shifted.new.row h.result t.result c.over_common-p.result c.args.shift q.can.column sign
-          c.copy_shifted.ensures q.shift.0 ep i j hj c.over_common-c.result c.word_product-own.result c.rows.divisor ec
+          stays_is x old c.copy_shifted.new.row h.result t.result c.common_quotient-p.result c.args.shift q.can.column sign
+          c.copy_shifted.ensures q.shift.0 ep i j hj c.common_quotient-c.result c.word_product-own.result c.rows.divisor ec
           c.word_product-own.ensures same.0 same.1)
           c.rows.invariant.over;
       words = c.rows.invariant.words;

@@ -5,7 +5,7 @@ use Rattle.poly_model.specs.Limits.{most_columns}
 use Rattle.poly_model.specs.Systems.{row_of}
 use Rattle.dictionary_laws.specs.Coordinates.{coordinate_key}
 use Rattle.dictionary.specs.Views.{Dictionary, IsWhole}
-use Rattle.dictionary.specs.New.{first_label, row_count, row_cells, unit_row, has_constants, IsNew}
+use Rattle.dictionary.specs.New.{first_label, row_count, row_cells, unit_row, has_constants, IsCoordinateDictionary}
 use Rattle.dictionary.proofs.BeginSpaces.{same_view, new_whole, new_is}
 use Rattle.dictionary.proofs.dict.Dict.new.Goals as goal
 
@@ -64,4 +64,4 @@ returns c =
     ∙ ap (λ q. flat_map (λ i. row_cells (has_constants phase sys.kind) (row_of sys.rows i).entries) (range_with_len 1 m) ++ flat_map (unit_row (suc (length c.in_ok-columns.columns.items))) (range_with_len 1 q)) count in
     let same = same_view phase sys.rows (has_constants phase sys.kind) sys.n m some narrow few widths
     c.in_ok-labels.labels.items c.key_of.result c.in_ok-columns.columns.items c.in_ok-cells.cells.items columns labels key cells in
-    subst (λ (d : Dictionary). IsNew sys phase d) same (new_is sys phase c.requires m em few some narrow widths)
+    subst (λ (d : Dictionary). IsCoordinateDictionary sys phase d) same (new_is sys phase c.requires m em few some narrow widths)
