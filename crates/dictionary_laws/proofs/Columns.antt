@@ -12,8 +12,9 @@ use Rattle.poly_num.proofs.VectorLemmas.{dot-scale}
 use Rattle.poly_model.specs.Spaces.{Space, IsInside, IsDirection}
 use Rattle.poly_model.specs.Dictionaries.{IsCobasis, sum_over}
 use Rattle.linear_laws.proofs.Members.{Contains-first, Contains-later, Contains-nil}
+use Rattle.linear_laws.proofs.Combinations.{zero_at_scale}
 use Rattle.dictionary_laws.proofs.Members.{contains_other, sum_zero, sum_single}
-use Rattle.dictionary_laws.proofs.Directions.{times_zero, zero_at_scale, direction_scale, spread, inside_spread}
+use Rattle.dictionary_laws.proofs.Directions.{times_zero, direction_scale, spread, inside_spread}
 use Rattle.dictionary_laws.proofs.Duals.{Dual, dual_of, distinct}
 
 pub square_positive : (x : ℤ) → x ≢ pos 0 → pos 0 <ℤ (x *ℤ x)

@@ -13,7 +13,7 @@ use Rattle.poly_model.specs.Cones.{coordinate}
 use Rattle.poly_model.specs.Spaces.{label_form, labels_of, in_front, with_constants, without_constants, cut_space}
 use Rattle.poly_model.specs.Labels.{coordinate_label, is_row}
 use Rattle.linear_laws.proofs.Members.{all_at}
-use Rattle.dictionary_laws.specs.Coordinates.{HasCoordinates, coordinate_key, first_coordinate, ArePhaseCoordinates, AreCoordinateLabels}
+use Rattle.dictionary_laws.specs.Coordinates.{HasCoordinates, coordinate_key, first_labelled, ArePhaseCoordinates, AreCoordinateLabels}
 use Rattle.dictionary_laws.proofs.Members.{all_from}
 use Rattle.dictionary_laws.proofs.KeyExchange.{ascending_distinct}
 
@@ -66,7 +66,7 @@ of_directions n rows = record {
 }
 
 of_rows : (kind : Kind) (p : Polyhedron) → 0 < p.n →
-    HasCoordinates (cut_space kind p []) (coordinate_key (first_coordinate kind) p.n)
+    HasCoordinates (cut_space kind p []) (coordinate_key (first_labelled kind) p.n)
 of_rows H p l = of_vectors p.n _ l
 of_rows V p l = of_directions p.n _
 

@@ -6,9 +6,10 @@ use Rattle.std.specs.Prelude.{◌==◌}
 use Rattle.poly_num.proofs.Ring.{lin}
 use Rattle.poly_model.specs.Spaces.{is_member}
 use Rattle.poly_model.specs.Dictionaries.{sum_over}
-use Rattle.linear_laws.proofs.Members.{Contains-nil, Contains-first, Contains-later}
+use Rattle.poly_model.specs.Keys.{IsAscending}
+use Rattle.linear_laws.proofs.Members.{Contains-nil, Contains-first, Contains-later, all_at}
 use Rattle.dictionary_laws.specs.Keys.{AreDistinct}
-use Rattle.dictionary_laws.proofs.Members.{contains_cases, by_cases}
+use Rattle.dictionary_laws.proofs.Members.{contains_cases, by_cases, all_from}
 
 -- ---- filters
 filter_step : (P : List ℕ → Type 0) (test : ℕ → Bool) (x : ℕ) (ks : List ℕ) →
@@ -49,6 +50,16 @@ distinct_filter test (x ∷ ks) h =
     (λ e. ((λ c. h.0 (filter_only test ks x c).0), distinct_filter test ks h.1))
     (λ e. distinct_filter test ks h.1)
 
+pub ascending_filter : (test : ℕ → Bool) (ks : List ℕ) → IsAscending ks → IsAscending (filter test ks)
+ascending_filter test [] h = tt
+ascending_filter test (x ∷ ks) h =
+    filter_step IsAscending test x ks
+    (λ e. (
+      all_from (λ y. x < y) (filter test ks) (λ k c. all_at (λ y. x < y) ks h.0 k (filter_only test ks k c).0),
+      ascending_filter test ks h.1,
+    ))
+    (λ e. ascending_filter test ks h.1)
+
 -- a sum whose terms are 0 where the test fails
 pub sum_filter : (test : ℕ → Bool) (ks : List ℕ) (f : ℕ → ℤ) →
     ((k : ℕ) → Contains ks k → test k ≡ false → f k ≡ pos 0) →
@@ -79,6 +90,14 @@ range_has a (suc n) k l m =
     (λ (d : k ≡ a → ⊥). Contains-later k a (range_with_len (a + 1) n)
     (range_has (a + 1) n k (omega arith) (omega arith)))
     (cases_eq k a)
+
+pub ascending_range : (a n : ℕ) → IsAscending (range_with_len a n)
+ascending_range a zero = tt
+ascending_range a (suc n) = (
+  all_from (λ k. a < k) (range_with_len (a + 1) n)
+      (λ k c. let l = (range_only (a + 1) n k c).0 in omega arith),
+  ascending_range (a + 1) n,
+)
 
 -- ---- the labels of a list of numbers
 pub map_only : (f : ℕ → ℕ) (js : List ℕ) (k : ℕ) → Contains (map f js) k →

@@ -81,6 +81,12 @@ module _ (p : Polyhedron) where
   same_in_cone m l =
       get_or_append_left (file_rows p) (added_row p.kind p.n (file_rows p)) no_row m l
 
+  -- a row of the file is the row of the cone with the same number
+  pub row_in_cone : (i : ℕ) → 0 < i → i ≤ length (file_rows p) → row_of (cone_of p).rows i ≡ row_of (file_rows p) i
+  row_in_cone i some within =
+      row_from_one (cone_of p).rows i some ∙ same_in_cone (i - 1) (omega arith)
+      ∙ sym (row_from_one (file_rows p) i some)
+
   -- a linear row of the cone is one of the file
   pub linear_in_file : (m : ℕ) → (get_or (cone_of p).rows m no_row).linear ≡ true →
       m < length (file_rows p)

@@ -1,11 +1,10 @@
 -- The vectors of the spaces of the phases, over the coordinates of the cone.
-use Rattle.std.proofs.Common.{◌≡◌, ◌≢◌, ℕ, zero, suc, ◌+◌, ◌-◌, ◌≤◌, ◌<◌, true, false, List, [], ◌∷◌, ◌++◌, ℤ, map, length, refl, sym, ap, subst, ◌∙◌, ⊎_elim, arith}
+use Rattle.std.proofs.Common.{◌≡◌, ◌≢◌, ℕ, zero, suc, ◌+◌, ◌-◌, ◌≤◌, ◌<◌, true, false, List, [], ◌∷◌, ◌++◌, map, length, refl, sym, ap, subst, ◌∙◌, ⊎_elim, arith}
 use Rattle.std.specs.Prelude.{not}
 use Rattle.std.specs.List.{Contains, filter, range_with_len}
 use Rattle.std.proofs.lemmas.Bool.{le-ltb, ltb-true, cond-true, cond-false, cond_both, cases_Bool}
 use Rattle.std.proofs.lemmas.List.Elements.{Contains-append_right, Contains-append_cases}
 use Rattle.poly_num.specs.Vectors.{Vector, ◌·◌}
-use Rattle.poly_num.proofs.Ring.{lin, zero_mul}
 use Rattle.poly_model.specs.declared.kind.Kind.{Kind}
 use Rattle.poly_model.specs.declared.kind.Kind.TheVariants.{H, V}
 use Rattle.poly_model.specs.declared.overflow.Phase.{Phase}
@@ -15,10 +14,11 @@ use Rattle.poly_model.specs.Cones.{at, coordinate}
 use Rattle.poly_model.specs.Spaces.{Space, IsInside, IsSpaceOf, is_left, is_member, label_form, labels_of, in_front, with_constants, without_constants, linear_rows, cut_space, cone_space, prepare_space, main_space}
 use Rattle.poly_model.specs.Labels.{coordinate_label, is_row}
 use Rattle.linear_laws.proofs.Entries.{coordinate_reads}
-use Rattle.dictionary_laws.specs.Coordinates.{first_coordinate}
+use Rattle.dictionary_laws.specs.Coordinates.{first_labelled}
 use Rattle.dictionary_laws.proofs.Filters.{filter_only, filter_kept, range_only, range_has, map_only, map_has, member_has}
 use Rattle.dictionary_laws.proofs.CoordinateSpaces.{coordinate_form}
-use Rattle.dictionary.proofs.ConeRows.{row_in_cone}
+use Rattle.dictionary_laws.proofs.InFront.{with_front}
+use Rattle.dictionary_laws.proofs.MainRows.{row_in_cone}
 use Rattle.hull_lift.proofs.ColumnNumbers.{form_of_coordinate}
 
 -- y over the coordinates of the cone: the coordinates and labels of the space have their values there
@@ -82,10 +82,6 @@ with_labels space labels = record space { labels = labels }
 abbrev pub HasFrom : ℕ → ℕ → List ℕ → Type 0
 HasFrom first n labels = (j : ℕ) → first ≤ j → j < n → Contains labels (coordinate_label j)
 
--- a form with 0 in front has the value of the form behind it
-pub with_front : (g : Vector) (x : ℤ) (v : Vector) → in_front g · (x ∷ v) ≡ g · v
-with_front g x v = omega (arith, lin, zero_mul x)
-
 module _ (p : Polyhedron) (fixed : List Vector) (labels : List ℕ) where
   abbrev vectors : Space
   vectors = with_labels (with_constants p.n fixed (file_rows p)) labels
@@ -134,7 +130,7 @@ module _ (p : Polyhedron) (fixed : List Vector) (labels : List ℕ) where
   }
 
 over_cut : (kind : Kind) (p : Polyhedron) (fixed : List Vector) (labels : List ℕ) →
-    HasFrom (first_coordinate kind) p.n labels →
+    HasFrom (first_labelled kind) p.n labels →
     ((k : ℕ) → Contains labels k → Contains (cut_space kind p fixed).labels k) →
     (y : Vector) → IsInside (with_labels (cut_space kind p fixed) labels) y →
     IsOver p (with_labels (cut_space kind p fixed) labels) y
@@ -142,7 +138,7 @@ over_cut H p fixed labels has old = over_vectors p fixed labels has old
 over_cut V p fixed labels has old = over_directions p fixed labels has
 
 has_coordinates : (kind : Kind) (p : Polyhedron) (fixed : List Vector) →
-    HasFrom (first_coordinate kind) p.n (cut_space kind p fixed).labels
+    HasFrom (first_labelled kind) p.n (cut_space kind p fixed).labels
 has_coordinates H p fixed = coordinate_is_label (length (file_rows p)) 1 p.n
 has_coordinates V p fixed = coordinate_is_label (length (cone_of p).rows) 0 p.n
 

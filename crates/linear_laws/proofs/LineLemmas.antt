@@ -2,7 +2,7 @@
 use Rattle.std.proofs.Common.{◌≡◌, ◌≢◌, ◌⊎◌, inl, inr, ℕ, ◌<◌, ℤ, pos, ◌+ℤ◌, ◌*ℤ◌, neg_ℤ, ◌<ℤ◌, List, ◌∷◌, ◌++◌, length, sym, ap, ◌∙◌, subst, arith}
 use Rattle.std.proofs.lemmas.Int.{ints, by_lt_z}
 use Rattle.poly_num.specs.Vectors.{Vector, ◌·◌, scale, IsZero, IsPrimitive}
-use Rattle.poly_num.proofs.Ring.{expand, lin, neg-mul, neg-mul-neg}
+use Rattle.poly_num.proofs.Ring.{lin, neg-mul, neg-mul-neg}
 use Rattle.poly_num.proofs.Order.{positive_nonzero, positive_product, positive_factor}
 use Rattle.poly_num.proofs.VectorLemmas.{dot-zero, zero_from_scale}
 use Rattle.poly_model.specs.Independence.{Vanish}
@@ -12,7 +12,7 @@ use Rattle.linear_laws.specs.Slots.{IsSlot}
 use Rattle.linear_laws.specs.FreeColumns.{IsFreeColumn, IsLineOf, LeavesSlots}
 use Rattle.linear_laws.proofs.Members.{less_or_equal}
 use Rattle.linear_laws.proofs.Proportions.{zero_from_proportion, multiples_from_values, vanish_from_multiple, same_width}
-use Rattle.linear_laws.proofs.Combinations.{combination, dot-combination, length-combination, zero_combination, vanish_combination}
+use Rattle.linear_laws.proofs.Combinations.{combination, dot-combination, length-combination, zero_combination, vanish_combination, cancels}
 use Rattle.linear_laws.proofs.Entries.{at-scale, at-combination, at-zero}
 use Rattle.linear_laws.proofs.PrimitiveAlong.{PrimitiveOf, primitive_of, primitive_same}
 use Rattle.linear_laws.proofs.LeftSlots.{Left, elimination_leaves, SlotAt, slot_at, parted_at, zero_from_left, slot_width, slot_value, slot_vanish, slot_elsewhere}
@@ -102,9 +102,6 @@ one_line n rows j y z a b =
     -- the combination of the two that is 0 at j is zero
     difference : Vector
     difference = combination (at j y) z (neg_ℤ (at j z)) y
-
-    cancels : (a b : ℤ) → a *ℤ b +ℤ neg_ℤ b *ℤ a ≡ pos 0
-    cancels a b = simp expand (omega (arith, lin))
 
     at_free : (k : ℕ) → IsFreeColumn n rows k → at k difference ≡ pos 0
     at_free k f = at-combination k (at j y) z (neg_ℤ (at j z)) y ∙ by (less_or_equal k j)

@@ -8,7 +8,7 @@ use Rattle.poly_num.specs.Vectors.{Vector, ◌·◌, scale}
 use Rattle.poly_num.proofs.Ring.{expand as multiply_out, lin, mul_comm, mul_zero}
 use Rattle.poly_num.proofs.Order.{mul_nonzero}
 use Rattle.poly_num.proofs.VectorLemmas.{dot-scale}
-use Rattle.linear_laws.specs.Frames.{moved, pivoted, Column, rows_of, expand, AreApart, AreDual, IsInside, IsFrameOn, RowsVanish}
+use Rattle.linear_laws.specs.Frames.{moved, pivoted, Column, rows_of, expand, AreApart, AreDual, IsVectorOn, IsFrameOn, RowsVanish}
 use Rattle.linear_laws.proofs.Columns.{rows_vanish_at}
 use Rattle.linear_laws.proofs.Combinations.{dot-combination, inside_combination, inside_scale}
 
@@ -81,8 +81,8 @@ moved_dual D g e z (c ∷ cs) rows d = (
 
 -- ---- the pivot
 moved_inside : (n : ℕ) (fixed : List Vector) (g : Vector) (e : ℤ) (z : Vector) (cs : List Column) →
-    IsInside n fixed z → AllByRecursion (λ c. IsInside n fixed c.dual) cs →
-    AllByRecursion (λ c. IsInside n fixed c.dual) (map (moved g e z) cs)
+    IsVectorOn n fixed z → AllByRecursion (λ c. IsVectorOn n fixed c.dual) cs →
+    AllByRecursion (λ c. IsVectorOn n fixed c.dual) (map (moved g e z) cs)
 moved_inside n fixed g e z [] i w = tt
 moved_inside n fixed g e z (c ∷ cs) i w =
     (inside_combination n fixed e c.dual (neg_ℤ (g · c.dual)) z w.0 i, moved_inside n fixed g e z cs i w.1)

@@ -1,6 +1,6 @@
 -- The root that phase one gives on the half line x >= 1, with the row x - 1 >= 0 twice, from the start cobasis {1},
 -- known from a drawing: the first of the two takes the place of t. A wrong definition does not check.
-use Rattle.std.proofs.Common.{◌≡◌, ◌⊎◌, inl, inr, ◌≤◌, ℕ, ℤ, pos, negsuc, List, [], ◌∷◌, refl, arith}
+use Rattle.std.proofs.Common.{◌≡◌, ◌⊎◌, inl, inr, ◌≤◌, ℕ, pos, negsuc, List, [], ◌∷◌, refl, arith}
 use Rattle.std.specs.Prelude.{◌≤ℤ◌, ◌<ℤ◌}
 use Rattle.std.proofs.lemmas.Int.{ints}
 use Rattle.poly_num.specs.Vectors.{Vector}

@@ -11,7 +11,8 @@ use Rattle.poly_model.specs.Labels.{is_row}
 use Rattle.linear_laws.proofs.Entries.{zeros, length-zeros, IsZero-zeros}
 use Rattle.dictionary_laws.proofs.Directions.{times_zero, vanish_zero}
 use Rattle.dictionary_laws.proofs.Filters.{member_has, member_only}
-use Rattle.tree_laws.proofs.ExtremesOfPoints.{front_vanish, behind_vanish}
+use Rattle.dictionary_laws.proofs.InFront.{vanish_in_front}
+use Rattle.tree_laws.proofs.ExtremesOfPoints.{behind_vanish}
 
 -- ---- one entry more in front
 skip : (x v : ℤ) → pos 0 *ℤ x +ℤ v ≡ v
@@ -35,7 +36,7 @@ module _ (space : Space) (start : List ℕ) where
   first = lifted space start
 
   pub inside_front : (x : ℤ) (z : Vector) → IsInside space z → IsInside first (x ∷ z)
-  inside_front x z h = record { width = ap suc h.width; fixed = front_vanish space.fixed x z h.fixed }
+  inside_front x z h = record { width = ap suc h.width; fixed = vanish_in_front space.fixed x z h.fixed }
 
   pub inside_rest : (x : ℤ) (z : Vector) → IsInside first (x ∷ z) → IsInside space z
   inside_rest x z h =

@@ -1,5 +1,5 @@
 -- The rows of the spaces of the phases main and first ascend.
-use Rattle.std.proofs.Common.{◌≡◌, ℕ, Bool, true, false, cond, zero, suc, ◌+◌, ◌<◌, List, [], ◌∷◌, ◌++◌, length, refl, sym, ap, subst, ◌∙◌, arith}
+use Rattle.std.proofs.Common.{◌≡◌, ℕ, Bool, true, false, cond, ◌<◌, List, [], ◌∷◌, ◌++◌, length, refl, sym, ap, subst, ◌∙◌, arith}
 use Rattle.std.specs.List.{Contains, filter, range_with_len}
 use Rattle.std.proofs.lemmas.Bool.{le-ltb, cond-false}
 use Rattle.std.proofs.lemmas.List.{length-append}
@@ -14,21 +14,11 @@ use Rattle.linear_laws.proofs.Members.{Contains-first, Contains-later, all_at}
 use Rattle.linear_laws.proofs.AllLemmas.{all_both}
 use Rattle.dictionary_laws.specs.Coordinates.{coordinate_key}
 use Rattle.dictionary_laws.proofs.Members.{all_from}
-use Rattle.dictionary_laws.proofs.Filters.{filter_only, range_only}
+use Rattle.dictionary_laws.proofs.Filters.{filter_only, range_only, ascending_filter, ascending_range}
 use Rattle.dictionary_laws.proofs.KeyExchange.{ascending_distinct}
 use Rattle.dictionary_laws.proofs.CoordinateSpaces.{coordinate_keys}
 use Rattle.tree_laws.specs.Extremes.{HasAscendingRows}
-use Rattle.tree_laws.proofs.OrderLemmas.{ascending_filter}
 use Rattle.tree_laws.proofs.MainLabels.{main_in}
-
--- ---- labels in a row
-ascending_range : (a n : ℕ) → IsAscending (range_with_len a n)
-ascending_range a zero = tt
-ascending_range a (suc n) = (
-  all_from (λ k. a < k) (range_with_len (a + 1) n)
-      (λ k c. let l = (range_only (a + 1) n k c).0 in omega arith),
-  ascending_range (a + 1) n,
-)
 
 -- ---- the labels of coordinates are none of rows
 filter-append : (test : ℕ → Bool) (ks ls : List ℕ) → filter test (ks ++ ls) ≡ filter test ks ++ filter test ls

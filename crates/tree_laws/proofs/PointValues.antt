@@ -10,12 +10,12 @@ use Rattle.poly_model.specs.Spaces.{Space, IsInside, IsDirection}
 use Rattle.poly_model.specs.Dictionaries.{Table, sum_over}
 use Rattle.poly_model.specs.LexOrder.{rows_in}
 use Rattle.poly_model.specs.Tree.{IsRowDictionary, IsFeasibleRoot, IsAtPoint, IsExtremeIn}
-use Rattle.linear_laws.proofs.Combinations.{combination, dot-combination}
+use Rattle.linear_laws.proofs.Combinations.{combination, dot-combination, cancels}
 use Rattle.linear_laws.proofs.Nearest.{nonnegative_product, nonnegative_factor}
 use Rattle.linear_laws.proofs.Proportions.{multiples_from_values}
 use Rattle.dictionary_laws.proofs.Members.{all_from, sum_zero}
-use Rattle.dictionary_laws.proofs.Directions.{inside_combination, times_zero, zero_times, zero_at, cancels}
-use Rattle.dictionary_laws.proofs.Values.{terms, level_value}
+use Rattle.dictionary_laws.proofs.Directions.{inside_combination, times_zero, zero_times, zero_at}
+use Rattle.dictionary_laws.proofs.Values.{terms, level_value, no_sum}
 use Rattle.tree_laws.proofs.Numbers.{row_is_label, key_row}
 
 -- u x + (-x) u
@@ -24,9 +24,6 @@ meets u x s h = h ∙ cancels u x
 
 pub apart : (a b x y : ℤ) → a *ℤ x +ℤ neg_ℤ b *ℤ y ≡ pos 0 → a *ℤ x ≡ b *ℤ y
 apart a b x y h = let f = simp expand at h in omega (arith, lin)
-
-only_level : (v b s : ℤ) → v ≡ b +ℤ s → s ≡ pos 0 → v ≡ b
-only_level v b s h z = omega (arith, lin)
 
 -- a vector that is positive at infinity, where the labels of the key are 0
 pub record IsKeyPoint (space : Space) (key : List ℕ) (y : Vector) : Type 0 where
@@ -58,7 +55,7 @@ module _ (space : Space) (key : List ℕ) (t : Table) (d : IsRowDictionary space
       ((c : ℕ) → Contains key c → space.form c · y ≡ pos 0) →
       t.denominator *ℤ (space.form i · y) ≡ t.constant i *ℤ (space.infinity · y)
   row_at_point i l y inside h =
-      only_level (t.denominator *ℤ (space.form i · y)) (t.constant i *ℤ (space.infinity · y))
+      no_sum (t.denominator *ℤ (space.form i · y)) (t.constant i *ℤ (space.infinity · y))
       (sum_over key (terms space t i y))
       (d.dictionary.writes.values i (row_is_label space i l) y inside)
       (sum_zero key (terms space t i y) (λ c m. times_zero (t.entry i c) (space.form c · y) (h c m)))

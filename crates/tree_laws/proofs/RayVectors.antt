@@ -13,7 +13,8 @@ use Rattle.poly_model.specs.Dictionaries.{Table}
 use Rattle.poly_model.specs.Tree.{IsRowDictionary, IsAlongColumn}
 use Rattle.linear_laws.proofs.Proportions.{vanish_from_multiple, same_width, values_from_multiples}
 use Rattle.linear_laws.proofs.PrimitiveAlong.{PrimitiveOf, primitive_of, primitive_same}
-use Rattle.dictionary_laws.proofs.Directions.{direction_scale, zero_at_scale}
+use Rattle.linear_laws.proofs.Combinations.{zero_at_scale}
+use Rattle.dictionary_laws.proofs.Directions.{direction_scale}
 use Rattle.dictionary_laws.proofs.Duals.{Dual, dual_of}
 use Rattle.tree_laws.proofs.LexLemmas.{by_sign}
 use Rattle.tree_laws.proofs.RayValues.{along_column}
