@@ -1,12 +1,14 @@
 -- The labels that pass a test, labels in a row, labels of coordinates, and members of a list.
-use Rattle.std.proofs.Common.{◌≡◌, ℕ, zero, suc, ◌+◌, ◌≤◌, ◌<◌, Bool, true, false, List, [], ◌∷◌, ℤ, pos, ◌+ℤ◌, map, refl, sym, ap, subst, ◌∙◌, ⊎_elim, arith}
+use Rattle.std.proofs.Common.{◌≡◌, ℕ, zero, suc, ◌+◌, ◌≤◌, ◌<◌, Bool, true, false, List, [], ◌∷◌, ℤ, pos, ◌+ℤ◌, map, refl, sym, ap, subst, ◌∙◌, ⊎_elim, arith, ◌-◌}
 use Rattle.std.specs.List.{Contains, filter, range_with_len}
 use Rattle.std.proofs.lemmas.Bool.{eqb-true, eq-eqb, or_cases, or_left, or_right, cond_both, cases_eq}
 use Rattle.std.specs.Prelude.{◌==◌}
+use Rattle.std.proofs.lemmas.List.Elements.{Contains-append_right}
 use Rattle.poly_num.proofs.Ring.{lin}
-use Rattle.poly_model.specs.Spaces.{is_member}
+use Rattle.poly_model.specs.Spaces.{is_member, labels_of}
 use Rattle.poly_model.specs.Dictionaries.{sum_over}
 use Rattle.poly_model.specs.Keys.{IsAscending}
+use Rattle.poly_model.specs.Labels.{coordinate_label}
 use Rattle.linear_laws.proofs.Members.{Contains-nil, Contains-first, Contains-later, all_at}
 use Rattle.dictionary_laws.specs.Keys.{AreDistinct}
 use Rattle.dictionary_laws.proofs.Members.{contains_cases, by_cases, all_from}
@@ -114,6 +116,13 @@ map_has f [] j c = absurd (Contains-nil j c)
 map_has f (x ∷ js) j c =
     by_cases (λ (i : ℕ). Contains (map f (x ∷ js)) (f i)) x js (Contains-first (f x) (map f js))
     (λ i d. Contains-later (f i) (f x) (map f js) (map_has f js i d)) j c
+
+-- coordinate j is a label, from the first on
+pub coordinate_is_label : (m first n j : ℕ) → first ≤ j → j < n → Contains (labels_of m first n) (coordinate_label j)
+coordinate_is_label m first n j l h =
+    Contains-append_right (range_with_len 1 m) (map coordinate_label (range_with_len first (n - first)))
+    (coordinate_label j)
+    (map_has coordinate_label (range_with_len first (n - first)) j (range_has first (n - first) j l (omega arith)))
 
 -- ---- the test for members
 pub member_only : (k : ℕ) (ks : List ℕ) → is_member k ks ≡ true → Contains ks k

@@ -48,7 +48,7 @@ point_of_cut : (kind : Kind) (p : Polyhedron) (fixed : List Vector) → kind ≡
 point_of_cut H p fixed e = absurd (cc)
 point_of_cut V p fixed e = point_without_constants p.n fixed _
 
-point_of_lifted : (space : Space) (start : List ℕ) → HasPoints space → HasPoints (lifted space start)
+pub point_of_lifted : (space : Space) (start : List ℕ) → HasPoints space → HasPoints (lifted space start)
 point_of_lifted space start p = record {
   vector = pos 0 ∷ p.vector;
   inside = record {

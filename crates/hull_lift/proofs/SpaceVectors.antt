@@ -15,7 +15,7 @@ use Rattle.poly_model.specs.Spaces.{Space, IsInside, IsSpaceOf, is_left, is_memb
 use Rattle.poly_model.specs.Labels.{coordinate_label, is_row}
 use Rattle.linear_laws.proofs.Entries.{coordinate_reads}
 use Rattle.dictionary_laws.specs.Coordinates.{first_labelled}
-use Rattle.dictionary_laws.proofs.Filters.{filter_only, filter_kept, range_only, range_has, map_only, map_has, member_has}
+use Rattle.dictionary_laws.proofs.Filters.{filter_only, filter_kept, range_only, range_has, map_only, map_has, member_has, coordinate_is_label}
 use Rattle.dictionary_laws.proofs.CoordinateSpaces.{coordinate_form}
 use Rattle.dictionary_laws.proofs.InFront.{with_front}
 use Rattle.dictionary_laws.proofs.MainRows.{row_in_cone}
@@ -30,14 +30,7 @@ pub record IsOver (p : Polyhedron) (space : Space) (y : Vector) : Type 0 where
 
 -- ---- labels
 
--- coordinate j is a label, from the first on
-pub coordinate_is_label : (m first n j : ℕ) → first ≤ j → j < n → Contains (labels_of m first n) (coordinate_label j)
-coordinate_is_label m first n j l h =
-    Contains-append_right (range_with_len 1 m) (map coordinate_label (range_with_len first (n - first)))
-    (coordinate_label j)
-    (map_has coordinate_label (range_with_len first (n - first)) j (range_has first (n - first) j l (omega arith)))
-
--- it is left, since it is no row
+-- the label of a coordinate is left, since it is no row
 coordinate_is_left : (rows : List Row) (j : ℕ) → is_left rows (coordinate_label j) ≡ true
 coordinate_is_left rows j =
     cond-false (is_row (coordinate_label j)) (not (row_of rows (coordinate_label j)).linear) true

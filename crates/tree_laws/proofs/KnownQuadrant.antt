@@ -13,7 +13,7 @@ use Rattle.poly_model.specs.LexOrder.{rows_in}
 use Rattle.poly_model.specs.Tree.{IsFeasibleRoot}
 use Rattle.poly_model.specs.Tree.{ShowsRay, IsAlongColumn, IsShownAt, IsExtremeIn}
 use Rattle.linear_laws.proofs.Members.{all_at}
-use Rattle.tree_laws.proofs.KnownTables.{space_of, each_vector, has_points, table_of, IsSolved, solved, one_is_least}
+use Rattle.tree_laws.proofs.KnownTables.{space_of, each_vector, has_enough_labels, table_of, IsSolved, solved, one_is_least}
 use Rattle.tree_laws.proofs.KnownTests.{shows_ray}
 
 -- rows 1: x >= 0, 2: y >= 0
@@ -26,9 +26,6 @@ rows =
 abbrev quadrant : Space
 quadrant = space_of 3 rows
 
-abbrev labels : List ℕ
-labels = 1 ∷ 2 ∷ 8193 ∷ 8194 ∷ []
-
 abbrev root : List ℕ
 root = 1 ∷ 2 ∷ []
 
@@ -36,7 +33,7 @@ root = 1 ∷ 2 ∷ []
 -- at (0, 0)
 abbrev home : Table
 home =
-    table_of (pos 1) (1 ∷ 2 ∷ []) labels (
+    table_of (pos 1) (1 ∷ 2 ∷ []) quadrant.labels (
     (pos 0 ∷ pos 1 ∷ pos 0 ∷ [])
     ∷ (pos 0 ∷ pos 0 ∷ pos 1 ∷ [])
     ∷ (pos 0 ∷ pos 1 ∷ pos 0 ∷ [])
@@ -46,16 +43,11 @@ home =
 
 home_is_solved : IsSolved quadrant (1 ∷ 2 ∷ []) home
 home_is_solved = record {
-  points = has_points 3 rows (pos 0 ∷ pos 0 ∷ []) refl;
+  labels = has_enough_labels 3 rows (pos 0 ∷ pos 0 ∷ []) refl;
   ascending = ((omega arith, tt), (tt, tt));
   rows = ((0, omega arith, refl), ((1, omega arith, refl), tt));
   directions = (pos 0 ∷ pos 1 ∷ pos 0 ∷ []) ∷ (pos 0 ∷ pos 0 ∷ pos 1 ∷ []) ∷ [];
-  flat = ((refl, tt, refl), ((refl, tt, refl), tt));
-  independent = ((tt, λ e. cc), (((refl, tt), λ e. cc), tt));
-  enough = λ a b c e v.
-      let f = v.0 in let g = v.1.0 in
-      (omega (arith, ints), (omega (arith, ints), (omega (arith, ints), tt)));
-  positive = omega (arith, ints);
+  independent = (((refl, tt, refl), tt, λ e. cc), (((refl, tt, refl), (refl, tt), λ e. cc), tt));
   lines = (refl, (refl, (refl, (refl, tt))));
   least = one_is_least quadrant (1 ∷ 2 ∷ []) home refl;
 }
