@@ -57,7 +57,8 @@ form_at f (x ∷ ks) a h k c j q =
     place_step (λ i. a + i ≡ j → f k ≡ coordinate j) x k ks
     (λ e s. let same : a ≡ j = omega (arith, s) in
     ap f (sym e) ∙ ap (λ l. get_or l 0 []) h ∙ ap coordinate same)
-    (λ n s. form_at f ks (a + 1) (ap (λ l. drop 1 l) h) k (contains_other x ks k c (λ e. n (sym e))) j (omega (arith, s)))
+    (λ n s. form_at f ks (a + 1) (ap (λ l. drop 1 l) h) k (contains_other x ks k c (λ e. n (sym e))) j
+    (omega (arith, s)))
     q
 
 -- ---- the value of a form by its entries

@@ -30,7 +30,8 @@ scaled_dual p D (c ∷ cs) d =
     (dot-scale c.row p c.dual ∙ ap (λ t. p *ℤ t) d.0, scaled_apart p c cs d.1, scaled_dual p D cs d.2)
 
 scaled_inside : (n : ℕ) (fixed : List Vector) (p : ℤ) (cs : List Column) →
-    AllByRecursion (λ c. IsVectorOn n fixed c.dual) cs → AllByRecursion (λ c. IsVectorOn n fixed c.dual) (map (scaled p) cs)
+    AllByRecursion (λ c. IsVectorOn n fixed c.dual) cs →
+    AllByRecursion (λ c. IsVectorOn n fixed c.dual) (map (scaled p) cs)
 scaled_inside n fixed p [] h = tt
 scaled_inside n fixed p (c ∷ cs) h = (inside_scale n fixed p c.dual h.0, scaled_inside n fixed p cs h.1)
 
@@ -52,7 +53,8 @@ vanish_unscaled [] p v n h = tt
 vanish_unscaled (g ∷ gs) p v n h = (zero_unscaled g p v n h.0, vanish_unscaled gs p v n h.1)
 
 unscaled_inside : (n : ℕ) (fixed : List Vector) (p : ℤ) (cs : List Column) → p ≢ pos 0 →
-    AllByRecursion (λ c. IsVectorOn n fixed c.dual) (map (scaled p) cs) → AllByRecursion (λ c. IsVectorOn n fixed c.dual) cs
+    AllByRecursion (λ c. IsVectorOn n fixed c.dual) (map (scaled p) cs) →
+    AllByRecursion (λ c. IsVectorOn n fixed c.dual) cs
 unscaled_inside n fixed p [] nz h = tt
 unscaled_inside n fixed p (c ∷ cs) nz h = (
   (sym (length-scale p c.dual) ∙ h.0.0, vanish_unscaled fixed p c.dual nz h.0.1),

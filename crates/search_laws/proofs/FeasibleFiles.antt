@@ -14,6 +14,7 @@ use Rattle.poly_model.specs.Extreme.{IsFeasibleAs, IsFeasible}
 use Rattle.poly_model.specs.Spaces.{is_left, labels_of, main_space, label_form}
 use Rattle.poly_model.specs.Dictionaries.{Table}
 use Rattle.poly_model.specs.Tree.{IsRowDictionary, IsFeasibleRoot}
+use Rattle.poly_model.specs.Labels.{first_coordinate}
 use Rattle.linear_laws.proofs.Entries.{coordinate_reads, zeros, length-zeros, IsZero-zeros}
 use Rattle.cone_laws.specs.FeasibilityLaws.{HasVertex}
 use Rattle.cone_laws.proofs.FeasibleLemmas.{feasible_file_by_vertex}
@@ -42,8 +43,8 @@ main_has_no_row_zero p free = no_zero p.kind p free
 
 -- ---- H files
 module _ (p : Polyhedron) (free : List ℕ) (kind : p.kind ≡ H) (f : AreFreeColumns (cone_of p) free)
-    (few : length (cone_of p).rows < 8192) where
-  file_few : length (file_rows p) < 8192
+    (few : length (cone_of p).rows < first_coordinate) where
+  file_few : length (file_rows p) < first_coordinate
   file_few = omega (arith, few, length-append (file_rows p) (added_row p.kind p.n (file_rows p)))
 
   to_space : HasVertex (cone_of p) → MeetsRows (main_in H p free)
@@ -92,7 +93,10 @@ roots_in V p free key t e d = record {
   constants = λ i l. no_constant t.denominator ((main_in V p free).form i · (pos 1 ∷ zeros p.n)) (t.constant i)
       ((main_in V p free).infinity · (pos 1 ∷ zeros p.n)) (no_value i) (coordinate_reads 0 (pos 1 ∷ zeros p.n))
       (row_at_point (main_in V p free) key t d i l (pos 1 ∷ zeros p.n)
-      (record { width = ap suc (length-zeros p.n); fixed = vanish_in_front _ (pos 1) (zeros p.n) (vanish_zero _ (zeros p.n) (IsZero-zeros p.n)) })
+      (record {
+        width = ap suc (length-zeros p.n);
+        fixed = vanish_in_front _ (pos 1) (zeros p.n) (vanish_zero _ (zeros p.n) (IsZero-zeros p.n));
+      })
       (λ k c. no_value k));
 }
   where

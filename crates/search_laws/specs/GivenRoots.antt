@@ -9,6 +9,7 @@ use Rattle.poly_model.specs.LexOrder.{rows_in}
 use Rattle.poly_model.specs.Tree.{IsRowDictionary, IsFeasibleRoot}
 use Rattle.poly_model.specs.PhaseOne.{GivesByPhaseOne, IsSearchRoot}
 use Rattle.poly_model.specs.Subtrees.{IsSubtreeRoot}
+use Rattle.poly_model.specs.Labels.{first_coordinate}
 use Rattle.dictionary_laws.specs.Keys.{AreDistinct}
 use Rattle.search_laws.specs.PhaseOne.{HasNoRowZero, MeetsRows}
 
@@ -39,4 +40,4 @@ pub record HasSearchRoot (p : Polyhedron) : Type 0 where
 
 -- each polyhedron does. No label of a row may be that of a coordinate
 abbrev pub SearchRoots : Type 0
-SearchRoots = (p : Polyhedron) → length (cone_of p).rows < 8192 → HasSearchRoot p
+SearchRoots = (p : Polyhedron) → length (cone_of p).rows < first_coordinate → HasSearchRoot p

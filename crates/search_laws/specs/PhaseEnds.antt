@@ -9,6 +9,7 @@ use Rattle.poly_model.specs.Spaces.{Space, lifted, main_space}
 use Rattle.poly_model.specs.Dictionaries.{Table, Writes}
 use Rattle.poly_model.specs.Tree.{IsRowDictionary, IsRowOutside, IsFeasibleRoot, exchanged_key}
 use Rattle.poly_model.specs.Lowering.{IsLowest}
+use Rattle.poly_model.specs.Labels.{first_coordinate}
 use Rattle.search_laws.specs.PhaseOne.{HasNoRowZero, MeetsRows, GivesRoot}
 
 -- where t is lowest and its constant is positive, no vector meets all rows
@@ -66,7 +67,7 @@ MainHasNoRowZero = (p : Polyhedron) (free : List ℕ) → HasNoRowZero (main_spa
 abbrev pub FeasibleFiles : Type 0
 FeasibleFiles =
     (p : Polyhedron) (free : List ℕ) → p.kind ≡ H → AreFreeColumns (cone_of p) free →
-    length (cone_of p).rows < 8192 → IsFeasible (cone_of p) ↔ MeetsRows (main_space p free)
+    length (cone_of p).rows < first_coordinate → IsFeasible (cone_of p) ↔ MeetsRows (main_space p free)
 
 -- of a V file all constants are 0: each cobasis of rows is a feasible root
 abbrev pub RootsOfPoints : Type 0

@@ -8,6 +8,7 @@ use Rattle.poly_model.specs.FreeColumns.{AreFreeColumns}
 use Rattle.poly_model.specs.Extreme.{IsExtreme}
 use Rattle.poly_model.specs.Spaces.{main_space}
 use Rattle.poly_model.specs.Subtrees.{IsSubtreeRoot, IsSubtreeKey, IsSubtreeDepth, IsShownAtKey, InSubtree}
+use Rattle.poly_model.specs.Labels.{first_coordinate}
 use Rattle.search_laws.specs.Shares.{ListsAll}
 use Rattle.search_laws.specs.Splits.{IsSplit}
 use Rattle.search_laws.specs.Partitions.{PartsShare}
@@ -54,7 +55,7 @@ module _ (p : Polyhedron) (root : List ℕ) where
 -- the share of the root is the extreme vectors. No label of a row may be that of a coordinate
 abbrev pub RootShareIsListing : Type 0
 RootShareIsListing =
-    (p : Polyhedron) (root : List ℕ) → length (cone_of p).rows < 8192 → IsSubtreeRoot p root → (y : Vector) →
+    (p : Polyhedron) (root : List ℕ) → length (cone_of p).rows < first_coordinate → IsSubtreeRoot p root → (y : Vector) →
     InSubtree p root root y ↔ IsExtreme (cone_of p) y
 
 pub record HasSubtreeShares (p : Polyhedron) (root : List ℕ) : Type 0 where

@@ -17,7 +17,7 @@ use Rattle.poly_model.specs.Dictionaries.{Table, AreIndependent, Writes, sum_ove
 use Rattle.poly_model.specs.LexOrder.{rows_in}
 use Rattle.poly_model.specs.Tree.{IsRowDictionary}
 use Rattle.poly_model.specs.Cones.{at}
-use Rattle.poly_model.specs.Systems.{file_rows}
+use Rattle.poly_model.specs.Systems.{Row, file_rows}
 use Rattle.poly_model.specs.Labels.{coordinate_label}
 use Rattle.linear_laws.proofs.Members.{all_at}
 use Rattle.linear_laws.proofs.Entries.{coordinate_reads}
@@ -50,21 +50,24 @@ zero_by_entries : (z : Vector) → ((j : ℕ) → j < length z → at j z ≡ po
 zero_by_entries [] h = tt
 zero_by_entries (x ∷ z) h = (h 0 (omega arith), zero_by_entries z (λ j l. h (suc j) (omega arith)))
 
-pub has_enough_labels : (n : ℕ) (rows : List Vector) (z : Vector) → length (pos 1 ∷ z) ≡ n → HasEnoughLabels (space_of n rows)
+pub has_enough_labels : (n : ℕ) (rows : List Vector) (z : Vector) → length (pos 1 ∷ z) ≡ n →
+    HasEnoughLabels (space_of n rows)
 has_enough_labels n rows z w = record {
   points = has_points n rows z w;
   enough = λ y l level zero. zero_by_entries y (λ j below. entry y l level zero j below);
 }
   where
+    all : List Row
+    all = file_rows (h_file n (map inequality rows))
+
     entry : (y : Vector) → length y ≡ n → (space_of n rows).infinity · y ≡ pos 0 →
         ((i : ℕ) → Contains (space_of n rows).labels i → (space_of n rows).form i · y ≡ pos 0) →
         (j : ℕ) → j < length y → at j y ≡ pos 0
     entry y l level zeros zero below = sym (coordinate_reads 0 y) ∙ level
     entry y l level zeros (suc j) below =
         sym (coordinate_reads (suc j) y)
-        ∙ ap (λ g. g · y) (sym (coordinate_form (file_rows (h_file n (map inequality rows))) (suc j)))
-        ∙ zeros (coordinate_label (suc j))
-        (coordinate_is_label (length (file_rows (h_file n (map inequality rows)))) 1 n (suc j) (omega arith) (omega arith))
+        ∙ ap (λ g. g · y) (sym (coordinate_form all (suc j)))
+        ∙ zeros (coordinate_label (suc j)) (coordinate_is_label (length all) 1 n (suc j) (omega arith) (omega arith))
 
 -- P of all vectors of n entries, the entries one after the other
 abbrev pub OfEntries : ℕ → (Vector → Type 0) → Type 0
