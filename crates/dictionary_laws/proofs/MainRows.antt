@@ -125,7 +125,8 @@ module _ (p : Polyhedron) where
     equation_form i e =
         let l = e.some in
         let m = e.within in
-        cond-true (is_row i) (row_of rows i).entries (coordinate (coordinate_index i)) (lt-ltb i first_coordinate (omega arith))
+        cond-true (is_row i) (row_of rows i).entries (coordinate (coordinate_index i))
+        (lt-ltb i first_coordinate (omega arith))
         ∙ ap (λ (row : Row). row.entries) (row_from_one rows i l ∙ same (i - 1) (omega (arith, count_of_rows))
         ∙ sym (row_from_one (file_rows p) i l))
 

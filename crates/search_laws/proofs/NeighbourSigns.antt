@@ -132,7 +132,7 @@ module _ (space : Space) (root key : List ℕ) (t : Table) (d : IsRowDictionary 
       (IsPositive (map (λ q. neg_ℤ (neighbour_entry t s r j q)) qs)) up
       (one_part q (zero_times (t.entry q s) (t.entry r j) z)) o
 
-  pub are_neighbour_entries : AreNeighbourEntries space.labels root key t s r j
+  pub are_neighbour_entries : AreNeighbourEntries t s r space.labels root j
   are_neighbour_entries = record {
     at_r = same_row (t.entry r s) (t.entry r j);
     at_s = at_s;

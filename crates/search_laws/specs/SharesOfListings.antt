@@ -55,8 +55,8 @@ module _ (p : Polyhedron) (root : List ℕ) where
 -- the share of the root is the extreme vectors. No label of a row may be that of a coordinate
 abbrev pub RootShareIsListing : Type 0
 RootShareIsListing =
-    (p : Polyhedron) (root : List ℕ) → length (cone_of p).rows < first_coordinate → IsSubtreeRoot p root → (y : Vector) →
-    InSubtree p root root y ↔ IsExtreme (cone_of p) y
+    (p : Polyhedron) (root : List ℕ) → length (cone_of p).rows < first_coordinate → IsSubtreeRoot p root →
+    (y : Vector) → InSubtree p root root y ↔ IsExtreme (cone_of p) y
 
 pub record HasSubtreeShares (p : Polyhedron) (root : List ℕ) : Type 0 where
   -- the root is a key; what lies over a key is one; what lies under a key that lies under another lies under that

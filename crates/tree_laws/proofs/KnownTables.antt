@@ -169,14 +169,14 @@ module _ (space : Space) (key : List ℕ) (t : Table) where
   IsFlat z = (length z ≡ space.n) × Vanish space.fixed z × (space.infinity · z ≡ pos 0)
 
   -- directions, one for each label: it is not 0 there, and the labels before it are
-  abbrev pub AreApart : List ℕ → List ℕ → List Vector → Type 0
-  AreApart before [] zs = Unit {0}
-  AreApart before (k ∷ ks) [] = ⊥
-  AreApart before (k ∷ ks) (z ∷ zs) =
+  abbrev pub AreWitnesses : List ℕ → List ℕ → List Vector → Type 0
+  AreWitnesses before [] zs = Unit {0}
+  AreWitnesses before (k ∷ ks) [] = ⊥
+  AreWitnesses before (k ∷ ks) (z ∷ zs) =
       (IsFlat z × AllByRecursion (λ i. space.form i · z ≡ pos 0) before × (space.form k · z ≢ pos 0))
-      × AreApart (k ∷ before) ks zs
+      × AreWitnesses (k ∷ before) ks zs
 
-  apart : (before ks : List ℕ) (zs : List Vector) → AreApart before ks zs → AreIndependent space before ks
+  apart : (before ks : List ℕ) (zs : List Vector) → AreWitnesses before ks zs → AreIndependent space before ks
   apart before [] zs h = tt
   apart before (k ∷ ks) [] h = absurd h
   apart before (k ∷ ks) (z ∷ zs) (((w, v, l), vanish, n), h) = (
@@ -194,7 +194,7 @@ module _ (space : Space) (key : List ℕ) (t : Table) where
     pub ascending : IsAscending key
     pub rows : AllByRecursion (Contains (rows_in space.labels)) key
     pub directions : List Vector
-    pub independent : AreApart [] key directions
+    pub independent : AreWitnesses [] key directions
     pub lines : AllByRecursion IsLineOf space.labels
     pub least : IsLeast
 

@@ -62,7 +62,8 @@ module _ (p : Polyhedron) (root free : List ℕ) (columns : AreFreeColumns (cone
       record { free = free; columns = columns; table = t; feasible = f; shown = s; touched = touched }
 
 -- ---- the search
-module _ (p : Polyhedron) (root : List ℕ) (few : length (cone_of p).rows < first_coordinate) (h : IsSubtreeRoot p root) where
+module _ (p : Polyhedron) (root : List ℕ) (few : length (cone_of p).rows < first_coordinate)
+    (h : IsSubtreeRoot p root) where
   searched : IsSearched (main_space p h.free) root h.home
   searched = reverse_search (main_space p h.free) root h.home (main_rows_ascend p h.free).distinct h.feasible
 

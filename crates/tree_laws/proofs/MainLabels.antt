@@ -107,7 +107,8 @@ module _ (rows cone : List Row)
   pub other_form : (i : ℕ) → IsOther rows i → label_form rows i ≡ (row_of rows i).entries
   other_form i o =
       let l = o.within in
-      cond-true (is_row i) (row_of rows i).entries (coordinate (coordinate_index i)) (lt-ltb i first_coordinate (omega arith))
+      cond-true (is_row i) (row_of rows i).entries (coordinate (coordinate_index i))
+      (lt-ltb i first_coordinate (omega arith))
 
   -- a fact of the forms of these labels is one of the entries of the rows that are not linear
   module _ (P : Vector → Type 0) where

@@ -15,7 +15,8 @@ use Rattle.dictionary_laws.specs.Keys.{AreDistinct}
 -- that of a coordinate
 abbrev pub ExtremesOfMain : Type 0
 ExtremesOfMain =
-    (p : Polyhedron) (free : List ℕ) → AreFreeColumns (cone_of p) free → length (cone_of p).rows < first_coordinate → (y : Vector) →
+    (p : Polyhedron) (free : List ℕ) → AreFreeColumns (cone_of p) free →
+    length (cone_of p).rows < first_coordinate → (y : Vector) →
     IsExtreme (cone_of p) y ↔ (IsExtremeIn (main_space p free) (in_main p.kind y) × IsShown p.kind (cone_of p) y)
 
 -- the rows stand in ascending order, each once

@@ -33,4 +33,5 @@ pub record SearchesListing (p : Polyhedron) (root : List ℕ) : Type 0 where
 -- so it is under each root from which a search may begin. No label of a row may be that of a coordinate
 abbrev pub ReverseSearchOfListings : Type 0
 ReverseSearchOfListings =
-    (p : Polyhedron) (root : List ℕ) → length (cone_of p).rows < first_coordinate → IsSubtreeRoot p root → SearchesListing p root
+    (p : Polyhedron) (root : List ℕ) → length (cone_of p).rows < first_coordinate → IsSubtreeRoot p root →
+    SearchesListing p root
