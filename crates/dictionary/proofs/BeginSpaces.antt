@@ -12,7 +12,7 @@ use Rattle.poly_model.specs.Systems.{System, Polyhedron, Row, row_of, file_rows,
 use Rattle.poly_model.specs.Keys.{IsKey}
 use Rattle.poly_model.specs.Cones.{at, coordinate}
 use Rattle.poly_model.specs.Spaces.{Space, IsSpaceOf, label_form, with_constants, without_constants, cut_space, in_front}
-use Rattle.dictionary_laws.specs.Coordinates.{coordinate_key, first_labelled, HasCoordinates}
+use Rattle.dictionary_laws.specs.Coordinates.{coordinate_key, first_coordinate, HasCoordinates}
 use Rattle.dictionary_laws.proofs.CoordinateSpaces.{phase_coordinates}
 use Rattle.dictionary_laws.proofs.MainRows.{row_in_cone}
 use Rattle.dictionary.specs.Views.{Dictionary, IsDictionaryIn, IsWhole}
@@ -56,7 +56,7 @@ begins_cone p space is m e some narrow few widths =
     (without_is Cone p.n some narrow m few (cone_of p).rows widths e (phase_coordinates p).cone)
 
 begins_rows : (p : Polyhedron) (kind : Kind) → p.kind ≡ kind →
-    HasCoordinates (cut_space kind p []) (coordinate_key (first_labelled kind) p.n) →
+    HasCoordinates (cut_space kind p []) (coordinate_key (first_coordinate kind) p.n) →
     (m : ℕ) → m ≡ row_count (has_constants Prepare kind) (length (cone_of p).rows) →
     (some : 0 < p.n) (narrow : p.n ≤ most_columns) (few : m ≤ most_cone_rows) (widths : HasWidths (cone_of p) m) →
     IsDictionaryIn (cut_space kind p [])

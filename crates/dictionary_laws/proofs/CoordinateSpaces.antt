@@ -11,8 +11,8 @@ use Rattle.poly_model.specs.Keys.{IsAscending}
 use Rattle.poly_model.specs.Systems.{Row, row_of, Polyhedron}
 use Rattle.poly_model.specs.Cones.{coordinate}
 use Rattle.poly_model.specs.Spaces.{label_form, labels_of, in_front, with_constants, without_constants, cut_space}
-use Rattle.poly_model.specs.Labels.{coordinate_label, is_row, first_coordinate, coordinate_index}
-use Rattle.dictionary_laws.specs.Coordinates.{HasCoordinates, coordinate_key, first_labelled, ArePhaseCoordinates, AreCoordinateLabels}
+use Rattle.poly_model.specs.Labels.{coordinate_label, is_row, coordinate_index}
+use Rattle.dictionary_laws.specs.Coordinates.{HasCoordinates, coordinate_key, first_coordinate, ArePhaseCoordinates, AreCoordinateLabels}
 use Rattle.dictionary_laws.proofs.Members.{all_from}
 use Rattle.dictionary_laws.proofs.KeyExchange.{ascending_distinct}
 use Rattle.dictionary_laws.proofs.Filters.{map_only}
@@ -20,7 +20,7 @@ use Rattle.dictionary_laws.proofs.Filters.{map_only}
 pub coordinate_form : (rows : List Row) (j : ℕ) → label_form rows (coordinate_label j) ≡ coordinate j
 coordinate_form rows j =
     cond-false (is_row (coordinate_label j)) (row_of rows (coordinate_label j)).entries
-    (coordinate (coordinate_index (coordinate_label j))) (le-ltb (coordinate_label j) first_coordinate (omega arith))
+    (coordinate (coordinate_index (coordinate_label j))) (le-ltb (coordinate_label j) _ (omega arith))
     ∙ ap coordinate (omega arith)
 
 length_of_key : (j n : ℕ) → length (coordinate_key j n) ≡ n - j
@@ -66,7 +66,7 @@ of_directions n rows = record {
 }
 
 of_rows : (kind : Kind) (p : Polyhedron) → 0 < p.n →
-    HasCoordinates (cut_space kind p []) (coordinate_key (first_labelled kind) p.n)
+    HasCoordinates (cut_space kind p []) (coordinate_key (first_coordinate kind) p.n)
 of_rows H p l = of_vectors p.n _ l
 of_rows V p l = of_directions p.n _
 

@@ -14,7 +14,7 @@ use Rattle.poly_model.specs.declared.kind.Kind.TheVariants.{H}
 use Rattle.poly_model.specs.Systems.{Polyhedron, FileRow}
 use Rattle.poly_model.specs.Spaces.{Space, IsInside, IsDirection, prepare_space}
 use Rattle.poly_model.specs.Dictionaries.{Table, IsCobasis, AreIndependent, Writes, IsDictionary, sum_over}
-use Rattle.dictionary_laws.specs.Coordinates.{coordinate_key, coordinate_table, first_labelled}
+use Rattle.dictionary_laws.specs.Coordinates.{coordinate_key, coordinate_table, first_coordinate}
 use Rattle.linear_laws.proofs.Members.{Contains-first, Contains-later, Contains-nil}
 use Rattle.linear_laws.proofs.Entries.{by_three}
 use Rattle.dictionary_laws.proofs.Members.{by_cases}
@@ -48,7 +48,7 @@ table = record {
 }
 
 -- before that: the coordinates, whose numbers are the entries of the rows
-coordinates_are : coordinate_key (first_labelled H) 3 ≡ 8193 ∷ 8194 ∷ []
+coordinates_are : coordinate_key (first_coordinate H) 3 ≡ 8193 ∷ 8194 ∷ []
 coordinates_are = refl
 
 abbrev first_table : Table

@@ -10,7 +10,7 @@ use Rattle.poly_model.specs.declared.kind.Kind.TheVariants.{H, V}
 use Rattle.poly_model.specs.Systems.{Row, no_row, row_of, first_unit, Polyhedron, file_rows, cone_of, cone_row, added_row, is_point_row}
 use Rattle.poly_model.specs.Cones.{coordinate}
 use Rattle.poly_model.specs.Spaces.{label_form, linear_rows}
-use Rattle.poly_model.specs.Labels.{coordinate_label, is_row, first_coordinate, coordinate_index}
+use Rattle.poly_model.specs.Labels.{coordinate_label, is_row, coordinate_index, IsRow}
 use Rattle.linear_laws.proofs.AllLemmas.{all_left, all_right, all_both, all_from_map, all_to_map}
 use Rattle.linear_laws.proofs.Members.{all_at}
 use Rattle.poly_model.specs.Equations.{equation_labels}
@@ -119,14 +119,14 @@ module _ (p : Polyhedron) where
   abbrev pub fixed_rows : List ℕ → List Vector
   fixed_rows free = map coordinate free ++ linear_rows (file_rows p)
 
-  module _ (few : length p.rows < first_coordinate) (free : List ℕ) (rows : List Row)
+  module _ (few : IsRow (length p.rows)) (free : List ℕ) (rows : List Row)
       (same : (m : ℕ) → m < length (file_rows p) → get_or rows m no_row ≡ get_or (file_rows p) m no_row) where
     equation_form : (i : ℕ) → IsEquation i → label_form rows i ≡ (row_of (file_rows p) i).entries
     equation_form i e =
         let l = e.some in
         let m = e.within in
         cond-true (is_row i) (row_of rows i).entries (coordinate (coordinate_index i))
-        (lt-ltb i first_coordinate (omega arith))
+        (lt-ltb i _ (omega arith))
         ∙ ap (λ (row : Row). row.entries) (row_from_one rows i l ∙ same (i - 1) (omega (arith, count_of_rows))
         ∙ sym (row_from_one (file_rows p) i l))
 

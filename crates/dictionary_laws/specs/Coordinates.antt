@@ -35,14 +35,14 @@ coordinate_table space key = record {
 
 -- the first coordinate that has a label before anything is fixed: of an H file, coordinate 0 is that
 -- at infinity
-abbrev pub first_labelled : Kind → ℕ
-first_labelled H = 1
-first_labelled V = 0
+abbrev pub first_coordinate : Kind → ℕ
+first_coordinate H = 1
+first_coordinate V = 0
 
 -- the cone's space has all coordinates, that of the file's rows those from the first on
 pub record ArePhaseCoordinates (p : Polyhedron) : Type 0 where
   pub cone : HasCoordinates (cone_space p) (coordinate_key 0 p.n)
-  pub prepare : 0 < p.n → HasCoordinates (prepare_space p) (coordinate_key (first_labelled p.kind) p.n)
+  pub prepare : 0 < p.n → HasCoordinates (prepare_space p) (coordinate_key (first_coordinate p.kind) p.n)
 
 -- the labels ascend, each stands once, and none is that of a row
 pub record AreCoordinateLabels (key : List ℕ) : Type 0 where

@@ -14,7 +14,7 @@ use Rattle.poly_model.specs.Cones.{at, coordinate}
 use Rattle.poly_model.specs.Spaces.{Space, IsInside, IsSpaceOf, is_left, is_member, label_form, labels_of, in_front, with_constants, without_constants, linear_rows, cut_space, cone_space, prepare_space, main_space}
 use Rattle.poly_model.specs.Labels.{coordinate_label, is_row}
 use Rattle.linear_laws.proofs.Entries.{coordinate_reads}
-use Rattle.dictionary_laws.specs.Coordinates.{first_labelled}
+use Rattle.dictionary_laws.specs.Coordinates.{first_coordinate}
 use Rattle.dictionary_laws.proofs.Filters.{filter_only, filter_kept, range_only, range_has, map_only, map_has, member_has, coordinate_is_label}
 use Rattle.dictionary_laws.proofs.CoordinateSpaces.{coordinate_form}
 use Rattle.dictionary_laws.proofs.InFront.{with_front}
@@ -123,7 +123,7 @@ module _ (p : Polyhedron) (fixed : List Vector) (labels : List ℕ) where
   }
 
 over_cut : (kind : Kind) (p : Polyhedron) (fixed : List Vector) (labels : List ℕ) →
-    HasFrom (first_labelled kind) p.n labels →
+    HasFrom (first_coordinate kind) p.n labels →
     ((k : ℕ) → Contains labels k → Contains (cut_space kind p fixed).labels k) →
     (y : Vector) → IsInside (with_labels (cut_space kind p fixed) labels) y →
     IsOver p (with_labels (cut_space kind p fixed) labels) y
@@ -131,7 +131,7 @@ over_cut H p fixed labels has old = over_vectors p fixed labels has old
 over_cut V p fixed labels has old = over_directions p fixed labels has
 
 has_coordinates : (kind : Kind) (p : Polyhedron) (fixed : List Vector) →
-    HasFrom (first_labelled kind) p.n (cut_space kind p fixed).labels
+    HasFrom (first_coordinate kind) p.n (cut_space kind p fixed).labels
 has_coordinates H p fixed = coordinate_is_label (length (file_rows p)) 1 p.n
 has_coordinates V p fixed = coordinate_is_label (length (cone_of p).rows) 0 p.n
 

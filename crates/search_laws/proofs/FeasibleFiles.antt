@@ -1,5 +1,5 @@
 -- Which files are feasible, by their main space; and the constants of V files.
-use Rattle.std.proofs.Common.{◌≡◌, ◌↔◌, ℕ, suc, ◌<◌, List, ◌∷◌, ℤ, pos, ◌*ℤ◌, length, sym, ap, subst, ◌∙◌, arith}
+use Rattle.std.proofs.Common.{◌≡◌, ◌↔◌, ℕ, suc, List, ◌∷◌, ℤ, pos, ◌*ℤ◌, length, sym, ap, subst, ◌∙◌, arith}
 use Rattle.std.specs.Prelude.{◌<ℤ◌, ◌≤ℤ◌}
 use Rattle.std.proofs.lemmas.Int.{ints}
 use Rattle.std.proofs.lemmas.List.{length-append}
@@ -14,7 +14,7 @@ use Rattle.poly_model.specs.Extreme.{IsFeasibleAs, IsFeasible}
 use Rattle.poly_model.specs.Spaces.{is_left, labels_of, main_space, label_form}
 use Rattle.poly_model.specs.Dictionaries.{Table}
 use Rattle.poly_model.specs.Tree.{IsRowDictionary, IsFeasibleRoot}
-use Rattle.poly_model.specs.Labels.{first_coordinate}
+use Rattle.poly_model.specs.Labels.{IsRow}
 use Rattle.linear_laws.proofs.Entries.{coordinate_reads, zeros, length-zeros, IsZero-zeros}
 use Rattle.cone_laws.specs.FeasibilityLaws.{HasVertex}
 use Rattle.cone_laws.proofs.FeasibleLemmas.{feasible_file_by_vertex}
@@ -43,8 +43,8 @@ main_has_no_row_zero p free = no_zero p.kind p free
 
 -- ---- H files
 module _ (p : Polyhedron) (free : List ℕ) (kind : p.kind ≡ H) (f : AreFreeColumns (cone_of p) free)
-    (few : length (cone_of p).rows < first_coordinate) where
-  file_few : length (file_rows p) < first_coordinate
+    (few : IsRow (length (cone_of p).rows)) where
+  file_few : IsRow (length (file_rows p))
   file_few = omega (arith, few, length-append (file_rows p) (added_row p.kind p.n (file_rows p)))
 
   to_space : HasVertex (cone_of p) → MeetsRows (main_in H p free)

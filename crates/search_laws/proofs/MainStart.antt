@@ -14,7 +14,7 @@ use Rattle.poly_model.specs.Spaces.{Space, HasPoints, marked, IsStartCobasis, ma
 use Rattle.poly_model.specs.Dictionaries.{Table, IsDictionary}
 use Rattle.poly_model.specs.LexOrder.{rows_in}
 use Rattle.poly_model.specs.Tree.{IsRowDictionary}
-use Rattle.poly_model.specs.Labels.{first_coordinate}
+use Rattle.poly_model.specs.Labels.{IsRow}
 use Rattle.linear_laws.proofs.Members.{all_at}
 use Rattle.dictionary_laws.specs.Points.{RowsDetermine}
 use Rattle.dictionary_laws.proofs.Members.{all_from}
@@ -61,7 +61,7 @@ start_dictionary space points ascending rows start h =
     )
 
 module _ (p : Polyhedron) (free : List ℕ) (f : AreFreeColumns (cone_of p) free)
-    (few : length (cone_of p).rows < first_coordinate) where
+    (few : IsRow (length (cone_of p).rows)) where
   rows_of_kind : (kind : Kind) → p.kind ≡ kind → RowsDetermine (main_in kind p free)
   rows_of_kind H k = inequalities.rows_determine p k free f (fewer p few)
   rows_of_kind V k = points.rows_determine p free f few

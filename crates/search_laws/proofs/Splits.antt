@@ -83,7 +83,8 @@ module _ (space : Space) (root : List ℕ) where
   )
 
   pub apart-append : (ks ls : List (List ℕ)) → IsAntichain space root ks → IsAntichain space root ls →
-      ((k o : List ℕ) → Contains ks k → Contains ls o → AreIncomparable space root k o) → IsAntichain space root (ks ++ ls)
+      ((k o : List ℕ) → Contains ks k → Contains ls o → AreIncomparable space root k o) →
+      IsAntichain space root (ks ++ ls)
   apart-append [] ls a b h = b
   apart-append (k ∷ ks) ls a b h = (
     at_either (λ o. AreIncomparable space root k o) ks ls a.0 (λ o c. h k o (Contains-first k ks) c),

@@ -8,7 +8,7 @@ use Rattle.poly_model.specs.declared.kind.Kind.TheVariants.{H, V}
 use Rattle.poly_model.specs.Keys.{IsAscending}
 use Rattle.poly_model.specs.Systems.{Polyhedron, file_rows, cone_of, added_row}
 use Rattle.poly_model.specs.Spaces.{Space, is_left, labels_of, lifted, main_space}
-use Rattle.poly_model.specs.Labels.{is_row, first_coordinate}
+use Rattle.poly_model.specs.Labels.{is_row, IsRow}
 use Rattle.poly_model.specs.LexOrder.{rows_in}
 use Rattle.linear_laws.proofs.Members.{Contains-first, Contains-later, all_at}
 use Rattle.linear_laws.proofs.AllLemmas.{all_both}
@@ -48,7 +48,7 @@ rows_left left m j n =
     ∙ filter-append is_row (filter left (range_with_len 1 m)) (filter left (coordinate_key j n))
     ∙ ap (λ l. filter is_row (filter left (range_with_len 1 m)) ++ l)
     (filter_none is_row (filter left (coordinate_key j n)) (λ k c.
-    le-ltb k first_coordinate ((coordinate_keys j n).coordinates k (filter_only left (coordinate_key j n) k c).0)))
+    le-ltb k _ ((coordinate_keys j n).coordinates k (filter_only left (coordinate_key j n) k c).0)))
     ∙ append_nil (filter is_row (filter left (range_with_len 1 m)))
 
 pub positive_labels : (m j n k : ℕ) → Contains (labels_of m j n) k → 0 < k
@@ -79,7 +79,7 @@ module _ (left : ℕ → Bool) (m j n : ℕ) where
     left_ascend,
   )
 
-pub fewer : (p : Polyhedron) → length (cone_of p).rows < first_coordinate → length (file_rows p) < first_coordinate
+pub fewer : (p : Polyhedron) → IsRow (length (cone_of p).rows) → IsRow (length (file_rows p))
 fewer p l = omega (arith, l, length-append (file_rows p) (added_row p.kind p.n (file_rows p)))
 
 main_ascends : (kind : Kind) (p : Polyhedron) (free : List ℕ) →

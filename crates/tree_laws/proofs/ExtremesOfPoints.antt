@@ -17,7 +17,7 @@ use Rattle.poly_model.specs.Extreme.{IsOnFace, IsShown, IsExtreme}
 use Rattle.poly_model.specs.Spaces.{Space, IsInside, in_front, label_form}
 use Rattle.poly_model.specs.LexOrder.{rows_in}
 use Rattle.poly_model.specs.Tree.{IsExtremeIn}
-use Rattle.poly_model.specs.Labels.{first_coordinate}
+use Rattle.poly_model.specs.Labels.{IsRow}
 use Rattle.linear_laws.proofs.Entries.{coordinate_reads}
 use Rattle.linear_laws.proofs.Members.{all_at}
 use Rattle.linear_laws.proofs.AllLemmas.{all_weaker, all_from_map}
@@ -58,7 +58,7 @@ front_multiple v w x e m = (
 )
 
 module _ (p : Polyhedron) (free : List ℕ) (f : AreFreeColumns (cone_of p) free)
-    (few : length (cone_of p).rows < first_coordinate) where
+    (few : IsRow (length (cone_of p).rows)) where
   abbrev sys : System
   sys = cone_of p
 
