@@ -22,7 +22,7 @@ use Rattle.dictionary_laws.specs.Numbers.{Agree}
 use Rattle.linear_laws.proofs.Members.{Contains-first, Contains-later, Contains-nil}
 use Rattle.linear_laws.proofs.Entries.{by_three}
 use Rattle.dictionary_laws.proofs.Members.{by_cases}
-use Rattle.dictionary_laws.proofs.KnownValues.{row}
+use Rattle.dictionary_laws.proofs.KnownValues.{row, each_label}
 use Rattle.dictionary_laws.proofs.SameLabels.{one_dictionary}
 use Rattle.dictionary_laws.proofs.Sizes.{crosses_along}
 
@@ -68,14 +68,6 @@ row_2_value m a b c y t =
     omega (arith, ints)
 
 module _ (p q : ℕ) where
-  each_label : (P : ℕ → Type 0) → P 1 → P 2 → P 8193 → P 8194 → (i : ℕ) →
-      Contains (1 ∷ 2 ∷ 8193 ∷ 8194 ∷ []) i → P i
-  each_label P a b c d =
-      by_cases P 1 (2 ∷ 8193 ∷ 8194 ∷ []) a
-      (by_cases P 2 (8193 ∷ 8194 ∷ []) b
-      (by_cases P 8193 (8194 ∷ []) c
-      (by_cases P 8194 [] d (λ i h. absurd (Contains-nil i h)))))
-
   abbrev IsWritten : ℕ → Vector → Type 0
   IsWritten i y =
       pos 1 *ℤ ((space p q).form i · y)

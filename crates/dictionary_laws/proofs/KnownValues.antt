@@ -68,7 +68,8 @@ labels_are : space.labels ≡ 1 ∷ 2 ∷ 8193 ∷ 8194 ∷ []
 labels_are = refl
 
 -- a fact of each label
-each_label : (P : ℕ → Type 0) → P 1 → P 2 → P 8193 → P 8194 → (i : ℕ) → Contains space.labels i → P i
+pub each_label : (P : ℕ → Type 0) → P 1 → P 2 → P 8193 → P 8194 → (i : ℕ) →
+    Contains (1 ∷ 2 ∷ 8193 ∷ 8194 ∷ []) i → P i
 each_label P p q r s =
     by_cases P 1 (2 ∷ 8193 ∷ 8194 ∷ []) p
     (by_cases P 2 (8193 ∷ 8194 ∷ []) q

@@ -69,17 +69,6 @@ has_enough_labels n rows z w = record {
         ∙ ap (λ g. g · y) (sym (coordinate_form all (suc j)))
         ∙ zeros (coordinate_label (suc j)) (coordinate_is_label (length all) 1 n (suc j) (omega arith) (omega arith))
 
--- P of all vectors of n entries, the entries one after the other
-abbrev pub OfEntries : ℕ → (Vector → Type 0) → Type 0
-OfEntries zero P = P []
-OfEntries (suc n) P = (a : ℤ) → OfEntries n (λ y. P (a ∷ y))
-
-pub each_vector : (n : ℕ) (P : Vector → Type 0) → OfEntries n P → (y : Vector) → length y ≡ n → P y
-each_vector zero P h [] w = h
-each_vector zero P h (a ∷ y) w = absurd (omega arith)
-each_vector (suc n) P h [] w = absurd (omega arith)
-each_vector (suc n) P h (a ∷ y) w = each_vector n (λ y. P (a ∷ y)) (h a) y (omega arith)
-
 -- ---- tables
 -- the number of a line at k, where its numbers stand at these labels
 abbrev pub number_at : ℕ → List ℕ → List ℤ → ℤ
