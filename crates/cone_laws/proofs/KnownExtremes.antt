@@ -20,6 +20,13 @@ kept x = omega (arith, ints)
 pub gone : (x y : ℤ) → x ≡ pos 0 → pos 1 *ℤ x ≡ y *ℤ pos 0
 gone x y e = omega (arith, ints)
 
+-- a form that reads one coordinate is 0
+second : (a b c : ℤ) → pos 0 *ℤ a +ℤ (pos 1 *ℤ b +ℤ (pos 0 *ℤ c +ℤ pos 0)) ≡ pos 0 → b ≡ pos 0
+second a b c e = omega (arith, ints)
+
+third : (a b c : ℤ) → pos 0 *ℤ a +ℤ (pos 0 *ℤ b +ℤ (pos 1 *ℤ c +ℤ pos 0)) ≡ pos 0 → c ≡ pos 0
+third a b c e = omega (arith, ints)
+
 -- ---- the unit square
 -- (0, 0) is a vertex: along what is tight there, all is a multiple of it
 pub corner_is_extreme : IsExtreme square corner
@@ -32,12 +39,6 @@ corner_is_extreme = record {
   shown = tt;
 }
   where
-    second : (a b c : ℤ) → pos 0 *ℤ a +ℤ (pos 1 *ℤ b +ℤ (pos 0 *ℤ c +ℤ pos 0)) ≡ pos 0 → b ≡ pos 0
-    second a b c e = omega (arith, ints)
-
-    third : (a b c : ℤ) → pos 0 *ℤ a +ℤ (pos 0 *ℤ b +ℤ (pos 1 *ℤ c +ℤ pos 0)) ≡ pos 0 → c ≡ pos 0
-    third a b c e = omega (arith, ints)
-
     alone : (a b c : ℤ) → IsOnFace square corner (a ∷ b ∷ c ∷ []) → IsMultipleOf corner (a ∷ b ∷ c ∷ [])
     alone a b c f =
         let p = kept a in
@@ -93,9 +94,6 @@ axis_is_extreme = record {
     first : (a b c : ℤ) → pos 1 *ℤ a +ℤ (pos 0 *ℤ b +ℤ (pos 0 *ℤ c +ℤ pos 0)) ≡ pos 0 → a ≡ pos 0
     first a b c e = omega (arith, ints)
 
-    third : (a b c : ℤ) → pos 0 *ℤ a +ℤ (pos 0 *ℤ b +ℤ (pos 1 *ℤ c +ℤ pos 0)) ≡ pos 0 → c ≡ pos 0
-    third a b c e = omega (arith, ints)
-
     alone : (a b c : ℤ) → IsOnFace quadrant axis (a ∷ b ∷ c ∷ []) → IsMultipleOf axis (a ∷ b ∷ c ∷ [])
     alone a b c f =
         let p = gone a b (first a b c (f.tight 2 (row_of []) (omega arith) refl)) in
@@ -142,9 +140,6 @@ foot_is_extreme = record {
   shown = tt;
 }
   where
-    second : (a b c : ℤ) → pos 0 *ℤ a +ℤ (pos 1 *ℤ b +ℤ (pos 0 *ℤ c +ℤ pos 0)) ≡ pos 0 → b ≡ pos 0
-    second a b c e = omega (arith, ints)
-
     alone : (a b c : ℤ) → IsOnFace strip corner (a ∷ b ∷ c ∷ []) → IsMultipleOf corner (a ∷ b ∷ c ∷ [])
     alone a b c f =
         let p = kept a in

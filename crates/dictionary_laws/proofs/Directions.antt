@@ -2,7 +2,7 @@
 use Rattle.std.proofs.Common.{◌≡◌, ℕ, List, [], ◌∷◌, ℤ, pos, ◌+ℤ◌, ◌*ℤ◌, neg_ℤ, ap, ◌∙◌, arith}
 use Rattle.std.specs.List.{Contains}
 use Rattle.poly_num.specs.Vectors.{Vector, ◌·◌, scale, IsZero}
-use Rattle.poly_num.proofs.Ring.{lin, mul_zero, zero_mul}
+use Rattle.poly_num.proofs.Ring.{lin, mul_zero, zero_mul, one_mul}
 use Rattle.poly_num.proofs.VectorLemmas.{dot-zero, length-scale}
 use Rattle.poly_model.specs.Independence.{Vanish}
 use Rattle.poly_model.specs.Spaces.{Space, IsInside, IsDirection}
@@ -68,11 +68,8 @@ module _ (space : Space) where
   dot-spread g (k ∷ ks) c d base =
       let h = dot-spread g ks c d base in
       let e = dot-combination g (c k) (d k) (pos 1) (spread ks c d base) in
-      let f = one_times (g · spread ks c d base) in
+      let f = one_mul (g · spread ks c d base) in
       omega (arith, lin)
-    where
-      one_times : (x : ℤ) → pos 1 *ℤ x ≡ x
-      one_times x = omega (arith, Rattle.std.proofs.lemmas.Int.ints)
 
   pub inside_spread : (ks : List ℕ) (c : ℕ → ℤ) (d : ℕ → Vector) (base : Vector) →
       ((k : ℕ) → Contains ks k → IsInside space (d k)) → IsInside space base →

@@ -4,7 +4,7 @@
 use Rattle.dictionary_laws.proofs.PhasePoints.{phase_points}
 use Rattle.std.proofs.Common.{◌≡◌, ℕ, ◌<◌, ◌^◌, ◌-◌, List, [], ◌∷◌, ℤ, pos, ◌+ℤ◌, ◌*ℤ◌, refl, ap, subst, inl, arith}
 use Rattle.std.proofs.Common.{lit<}
-use Rattle.std.specs.Prelude.{◌≤ℤ◌, ◌<ℤ◌, ◌==◌, if◌then◌else◌, unsigned_abs}
+use Rattle.std.specs.Prelude.{◌==◌, if◌then◌else◌, unsigned_abs}
 use Rattle.std.specs.List.{AllByRecursion, Contains}
 use Rattle.std.proofs.lemmas.Int.{ints}
 use Rattle.std.proofs.lemmas.List.Elements.{All-from_recursion}
@@ -21,6 +21,7 @@ use Rattle.poly_model.specs.Overflows.{Passes}
 use Rattle.dictionary_laws.specs.Numbers.{Agree}
 use Rattle.linear_laws.proofs.Members.{Contains-first, Contains-later, Contains-nil}
 use Rattle.linear_laws.proofs.Entries.{by_three}
+use Rattle.linear_laws.proofs.Signs.{at_least_one}
 use Rattle.dictionary_laws.proofs.Members.{by_cases}
 use Rattle.dictionary_laws.proofs.KnownValues.{row, each_label}
 use Rattle.dictionary_laws.proofs.SameLabels.{one_dictionary}
@@ -138,9 +139,6 @@ module _ (p q : ℕ) where
         (λ a b c l w. only_zero a b c l w.0 w.1.0)
         z (IsInside.width d.inside) d.level v;
   }
-
-  at_least_one : (d : ℤ) → pos 0 <ℤ d → pos 1 ≤ℤ d
-  at_least_one d h = omega (arith, ints)
 
   dictionary : IsDictionary (space p q) key (table p q)
   dictionary = record

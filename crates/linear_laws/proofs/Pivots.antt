@@ -10,7 +10,7 @@ use Rattle.poly_num.proofs.Order.{mul_nonzero}
 use Rattle.poly_num.proofs.VectorLemmas.{dot-scale}
 use Rattle.linear_laws.specs.Frames.{moved, pivoted, Column, rows_of, expand, AreApart, AreDual, IsVectorOn, IsFrameOn, RowsVanish}
 use Rattle.linear_laws.proofs.Columns.{rows_vanish_at}
-use Rattle.linear_laws.proofs.Combinations.{dot-combination, inside_combination, inside_scale}
+use Rattle.linear_laws.proofs.Combinations.{dot-combination, inside_combination, inside_scale, cancels}
 
 pub rows-moved : (g : Vector) (e : ℤ) (z : Vector) (cs : List Column) → rows_of (map (moved g e z) cs) ≡ rows_of cs
 rows-moved g e z [] = refl
@@ -49,14 +49,11 @@ apart_from_new : (D : ℤ) (g : Vector) (c : Column) (cs : List Column) → AllB
 apart_from_new D g c [] x = tt
 apart_from_new D g c (b ∷ cs) x = (
   (
-    dot-moved g (g · c.dual) c.dual g b ∙ gone (g · c.dual) (g · b.dual),
+    dot-moved g (g · c.dual) c.dual g b ∙ cancels (g · c.dual) (g · b.dual),
     dot-scale b.row D c.dual ∙ ap (λ t. D *ℤ t) x.0.1 ∙ mul_zero D,
   ),
   apart_from_new D g c cs x.1,
 )
-  where
-    gone : (e b : ℤ) → e *ℤ b +ℤ neg_ℤ b *ℤ e ≡ pos 0
-    gone e b = simp multiply_out (omega (arith, lin))
 
 moved_apart : (g : Vector) (e : ℤ) (z : Vector) (b : Column) (cs : List Column) → RowsVanish cs z →
     b.row · z ≡ pos 0 → AllByRecursion (AreApart b) cs →

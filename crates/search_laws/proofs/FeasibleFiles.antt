@@ -16,6 +16,7 @@ use Rattle.poly_model.specs.Dictionaries.{Table}
 use Rattle.poly_model.specs.Tree.{IsRowDictionary, IsFeasibleRoot}
 use Rattle.poly_model.specs.Labels.{IsRow}
 use Rattle.linear_laws.proofs.Entries.{coordinate_reads, zeros, length-zeros, IsZero-zeros}
+use Rattle.linear_laws.proofs.Signs.{nonnegative_positive}
 use Rattle.cone_laws.specs.FeasibilityLaws.{HasVertex}
 use Rattle.cone_laws.proofs.FeasibleLemmas.{feasible_file_by_vertex}
 use Rattle.dictionary_laws.proofs.Directions.{times_zero, vanish_zero}
@@ -64,13 +65,10 @@ module _ (p : Polyhedron) (free : List ℕ) (kind : p.kind ≡ H) (f : AreFreeCo
         in_cone = record {
           width = m.inside.width;
           meets = meets_all p kind free f file_few m.vector m.inside
-              (at_least ((main_in H p free).infinity · m.vector) m.finite) m.rows;
+              (nonnegative_positive ((main_in H p free).infinity · m.vector) m.finite) m.rows;
         };
         positive = subst (λ (x : ℤ). pos 0 <ℤ x) (coordinate_reads 0 m.vector) m.finite;
       })
-    where
-      at_least : (x : ℤ) → pos 0 <ℤ x → pos 0 ≤ℤ x
-      at_least x h = omega (arith, ints)
 
   pub feasible_files : IsFeasible (cone_of p) ↔ MeetsRows (main_space p free)
   feasible_files = (

@@ -12,6 +12,7 @@ use Rattle.poly_model.specs.Tree.{IsRowOutside, Leaves, exchanged_key}
 use Rattle.poly_model.specs.PhaseOne.{lowering_root, IsFirstWorst}
 use Rattle.poly_model.specs.Lowering.{IsLoweringStep}
 use Rattle.linear_laws.proofs.Members.{Contains-first, Contains-later, all_at}
+use Rattle.linear_laws.proofs.Signs.{not_both}
 use Rattle.dictionary_laws.specs.Keys.{AreDistinct}
 use Rattle.dictionary_laws.proofs.KeyExchange.{ascending_distinct}
 use Rattle.dictionary_laws.proofs.PhasePoints.{point_of_lifted}
@@ -144,6 +145,3 @@ module _ (third : Vector) where
     };
     neighbour = record { column = (0, omega arith, refl); r = r; leaves = leaves; exchange = refl };
   }
-    where
-      not_both : (a : ℤ) → a <ℤ pos 0 → pos 0 ≤ℤ a → ⊥
-      not_both a h k = omega (arith, ints)

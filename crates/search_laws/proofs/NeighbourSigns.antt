@@ -9,11 +9,11 @@ use Rattle.poly_model.specs.Dictionaries.{Table}
 use Rattle.poly_model.specs.LexOrder.{IsPositive}
 use Rattle.poly_model.specs.Tree.{IsRowDictionary, MayEnter}
 use Rattle.linear_laws.proofs.Members.{Contains-first, Contains-later}
+use Rattle.linear_laws.proofs.Signs.{minus_positive}
 use Rattle.dictionary_laws.specs.Numbers.{IsOwnRow}
 use Rattle.dictionary_laws.proofs.Directions.{times_zero, zero_times}
 use Rattle.dictionary_laws.proofs.Values.{own_row}
 use Rattle.search_laws.specs.ChildTest.{neighbour_entry, downward, WouldEnter, AreNeighbourEntries}
-use Rattle.tree_laws.proofs.Neighbours.{minus_positive}
 use Rattle.search_laws.proofs.NeighbourColumns.{positive_at_members}
 
 -- ---- sums of two products, of which one is 0

@@ -14,6 +14,7 @@ use Rattle.poly_model.specs.LexOrder.{rows_in}
 use Rattle.poly_model.specs.Tree.{IsRowDictionary, IsRowOutside, IsFeasibleRoot, exchanged_key}
 use Rattle.linear_laws.proofs.Members.{Contains-first, Contains-later}
 use Rattle.linear_laws.proofs.Nearest.{both_nonnegative}
+use Rattle.linear_laws.proofs.Signs.{zero_or, nonnegative_zero}
 use Rattle.dictionary_laws.specs.Keys.{Exchanges}
 use Rattle.dictionary_laws.proofs.Members.{contains_cases, sum_single}
 use Rattle.dictionary_laws.proofs.Directions.{times_zero, zero_times}
@@ -27,7 +28,6 @@ use Rattle.tree_laws.proofs.OrderLemmas.{row_only}
 use Rattle.tree_laws.proofs.ExchangedKeys.{exchanges}
 use Rattle.tree_laws.proofs.Exchange.{exchanged_dictionary}
 use Rattle.tree_laws.proofs.PointValues.{IsKeyPoint, row_at_direction, nonnegative_value}
-use Rattle.tree_laws.proofs.SettledRows.{zero_or}
 use Rattle.search_laws.proofs.LiftedForms.{first, along_t, along_t_direction, t_is_not_zero, inside_front, same_infinity, value_of_t, value_without}
 use Rattle.search_laws.proofs.StartWithT.{not_t}
 use Rattle.search_laws.proofs.KeyPoints.{key_point, root_from_point}
@@ -52,16 +52,13 @@ module _ (space : Space) (start key : List ℕ) (t : Table) where
     row_value : (k : ℕ) → Contains key k → pos 0 ≤ℤ ((first space start).form k · lifted_vector)
     row_value k c =
         ⊎_elim
-        (λ (e : k ≡ 0). at_least ((first space start).form k · lifted_vector)
+        (λ (e : k ≡ 0). nonnegative_zero ((first space start).form k · lifted_vector)
         (ap (λ j. (first space start).form j · lifted_vector) e ∙ value_of_t space start (pos 0) m.vector))
         (λ (l : Contains (rows_in space.labels) k).
         subst (λ (x : ℤ). pos 0 ≤ℤ x)
         (sym (value_without space start k (not_t space start none k (row_only space k l).0) (pos 0) m.vector refl))
         (m.rows k l))
         (contains_cases 0 (rows_in space.labels) k (key_row (first space start) key t d k c))
-      where
-        at_least : (x : ℤ) → x ≡ pos 0 → pos 0 ≤ℤ x
-        at_least x e = omega (arith, lin)
 
     pub none_meets_rows : ⊥
     none_meets_rows =

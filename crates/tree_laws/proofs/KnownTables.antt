@@ -9,7 +9,7 @@ use Rattle.std.proofs.lemmas.List.Elements.{All-from_recursion}
 use Rattle.poly_num.specs.Vectors.{Vector, ◌·◌, scale, sum_of, IsZero}
 use Rattle.poly_num.proofs.VectorLemmas.{dot-nil, sum-dot, scale-dot}
 use Rattle.poly_num.proofs.Order.{zero_factor, positive_nonzero}
-use Rattle.poly_num.proofs.Ring.{expand, lin, mul_one}
+use Rattle.poly_num.proofs.Ring.{expand, lin, mul_one, add_zero}
 use Rattle.poly_model.specs.Independence.{Vanish}
 use Rattle.poly_model.specs.Keys.{IsAscending}
 use Rattle.poly_model.specs.Spaces.{Space, IsInside, HasPoints, prepare_space}
@@ -121,10 +121,7 @@ module _ (space : Space) (key : List ℕ) (t : Table) where
       from_line ks i · y ≡ t.constant i *ℤ (space.infinity · y) +ℤ sum_over ks (λ k. t.entry i k *ℤ (space.form k · y))
   from_line-dot [] i y w =
       times-dot (t.constant i) space.infinity y w
-      ∙ sym (plus_nothing (t.constant i *ℤ (space.infinity · y)))
-    where
-      plus_nothing : (a : ℤ) → a +ℤ pos 0 ≡ a
-      plus_nothing a = omega (arith, ints)
+      ∙ sym (add_zero (t.constant i *ℤ (space.infinity · y)))
   from_line-dot (k ∷ ks) i y w =
       sum-dot (times (t.entry i k) (space.form k)) (from_line ks i) y
       ∙ ap (λ z. z +ℤ from_line ks i · y) (times-dot (t.entry i k) (space.form k) y w)

@@ -13,6 +13,7 @@ use Rattle.poly_model.specs.Tree.{IsRowDictionary, IsFeasibleRoot, IsAtPoint, Is
 use Rattle.linear_laws.proofs.Combinations.{combination, dot-combination, cancels}
 use Rattle.linear_laws.proofs.Nearest.{nonnegative_product, nonnegative_factor}
 use Rattle.linear_laws.proofs.Proportions.{multiples_from_values}
+use Rattle.linear_laws.proofs.Signs.{nonnegative_positive}
 use Rattle.dictionary_laws.proofs.Members.{all_from, sum_zero}
 use Rattle.dictionary_laws.proofs.Directions.{inside_combination, times_zero, zero_times, zero_at}
 use Rattle.dictionary_laws.proofs.Values.{terms, level_value, no_sum}
@@ -121,7 +122,7 @@ pub point_is_extreme : (space : Space) (key : List ℕ) (t : Table) (y : Vector)
 point_is_extreme space key t y f at = record {
   primitive = at.primitive;
   inside = at.inside;
-  finite = at_least (space.infinity · y) at.finite;
+  finite = nonnegative_positive (space.infinity · y) at.finite;
   rows = λ i l. nonnegative_value space key t f.dictionary y (is_key_point space key y at) i l (f.constants i l);
   alone = λ z inside _ h. (
     space.infinity · y,
@@ -131,6 +132,3 @@ point_is_extreme space key t y f at = record {
         (λ c m. h c (key_row space key t f.dictionary c m) (at.nothing c m)),
   );
 }
-  where
-    at_least : (x : ℤ) → pos 0 <ℤ x → pos 0 ≤ℤ x
-    at_least x h = omega (arith, lin)
