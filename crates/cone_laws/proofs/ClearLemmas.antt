@@ -5,14 +5,14 @@ use Rattle.std.specs.Prelude.{◌<ℤ◌}
 use Rattle.std.proofs.lemmas.Int.{ints}
 use Rattle.std.specs.List.{Contains}
 use Rattle.poly_num.specs.Vectors.{Vector, ◌·◌}
-use Rattle.poly_num.proofs.Ring.{expand, lin, mul_assoc, mul_zero, one_mul}
+use Rattle.poly_num.proofs.Ring.{lin, mul_assoc, mul_zero, one_mul}
 use Rattle.poly_num.proofs.Order.{positive_product}
 use Rattle.poly_model.specs.Keys.{IsAscending}
 use Rattle.poly_model.specs.Cones.{at}
 use Rattle.poly_model.specs.Independence.{Follows}
 use Rattle.linear_laws.specs.FreeColumns.{IsFreeColumn, IsLineOf}
 use Rattle.linear_laws.proofs.Members.{Contains-nil, Contains-first, Contains-later, Contains-cons_cases, all_at}
-use Rattle.linear_laws.proofs.Combinations.{combination, dot-combination, length-combination, zero_combination}
+use Rattle.linear_laws.proofs.Combinations.{combination, dot-combination, length-combination, zero_combination, cancels}
 use Rattle.linear_laws.proofs.Entries.{at-combination}
 use Rattle.linear_laws.proofs.LineLemmas.{some_line}
 
@@ -30,9 +30,6 @@ value_kept e x p y q l f g =
     let a = ap (λ (t : ℤ). e *ℤ t) f ∙ sym (mul_assoc e p y) in
     let b = ap (λ (t : ℤ). q *ℤ t) g ∙ mul_zero q in
     omega (arith, lin)
-
-cancels : (a b : ℤ) → a *ℤ b +ℤ neg_ℤ b *ℤ a ≡ pos 0
-cancels a b = simp expand (omega (arith, lin))
 
 module _ (n : ℕ) (rows : List Vector) (y : Vector) where
   nothing_to_clear : length y ≡ n → Cleared n rows [] y

@@ -36,7 +36,7 @@ module _ (sys : System) where
     combines = rows_from_forms (λ g. f.factor *ℤ at j g ≡ f.weights · g) sys f.combines;
   }
 
-  columns_in_system : (columns : List ℕ) → rows.AreFreeColumns sys.n (forms_of sys) columns →
+  columns_in_system : (columns : List ℕ) → rows.AreFreeColumnsOf sys.n (forms_of sys) columns →
       AreFreeColumns sys columns
   columns_in_system columns h = record {
     ascending = h.ascending;
@@ -44,7 +44,7 @@ module _ (sys : System) where
   }
 
   columns_in_rows : (columns : List ℕ) → AreFreeColumns sys columns →
-      rows.AreFreeColumns sys.n (forms_of sys) columns
+      rows.AreFreeColumnsOf sys.n (forms_of sys) columns
   columns_in_rows columns h = record {
     ascending = h.ascending;
     exactly = λ j. (λ f. (h.exactly j).0 (free_in_system j f), λ m. free_in_rows j ((h.exactly j).1 m));

@@ -2,7 +2,7 @@
 use Rattle.std.proofs.Common.{◌≡◌, ◌≢◌, ℕ, zero, suc, pos, negsuc, ◌*ℤ◌, List, [], ◌∷◌, length, take, arith, refl, sym, ap, subst, ◌∙◌}
 use Rattle.std.specs.Prelude.{◌<◌}
 use Rattle.std.proofs.lemmas.Int.{ints}
-use Rattle.std.specs.List.{slice_index_or}
+use Rattle.std.specs.List.{AllByRecursion, slice_index_or}
 use Rattle.std.proofs.lemmas.List.Elements.{All-from_recursion}
 use Rattle.poly_num.specs.Vectors.{Vector, ◌·◌, IsZero}
 use Rattle.poly_num.specs.Divisors.{gcd_in, gcd_of}
@@ -35,18 +35,22 @@ one_is_not_zero : pos 1 ≢ pos 0
 one_is_not_zero e = cc
 
 -- ---- free columns
+-- a column that is this combination of the earlier ones
+combined_is_free : (sys : System) (j : ℕ) (weights : Vector) → j < sys.n → length weights ≡ j →
+    AllByRecursion (λ row. pos 1 *ℤ at j row.entries ≡ weights · row.entries) sys.rows → IsFree sys j
+combined_is_free sys j weights within earlier combines = record {
+  within = within;
+  factor = pos 1;
+  weights = weights;
+  nonzero = one_is_not_zero;
+  earlier = earlier;
+  combines = All-from_recursion (λ row. pos 1 *ℤ at j row.entries ≡ weights · row.entries) sys.rows combines;
+}
+
 -- of x + y >= 0 and 2 x + 2 y >= 0 the column of y is free: it is once the column of x
 pub second_of_equal_columns_is_free : IsFree half_plane 2
-second_of_equal_columns_is_free = record {
-  within = omega arith;
-  factor = pos 1;
-  weights = pos 0 ∷ pos 1 ∷ [];
-  nonzero = one_is_not_zero;
-  earlier = refl;
-  combines =
-      All-from_recursion (λ row. pos 1 *ℤ at 2 row.entries ≡ (pos 0 ∷ pos 1 ∷ []) · row.entries) half_plane.rows
-      (refl, (refl, (refl, tt)));
-}
+second_of_equal_columns_is_free =
+    combined_is_free half_plane 2 (pos 0 ∷ pos 1 ∷ []) (omega arith) refl (refl, (refl, (refl, tt)))
 
 pub first_of_equal_columns_is_not_free : IsFree half_plane 1 → ⊥
 first_of_equal_columns_is_not_free = begins_not_free half_plane 1 0 (omega arith) (refl, tt) one_is_not_zero
@@ -75,16 +79,7 @@ zero_at_free_of_quadrant y j f = absurd (quadrant_has_no_free_column j f)
 
 -- ---- the strip 0 <= x <= 1
 pub height_is_free : IsFree strip 2
-height_is_free = record {
-  within = omega arith;
-  factor = pos 1;
-  weights = pos 0 ∷ pos 0 ∷ [];
-  nonzero = one_is_not_zero;
-  earlier = refl;
-  combines =
-      All-from_recursion (λ row. pos 1 *ℤ at 2 row.entries ≡ (pos 0 ∷ pos 0 ∷ []) · row.entries) strip.rows
-      (refl, (refl, (refl, tt)));
-}
+height_is_free = combined_is_free strip 2 (pos 0 ∷ pos 0 ∷ []) (omega arith) refl (refl, (refl, (refl, tt)))
 
 pub only_height_is_free : (j : ℕ) → IsFree strip j → j ≡ 2
 only_height_is_free zero f = absurd (begins_not_free strip 0 2 (omega arith) tt one_is_not_zero f)
@@ -168,25 +163,10 @@ square_has_no_line = record {
 
 -- ---- the plane, which has two lines
 first_of_plane_is_free : IsFree plane 1
-first_of_plane_is_free = record {
-  within = omega arith;
-  factor = pos 1;
-  weights = pos 0 ∷ [];
-  nonzero = one_is_not_zero;
-  earlier = refl;
-  combines = All-from_recursion (λ row. pos 1 *ℤ at 1 row.entries ≡ (pos 0 ∷ []) · row.entries) plane.rows (refl, tt);
-}
+first_of_plane_is_free = combined_is_free plane 1 (pos 0 ∷ []) (omega arith) refl (refl, tt)
 
 second_of_plane_is_free : IsFree plane 2
-second_of_plane_is_free = record {
-  within = omega arith;
-  factor = pos 1;
-  weights = pos 0 ∷ pos 0 ∷ [];
-  nonzero = one_is_not_zero;
-  earlier = refl;
-  combines =
-      All-from_recursion (λ row. pos 1 *ℤ at 2 row.entries ≡ (pos 0 ∷ pos 0 ∷ []) · row.entries) plane.rows (refl, tt);
-}
+second_of_plane_is_free = combined_is_free plane 2 (pos 0 ∷ pos 0 ∷ []) (omega arith) refl (refl, tt)
 
 upward_is_the_second_line : IsLine plane 2 upward
 unfolding gcd_in gcd_of

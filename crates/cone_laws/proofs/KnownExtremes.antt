@@ -1,12 +1,13 @@
 -- Extreme vectors of H files that are known from a drawing: a wrong definition does not check.
-use Rattle.std.proofs.Common.{◌≡◌, ◌≢◌, true, ℤ, pos, ◌*ℤ◌, ◌+ℤ◌, [], ◌∷◌, length, arith, refl, ap}
+use Rattle.std.proofs.Common.{◌≡◌, ◌≢◌, true, ℤ, pos, ◌*ℤ◌, ◌+ℤ◌, [], ◌∷◌, arith, refl, ap}
 use Rattle.std.proofs.lemmas.Int.{ints}
 use Rattle.std.proofs.lemmas.List.Elements.{All-from_recursion}
-use Rattle.poly_num.specs.Vectors.{Vector, IsMultipleOf}
+use Rattle.poly_num.specs.Vectors.{IsMultipleOf}
 use Rattle.poly_num.specs.Divisors.{gcd_in, gcd_of}
 use Rattle.poly_num.proofs.PrimitiveLemmas.{primitive_from_gcd, gcd_from_primitive}
 use Rattle.poly_model.specs.Cones.{at, Meets, IsTight}
 use Rattle.poly_model.specs.Extreme.{IsOnFace, IsExtreme}
+use Rattle.linear_laws.proofs.Entries.{by_three}
 use Rattle.cone_laws.proofs.KnownValues.{row_of, square, quadrant, strip, corner, centre, axis, diagonal, corner_in_square}
 use Rattle.cone_laws.proofs.KnownColumns.{height_is_free, only_height_is_free, square_has_no_free_column, quadrant_has_no_free_column}
 
@@ -19,13 +20,12 @@ kept x = omega (arith, ints)
 pub gone : (x y : ℤ) → x ≡ pos 0 → pos 1 *ℤ x ≡ y *ℤ pos 0
 gone x y e = omega (arith, ints)
 
--- what holds of each (a, b, c) holds of each vector of width 3
-pub by_three : (P : Vector → Type 0) → ((a b c : ℤ) → P (a ∷ b ∷ c ∷ [])) → (z : Vector) → length z ≡ 3 → P z
-by_three P h [] w = absurd (omega arith)
-by_three P h (a ∷ []) w = absurd (omega arith)
-by_three P h (a ∷ b ∷ []) w = absurd (omega arith)
-by_three P h (a ∷ b ∷ c ∷ []) w = h a b c
-by_three P h (a ∷ b ∷ c ∷ x ∷ z) w = absurd (omega arith)
+-- a form that reads one coordinate is 0
+second : (a b c : ℤ) → pos 0 *ℤ a +ℤ (pos 1 *ℤ b +ℤ (pos 0 *ℤ c +ℤ pos 0)) ≡ pos 0 → b ≡ pos 0
+second a b c e = omega (arith, ints)
+
+third : (a b c : ℤ) → pos 0 *ℤ a +ℤ (pos 0 *ℤ b +ℤ (pos 1 *ℤ c +ℤ pos 0)) ≡ pos 0 → c ≡ pos 0
+third a b c e = omega (arith, ints)
 
 -- ---- the unit square
 -- (0, 0) is a vertex: along what is tight there, all is a multiple of it
@@ -39,12 +39,6 @@ corner_is_extreme = record {
   shown = tt;
 }
   where
-    second : (a b c : ℤ) → pos 0 *ℤ a +ℤ (pos 1 *ℤ b +ℤ (pos 0 *ℤ c +ℤ pos 0)) ≡ pos 0 → b ≡ pos 0
-    second a b c e = omega (arith, ints)
-
-    third : (a b c : ℤ) → pos 0 *ℤ a +ℤ (pos 0 *ℤ b +ℤ (pos 1 *ℤ c +ℤ pos 0)) ≡ pos 0 → c ≡ pos 0
-    third a b c e = omega (arith, ints)
-
     alone : (a b c : ℤ) → IsOnFace square corner (a ∷ b ∷ c ∷ []) → IsMultipleOf corner (a ∷ b ∷ c ∷ [])
     alone a b c f =
         let p = kept a in
@@ -100,9 +94,6 @@ axis_is_extreme = record {
     first : (a b c : ℤ) → pos 1 *ℤ a +ℤ (pos 0 *ℤ b +ℤ (pos 0 *ℤ c +ℤ pos 0)) ≡ pos 0 → a ≡ pos 0
     first a b c e = omega (arith, ints)
 
-    third : (a b c : ℤ) → pos 0 *ℤ a +ℤ (pos 0 *ℤ b +ℤ (pos 1 *ℤ c +ℤ pos 0)) ≡ pos 0 → c ≡ pos 0
-    third a b c e = omega (arith, ints)
-
     alone : (a b c : ℤ) → IsOnFace quadrant axis (a ∷ b ∷ c ∷ []) → IsMultipleOf axis (a ∷ b ∷ c ∷ [])
     alone a b c f =
         let p = gone a b (first a b c (f.tight 2 (row_of []) (omega arith) refl)) in
@@ -149,9 +140,6 @@ foot_is_extreme = record {
   shown = tt;
 }
   where
-    second : (a b c : ℤ) → pos 0 *ℤ a +ℤ (pos 1 *ℤ b +ℤ (pos 0 *ℤ c +ℤ pos 0)) ≡ pos 0 → b ≡ pos 0
-    second a b c e = omega (arith, ints)
-
     alone : (a b c : ℤ) → IsOnFace strip corner (a ∷ b ∷ c ∷ []) → IsMultipleOf corner (a ∷ b ∷ c ∷ [])
     alone a b c f =
         let p = kept a in

@@ -133,16 +133,20 @@ pub corner_in_square : IsInCone square corner
 corner_in_square = record {
   width = refl;
   meets =
-      All-from_recursion (Meets corner) square.rows
-      (omega (arith, ints), (omega (arith, ints), (omega (arith, ints), (omega (arith, ints), (omega (arith, ints), tt)))));
+      All-from_recursion (Meets corner) square.rows (
+        omega (arith, ints),
+        (omega (arith, ints), (omega (arith, ints), (omega (arith, ints), (omega (arith, ints), tt)))),
+      );
 }
 
 centre_in_square : IsInCone square centre
 centre_in_square = record {
   width = refl;
   meets =
-      All-from_recursion (Meets centre) square.rows
-      (omega (arith, ints), (omega (arith, ints), (omega (arith, ints), (omega (arith, ints), (omega (arith, ints), tt)))));
+      All-from_recursion (Meets centre) square.rows (
+        omega (arith, ints),
+        (omega (arith, ints), (omega (arith, ints), (omega (arith, ints), (omega (arith, ints), tt)))),
+      );
 }
 
 -- (2, 0) is not

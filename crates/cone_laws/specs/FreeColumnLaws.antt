@@ -4,5 +4,5 @@ use Rattle.poly_model.specs.FreeColumns.{AreFreeColumns}
 use Rattle.cone_laws.specs.Unique.{ExactlyOne}
 
 -- exactly one ascending list has the free columns of a system as its members
-abbrev pub FreeColumnsAreOneList : Type 0
-FreeColumnsAreOneList = (sys : System) → ExactlyOne (AreFreeColumns sys)
+abbrev pub SystemHasFreeColumns : Type 0
+SystemHasFreeColumns = (sys : System) → ExactlyOne (AreFreeColumns sys)

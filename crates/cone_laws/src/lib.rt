@@ -5,13 +5,13 @@
 
 ghost use Rattle.cone_laws.specs.ExtremeLaws.{ExtremeByRank, ExtremeIsCorner, ExtremeIsOneByTightRows};
 ghost use Rattle.cone_laws.specs.FeasibilityLaws.{FeasibleFileHasExtreme, FeasibleHasExtreme};
-ghost use Rattle.cone_laws.specs.FreeColumnLaws.{FreeColumnsAreOneList};
+ghost use Rattle.cone_laws.specs.FreeColumnLaws.{SystemHasFreeColumns};
 ghost use Rattle.cone_laws.specs.LineLaws.{EachFreeColumnHasOneLine, LinesAreOneList};
 ghost use Rattle.cone_laws.specs.LineLaws.{OnlyLinesVanish, OnlyZeroHasItsOpposite};
 
 /// The free columns of a system are exactly one list.
 pub fn free_columns()
-    ensures { FreeColumnsAreOneList }
+    ensures { SystemHasFreeColumns }
 {}
 
 /// Each free column has exactly one line, so that a system has exactly one list of lines.

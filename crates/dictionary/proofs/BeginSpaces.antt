@@ -15,9 +15,9 @@ use Rattle.poly_model.specs.Cones.{at, coordinate}
 use Rattle.poly_model.specs.Spaces.{Space, IsSpaceOf, label_form, with_constants, without_constants, cut_space, in_front}
 use Rattle.dictionary_laws.specs.Coordinates.{coordinate_key, first_coordinate, HasCoordinates}
 use Rattle.dictionary_laws.proofs.CoordinateSpaces.{phase_coordinates}
+use Rattle.dictionary_laws.proofs.MainRows.{row_in_cone}
 use Rattle.dictionary.specs.Views.{Dictionary, IsDictionaryIn, IsWhole}
 use Rattle.dictionary.specs.New.{first_label, unit_row, has_constants, row_count, HasWidths, IsCoordinateDictionary}
-use Rattle.dictionary.proofs.ConeRows.{row_in_cone}
 use Rattle.dictionary.proofs.Beginnings.{first, first_whole, cells_of, first_is_dictionary}
 
 -- the form of a row's label is the row

@@ -19,7 +19,7 @@ use Rattle.dictionary_laws.specs.Numbers.{Agree}
 use Rattle.dictionary_laws.specs.Coordinates.{coordinate_key, HasCoordinates, coordinate_table}
 use Rattle.dictionary_laws.proofs.CoordinateDictionary.{coordinate_dictionary, form_at}
 use Rattle.dictionary_laws.proofs.CoordinateSpaces.{coordinate_keys}
-use Rattle.dictionary_laws.proofs.Filters.{range_only}
+use Rattle.dictionary_laws.proofs.Filters.{range_only, ascending_range}
 use Rattle.dictionary_laws.proofs.Members.{contains_cases, all_from}
 use Rattle.dictionary_laws.proofs.SameLabels.{agreeing_dictionary}
 use Rattle.dictionary.specs.Views.{Dictionary, number, table_of, IsDictionaryIn, IsUnitRow, IsWhole}
@@ -28,14 +28,6 @@ use Rattle.dictionary.proofs.PlaceLemmas.{place_within}
 use Rattle.dictionary.proofs.FirstNumbers.{first_cells, first_labels, first_length, row_number, unit_number}
 
 -- ---- labels
-pub ascending_range : (a n : ℕ) → IsAscending (range_with_len a n)
-ascending_range a zero = tt
-ascending_range a (suc n) = (
-  all_from (λ k. a < k) (range_with_len (a + 1) n)
-      (λ k c. let l = (range_only (a + 1) n k c).0 in omega arith),
-  ascending_range (a + 1) n,
-)
-
 members : (ks ls : List ℕ) (k : ℕ) → Contains (ks ++ ls) k → Contains ks k ⊎ Contains ls k
 members [] ls k c = inr c
 members (x ∷ ks) ls k c =

@@ -4,12 +4,12 @@ use Rattle.std.specs.List.{Contains, filter}
 use Rattle.std.proofs.lemmas.List.{length-map, get_or-map}
 use Rattle.std.proofs.lemmas.List.Elements.{Contains-get_or}
 use Rattle.dictionary_laws.specs.Keys.{place_in}
-use Rattle.dictionary_laws.proofs.Filters.{filter_only, filter_kept, distinct_filter}
+use Rattle.dictionary_laws.proofs.Filters.{filter_only, filter_kept, distinct_filter, ascending_filter}
 use Rattle.dictionary.specs.Cells.{cell}
 use Rattle.dictionary.specs.Views.{Dictionary, number, IsUnitRow, IsWhole}
 use Rattle.dictionary.specs.MainPhase.{places_from, kept_row, kept}
 use Rattle.dictionary.proofs.PlaceLemmas.{place_within, place_at, one_at_place}
-use Rattle.dictionary.proofs.KeptPlaces.{length_places, place_kept, ascending_filter, key_filter, same_filter, length_rows, row_at}
+use Rattle.dictionary.proofs.KeptPlaces.{length_places, place_kept, key_filter, same_filter, length_rows, row_at}
 
 module _ (d : Dictionary) (left stays : ℕ → Bool) where
   abbrev rows : List ℕ

@@ -4,12 +4,12 @@ use Rattle.std.specs.Prelude.{◌==◌}
 use Rattle.std.specs.List.{All, AllByRecursion, Contains, filter, flat_map}
 use Rattle.std.proofs.lemmas.Bool.{eqb-false, ne_eqb, cond_both}
 use Rattle.std.proofs.lemmas.List.{get_or_append_left, get_or-append_right}
-use Rattle.std.proofs.lemmas.List.Elements.{All-filter, All-from_recursion, recursion_from_All}
+use Rattle.std.proofs.lemmas.List.Elements.{All-from_recursion}
 use Rattle.linear_laws.proofs.Members.{Contains-nil}
-use Rattle.poly_model.specs.Keys.{IsAscending, IsKey}
+use Rattle.poly_model.specs.Keys.{IsKey}
 use Rattle.dictionary_laws.specs.Keys.{place_in, HaveSameLabels}
 use Rattle.dictionary_laws.proofs.Members.{contains_other}
-use Rattle.dictionary_laws.proofs.Filters.{filter_only, filter_kept}
+use Rattle.dictionary_laws.proofs.Filters.{filter_only, filter_kept, ascending_filter}
 use Rattle.dictionary.specs.MainPhase.{places_from}
 
 pub length_places : (i : ℕ) (test : ℕ → Bool) (ks : List ℕ) → length (places_from i test ks) ≡ length (filter test ks)
@@ -64,18 +64,6 @@ place_kept i test (x ∷ ks) k z c =
         ne_eqb x k (λ f. let g : true ≡ false = sym passes ∙ ap test (sym f) ∙ e in absurd cc) in
         let later = rest d in
         rw other (omega arith)
-
-pub ascending_filter : (test : ℕ → Bool) (ks : List ℕ) → IsAscending ks → IsAscending (filter test ks)
-ascending_filter test [] h = tt
-ascending_filter test (k ∷ ks) h =
-    let rest = ascending_filter test ks h.1 in
-    cond_both (test k) (k ∷ filter test ks) (filter test ks) IsAscending
-    (λ e. (
-      recursion_from_All (λ j. k < j) (filter test ks)
-          (All-filter test (λ j. k < j) ks (All-from_recursion (λ j. k < j) ks h.0)),
-      rest,
-    ))
-    (λ e. rest)
 
 pub filter_length : (test : ℕ → Bool) (ks : List ℕ) → length (filter test ks) ≤ length ks
 filter_length test [] = omega arith

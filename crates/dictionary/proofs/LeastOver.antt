@@ -12,11 +12,11 @@ use Rattle.poly_num.proofs.Ring.{expand, lin, one_mul, zero_mul}
 use Rattle.poly_num.proofs.Ring as ring
 use Rattle.poly_num.proofs.Order.{positive_product, positive_factor}
 use Rattle.poly_num.proofs.DivisorLemmas.{quotient_times, unsigned_abs-neg}
+use Rattle.dictionary_laws.proofs.Sizes.{size_positive}
 use Rattle.dictionary.specs.declared.exchange.Exchange.{Exchange}
 use Rattle.dictionary.specs.Cells.{cell, pivot_cell, IsExchangedCell, IsExchanged}
 use Rattle.dictionary.specs.WordExchange.{HasUnitRow, IsCommonTo, IsSignOf}
 use Rattle.dictionary.proofs.Reduced.{get_or-zero}
-use Rattle.dictionary.proofs.LeftLemmas.{size_positive}
 use Rattle.dictionary.proofs.WrittenOver.{IsWrittenOver, one_exchanged}
 
 get_or-divides : (d : ℕ) (v : List ℤ) (k : ℕ) → DividesEach d v → d ∣ unsigned_abs (get_or v k (pos 0))

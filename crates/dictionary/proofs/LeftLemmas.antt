@@ -9,6 +9,7 @@ use Rattle.poly_num.specs.Numbers.{IsNum, IsWord}
 use Rattle.poly_num.specs.Divisors.{IsGcdOf}
 use Rattle.poly_num.proofs.Ring.{mul_assoc}
 use Rattle.poly_num.proofs.DivisorLemmas.{quotient_times}
+use Rattle.dictionary_laws.proofs.Sizes.{size_positive}
 use Rattle.dictionary.specs.WordExchange.{IsLeftOf, IsScaled, IsRescaled}
 use Rattle.dictionary.proofs.CommonLemmas.{positive_gcd}
 
@@ -20,11 +21,6 @@ quotient_exact (negsuc h) a lt d = absurd (omega (arith, ints))
 pub at_least : (n m : ℕ) → 0 < m → n ≤ n * m
 at_least n zero lt = absurd (omega arith)
 at_least n (suc m) lt = omega arith
-
-pub size_positive : (h : ℤ) → pos 0 <ℤ h → 0 < unsigned_abs h
-size_positive (pos zero) lt = absurd (omega (arith, ints))
-size_positive (pos (suc h)) lt = omega arith
-size_positive (negsuc h) lt = omega arith
 
 -- a quotient is not larger
 pub quotient_size : (q h a : ℤ) → pos 0 <ℤ h → q *ℤ h ≡ a → unsigned_abs q ≤ unsigned_abs a

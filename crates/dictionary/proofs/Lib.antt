@@ -11,7 +11,6 @@ pub mod CarriedOut
 pub mod OverflowLemmas
 pub mod RangeLemmas
 pub mod FirstNumbers
-pub mod ConeRows
 pub mod Beginnings
 pub mod BeginSpaces
 pub mod CommonLemmas

@@ -14,6 +14,7 @@ use Rattle.poly_model.specs.Dictionaries.{Table}
 use Rattle.poly_model.specs.Overflows.{IsPlace, number_at}
 use Rattle.dictionary_laws.specs.Keys.{place_in}
 use Rattle.dictionary_laws.proofs.KeyExchange.{ascending_distinct}
+use Rattle.dictionary_laws.proofs.Sizes.{crosses_along}
 use Rattle.dictionary.specs.Cells.{cell, PassesAt}
 use Rattle.dictionary.specs.Views.{Dictionary, number, table_of, exchange_at, column_label, CanPivot, IsWhole, IsOverflow}
 use Rattle.dictionary.proofs.PlaceLemmas.{place_within, place_at, at_place}
@@ -26,9 +27,6 @@ row_label held seen i k e same l =
 crosses_turned : (a b c d : ℤ) → Crosses a b c d → Crosses b a c d
 crosses_turned a b c d h =
     (subst IsNum (mul_comm a b) h.0, h.1, subst (λ (z : ℤ). IsNum (z -ℤ c *ℤ d)) (mul_comm a b) h.2)
-
-crosses_along : (a b c d e f g h : ℤ) → a ≡ e → b ≡ f → c ≡ g → d ≡ h → Crosses a b c d → Crosses e f g h
-crosses_along a b c d e f g h i j k l m = rw (← i, ← j, ← k, ← l) m
 
 -- the number at a place whose column is a label
 at_entry : (t : Table) (p : Place) → p.col ≢ constant_label → number_at t p ≡ t.entry p.row p.col

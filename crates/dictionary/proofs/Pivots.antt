@@ -5,7 +5,6 @@ use Rattle.std.specs.Prelude.{◌<ℤ◌, unsigned_abs}
 use Rattle.std.specs.List.{Contains}
 use Rattle.std.proofs.lemmas.Int.{ints}
 use Rattle.std.proofs.lemmas.List.{length-set}
-use Rattle.std.proofs.Math.Nat.{eq-zero_of_zero-dvd}
 use Rattle.std.proofs.lemmas.Bool.{cases_eq, eq-eqb, ne_eqb}
 use Rattle.poly_num.specs.Fractions.{turned_by}
 use Rattle.poly_num.proofs.Ring.{lin, neg-mul, mul_comm, mul_zero, zero_mul}
@@ -20,6 +19,7 @@ use Rattle.dictionary_laws.proofs.Multiples.{AreTimes, divisors_write}
 use Rattle.dictionary_laws.proofs.NewCobasis.{exchanged_cobasis}
 use Rattle.dictionary_laws.proofs.NewNumbers.{exchanged_writes}
 use Rattle.dictionary_laws.proofs.Least.{least_where_primitive}
+use Rattle.dictionary_laws.proofs.Sizes.{divisor_positive}
 use Rattle.dictionary.specs.Cells.{cell, pivot_cell, IsExchanged}
 use Rattle.dictionary.specs.Views.{Dictionary, number, table_of, exchange_at, IsDictionaryIn, CanPivot, IsPivot, IsUnitRow, IsWhole}
 use Rattle.dictionary.proofs.EachNumber.{each_number}
@@ -55,11 +55,6 @@ own_product a p c b e =
     let f : c *ℤ b ≡ pos 0 = ap (λ z. z *ℤ b) e ∙ zero_mul b in
     let g = mul_comm a p in
     omega (arith, lin)
-
-divisor_positive : (d : ℕ) (x : ℤ) → pos 0 <ℤ x → d ∣ unsigned_abs x → 0 < d
-divisor_positive zero (pos n) h k = absurd (let e = eq-zero_of_zero-dvd k in omega (arith, ints))
-divisor_positive zero (negsuc n) h k = absurd (omega (arith, ints))
-divisor_positive (suc d) x h k = omega arith
 
 module _ (old : Dictionary) (r s : ℕ) (whole : IsWhole old) (can : CanPivot old r s) (cells : List ℤ)
     (x : IsExchanged (exchange_at old r s) old.cells cells) where

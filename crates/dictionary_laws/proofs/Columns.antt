@@ -1,6 +1,6 @@
 -- Directions for the labels of a cobasis, each with one positive value at its own label and 0 at
 -- the others.
-use Rattle.std.proofs.Common.{◌≡◌, ◌≢◌, ℕ, zero, suc, Bool, true, false, cond, List, [], ◌∷◌, ℤ, pos, negsuc, ◌*ℤ◌, refl, sym, ap, subst, ◌∙◌, arith}
+use Rattle.std.proofs.Common.{◌≡◌, ◌≢◌, ℕ, Bool, true, false, cond, List, [], ◌∷◌, ℤ, pos, ◌*ℤ◌, refl, sym, ap, subst, ◌∙◌, arith}
 use Rattle.std.specs.Prelude.{◌<ℤ◌, ◌==◌, if◌then◌else◌}
 use Rattle.std.specs.List.{Contains}
 use Rattle.std.proofs.lemmas.Int.{ints}
@@ -12,16 +12,11 @@ use Rattle.poly_num.proofs.VectorLemmas.{dot-scale}
 use Rattle.poly_model.specs.Spaces.{Space, IsInside, IsDirection}
 use Rattle.poly_model.specs.Dictionaries.{IsCobasis, sum_over}
 use Rattle.linear_laws.proofs.Members.{Contains-first, Contains-later, Contains-nil}
+use Rattle.linear_laws.proofs.Combinations.{zero_at_scale}
+use Rattle.linear_laws.proofs.Signs.{square_positive}
 use Rattle.dictionary_laws.proofs.Members.{contains_other, sum_zero, sum_single}
-use Rattle.dictionary_laws.proofs.Directions.{times_zero, zero_at_scale, direction_scale, spread, inside_spread}
+use Rattle.dictionary_laws.proofs.Directions.{times_zero, direction_scale, spread, inside_spread}
 use Rattle.dictionary_laws.proofs.Duals.{Dual, dual_of, distinct}
-
-pub square_positive : (x : ℤ) → x ≢ pos 0 → pos 0 <ℤ (x *ℤ x)
-square_positive (pos zero) n = absurd (n refl)
-square_positive (pos (suc a)) n =
-    positive_product (pos (suc a)) (pos (suc a)) (omega (arith, ints)) (omega (arith, ints))
-square_positive (negsuc a) n =
-    positive_product (pos (suc a)) (pos (suc a)) (omega (arith, ints)) (omega (arith, ints))
 
 pick : (P : Vector → Type 0) (j k : ℕ) (u v : Vector) → (j ≡ k → P u) → (j ≢ k → P v) →
     P (if j == k then u else v)

@@ -1,6 +1,6 @@
 -- Where nothing is fixed, the coordinates are a cobasis, and the entries of the forms are its dictionary.
 use Rattle.std.proofs.Common.{◌≡◌, ◌≢◌, ℕ, zero, suc, Bool, true, false, cond, List, [], ◌∷◌, ℤ, pos, ◌+ℤ◌, ◌*ℤ◌, map, length, drop, get_or, refl, sym, ap, subst, ◌∙◌, arith}
-use Rattle.std.specs.Prelude.{◌+◌, ◌≤ℤ◌, ◌<ℤ◌, ◌==◌, if◌then◌else◌}
+use Rattle.std.specs.Prelude.{◌+◌, ◌==◌, if◌then◌else◌}
 use Rattle.std.specs.List.{Contains, range_with_len}
 use Rattle.std.proofs.lemmas.Int.{ints}
 use Rattle.std.proofs.lemmas.Bool.{eqb-true, eqb-false, eq-eqb, ne_eqb}
@@ -14,6 +14,7 @@ use Rattle.poly_model.specs.Spaces.{Space, IsInside}
 use Rattle.poly_model.specs.Dictionaries.{IsCobasis, Writes, IsDictionary, sum_over}
 use Rattle.linear_laws.proofs.Members.{Contains-first, Contains-later, Contains-nil, all_at}
 use Rattle.linear_laws.proofs.Entries.{at-nil, coordinate_reads}
+use Rattle.linear_laws.proofs.Signs.{at_least_one}
 use Rattle.dictionary_laws.specs.Keys.{AreDistinct, place_in}
 use Rattle.dictionary_laws.specs.Coordinates.{HasCoordinates, coordinate_table}
 use Rattle.dictionary_laws.proofs.Members.{contains_other, sum_same, sum_zero}
@@ -57,7 +58,8 @@ form_at f (x ∷ ks) a h k c j q =
     place_step (λ i. a + i ≡ j → f k ≡ coordinate j) x k ks
     (λ e s. let same : a ≡ j = omega (arith, s) in
     ap f (sym e) ∙ ap (λ l. get_or l 0 []) h ∙ ap coordinate same)
-    (λ n s. form_at f ks (a + 1) (ap (λ l. drop 1 l) h) k (contains_other x ks k c (λ e. n (sym e))) j (omega (arith, s)))
+    (λ n s. form_at f ks (a + 1) (ap (λ l. drop 1 l) h) k (contains_other x ks k c (λ e. n (sym e))) j
+    (omega (arith, s)))
     q
 
 -- ---- the value of a form by its entries
@@ -180,8 +182,5 @@ module _ (space : Space) (key : List ℕ) (h : HasCoordinates space key) where
   coordinate_dictionary distinct = record {
     cobasis = coordinate_cobasis distinct;
     writes = coordinate_writes distinct;
-    least = λ other w. least other.denominator w.positive;
+    least = λ other w. at_least_one other.denominator w.positive;
   }
-    where
-      least : (d : ℤ) → pos 0 <ℤ d → pos 1 ≤ℤ d
-      least d l = omega (arith, ints, l)

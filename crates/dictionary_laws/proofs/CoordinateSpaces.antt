@@ -11,16 +11,16 @@ use Rattle.poly_model.specs.Keys.{IsAscending}
 use Rattle.poly_model.specs.Systems.{Row, row_of, Polyhedron}
 use Rattle.poly_model.specs.Cones.{coordinate}
 use Rattle.poly_model.specs.Spaces.{label_form, labels_of, in_front, with_constants, without_constants, cut_space}
-use Rattle.poly_model.specs.Labels.{coordinate_label, is_row}
-use Rattle.linear_laws.proofs.Members.{all_at}
+use Rattle.poly_model.specs.Labels.{coordinate_label, is_row, coordinate_index}
 use Rattle.dictionary_laws.specs.Coordinates.{HasCoordinates, coordinate_key, first_coordinate, ArePhaseCoordinates, AreCoordinateLabels}
 use Rattle.dictionary_laws.proofs.Members.{all_from}
 use Rattle.dictionary_laws.proofs.KeyExchange.{ascending_distinct}
+use Rattle.dictionary_laws.proofs.Filters.{map_only}
 
 pub coordinate_form : (rows : List Row) (j : ℕ) → label_form rows (coordinate_label j) ≡ coordinate j
 coordinate_form rows j =
     cond-false (is_row (coordinate_label j)) (row_of rows (coordinate_label j)).entries
-    (coordinate (coordinate_label j - 8192)) (le-ltb (coordinate_label j) 8192 (omega arith))
+    (coordinate (coordinate_index (coordinate_label j))) (le-ltb (coordinate_label j) _ (omega arith))
     ∙ ap coordinate (omega arith)
 
 length_of_key : (j n : ℕ) → length (coordinate_key j n) ≡ n - j
@@ -87,6 +87,6 @@ coordinate_keys j n = record {
   ascending = ascends j (n - j);
   distinct = ascending_distinct (coordinate_key j n) (ascends j (n - j));
   coordinates = λ k c.
-      let l : 8191 < k = all_at (λ i. 8191 < i) (coordinate_key j n) (above 8191 j (n - j) (omega arith)) k c in
-      omega (arith, l);
+      let h = map_only coordinate_label (range_with_len j (n - j)) k c in
+      let e : k ≡ coordinate_label h.0 = h.2 in omega arith;
 }

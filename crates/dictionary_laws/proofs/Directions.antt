@@ -2,12 +2,12 @@
 use Rattle.std.proofs.Common.{◌≡◌, ℕ, List, [], ◌∷◌, ℤ, pos, ◌+ℤ◌, ◌*ℤ◌, neg_ℤ, ap, ◌∙◌, arith}
 use Rattle.std.specs.List.{Contains}
 use Rattle.poly_num.specs.Vectors.{Vector, ◌·◌, scale, IsZero}
-use Rattle.poly_num.proofs.Ring.{expand, lin, mul_zero, zero_mul}
-use Rattle.poly_num.proofs.VectorLemmas.{dot-zero, dot-scale, length-scale}
+use Rattle.poly_num.proofs.Ring.{lin, mul_zero, zero_mul, one_mul}
+use Rattle.poly_num.proofs.VectorLemmas.{dot-zero, length-scale}
 use Rattle.poly_model.specs.Independence.{Vanish}
 use Rattle.poly_model.specs.Spaces.{Space, IsInside, IsDirection}
 use Rattle.poly_model.specs.Dictionaries.{sum_over}
-use Rattle.linear_laws.proofs.Combinations.{combination, dot-combination, length-combination, zero_combination, vanish_combination, vanish_scale}
+use Rattle.linear_laws.proofs.Combinations.{combination, dot-combination, length-combination, zero_combination, vanish_combination, vanish_scale, zero_at_scale}
 use Rattle.linear_laws.proofs.Members.{Contains-first, Contains-later}
 
 pub times_zero : (a x : ℤ) → x ≡ pos 0 → a *ℤ x ≡ pos 0
@@ -16,10 +16,6 @@ times_zero a x e = ap (λ (t : ℤ). a *ℤ t) e ∙ mul_zero a
 pub zero_times : (a x : ℤ) → a ≡ pos 0 → a *ℤ x ≡ pos 0
 zero_times a x e = ap (λ (t : ℤ). t *ℤ x) e ∙ zero_mul x
 
--- u cleared by v: the multiples of the two whose values at one form cancel
-pub cancels : (v x : ℤ) → v *ℤ x +ℤ neg_ℤ x *ℤ v ≡ pos 0
-cancels v x = simp expand (omega (arith, lin))
-
 -- a form that is 0 at v does not see it
 pub cleared_value : (v x a b : ℤ) → b ≡ pos 0 → v *ℤ a +ℤ neg_ℤ x *ℤ b ≡ v *ℤ a
 cleared_value v x a b e = let f = times_zero (neg_ℤ x) b e in omega (arith, lin)
@@ -27,9 +23,6 @@ cleared_value v x a b e = let f = times_zero (neg_ℤ x) b e in omega (arith, li
 pub zero_at : (g : Vector) (p : ℤ) (u : Vector) (q : ℤ) (v : Vector) → g · u ≡ pos 0 → g · v ≡ pos 0 →
     g · combination p u q v ≡ pos 0
 zero_at g p u q v e f = dot-combination g p u q v ∙ zero_combination p (g · u) q (g · v) e f
-
-pub zero_at_scale : (g : Vector) (p : ℤ) (v : Vector) → g · v ≡ pos 0 → g · scale p v ≡ pos 0
-zero_at_scale g p v e = dot-scale g p v ∙ ap (λ (t : ℤ). p *ℤ t) e ∙ mul_zero p
 
 pub vanish_zero : (gs : List Vector) (v : Vector) → IsZero v → Vanish gs v
 vanish_zero [] v z = tt
@@ -75,11 +68,8 @@ module _ (space : Space) where
   dot-spread g (k ∷ ks) c d base =
       let h = dot-spread g ks c d base in
       let e = dot-combination g (c k) (d k) (pos 1) (spread ks c d base) in
-      let f = one_times (g · spread ks c d base) in
+      let f = one_mul (g · spread ks c d base) in
       omega (arith, lin)
-    where
-      one_times : (x : ℤ) → pos 1 *ℤ x ≡ x
-      one_times x = omega (arith, Rattle.std.proofs.lemmas.Int.ints)
 
   pub inside_spread : (ks : List ℕ) (c : ℕ → ℤ) (d : ℕ → Vector) (base : Vector) →
       ((k : ℕ) → Contains ks k → IsInside space (d k)) → IsInside space base →

@@ -10,8 +10,8 @@ use Rattle.poly_model.specs.Dictionaries.{AreIndependent, IsCobasis}
 use Rattle.dictionary_laws.specs.Keys.{AreDistinct}
 use Rattle.linear_laws.proofs.Members.{Contains-first, Contains-later, Contains-nil, all_at}
 use Rattle.dictionary_laws.proofs.Members.{by_cases, all_from}
-use Rattle.linear_laws.proofs.Combinations.{combination, dot-combination}
-use Rattle.dictionary_laws.proofs.Directions.{cancels, cleared_value, zero_at, direction_combination}
+use Rattle.linear_laws.proofs.Combinations.{combination, dot-combination, cancels}
+use Rattle.dictionary_laws.proofs.Directions.{cleared_value, zero_at, direction_combination}
 
 module _ (space : Space) where
   -- a direction at which k is not 0, and the labels before and all others of the key are

@@ -1,14 +1,17 @@
 -- The labels that pass a test, labels in a row, labels of coordinates, and members of a list.
-use Rattle.std.proofs.Common.{◌≡◌, ℕ, zero, suc, ◌+◌, ◌≤◌, ◌<◌, Bool, true, false, List, [], ◌∷◌, ℤ, pos, ◌+ℤ◌, map, refl, sym, ap, subst, ◌∙◌, ⊎_elim, arith}
+use Rattle.std.proofs.Common.{◌≡◌, ℕ, zero, suc, ◌+◌, ◌≤◌, ◌<◌, Bool, true, false, List, [], ◌∷◌, ℤ, pos, ◌+ℤ◌, map, refl, sym, ap, subst, ◌∙◌, ⊎_elim, arith, ◌-◌}
 use Rattle.std.specs.List.{Contains, filter, range_with_len}
 use Rattle.std.proofs.lemmas.Bool.{eqb-true, eq-eqb, or_cases, or_left, or_right, cond_both, cases_eq}
 use Rattle.std.specs.Prelude.{◌==◌}
+use Rattle.std.proofs.lemmas.List.Elements.{Contains-append_right}
 use Rattle.poly_num.proofs.Ring.{lin}
-use Rattle.poly_model.specs.Spaces.{is_member}
+use Rattle.poly_model.specs.Spaces.{is_member, labels_of}
 use Rattle.poly_model.specs.Dictionaries.{sum_over}
-use Rattle.linear_laws.proofs.Members.{Contains-nil, Contains-first, Contains-later}
+use Rattle.poly_model.specs.Keys.{IsAscending}
+use Rattle.poly_model.specs.Labels.{coordinate_label}
+use Rattle.linear_laws.proofs.Members.{Contains-nil, Contains-first, Contains-later, all_at}
 use Rattle.dictionary_laws.specs.Keys.{AreDistinct}
-use Rattle.dictionary_laws.proofs.Members.{contains_cases, by_cases}
+use Rattle.dictionary_laws.proofs.Members.{contains_cases, by_cases, all_from}
 
 -- ---- filters
 filter_step : (P : List ℕ → Type 0) (test : ℕ → Bool) (x : ℕ) (ks : List ℕ) →
@@ -49,6 +52,16 @@ distinct_filter test (x ∷ ks) h =
     (λ e. ((λ c. h.0 (filter_only test ks x c).0), distinct_filter test ks h.1))
     (λ e. distinct_filter test ks h.1)
 
+pub ascending_filter : (test : ℕ → Bool) (ks : List ℕ) → IsAscending ks → IsAscending (filter test ks)
+ascending_filter test [] h = tt
+ascending_filter test (x ∷ ks) h =
+    filter_step IsAscending test x ks
+    (λ e. (
+      all_from (λ y. x < y) (filter test ks) (λ k c. all_at (λ y. x < y) ks h.0 k (filter_only test ks k c).0),
+      ascending_filter test ks h.1,
+    ))
+    (λ e. ascending_filter test ks h.1)
+
 -- a sum whose terms are 0 where the test fails
 pub sum_filter : (test : ℕ → Bool) (ks : List ℕ) (f : ℕ → ℤ) →
     ((k : ℕ) → Contains ks k → test k ≡ false → f k ≡ pos 0) →
@@ -80,6 +93,14 @@ range_has a (suc n) k l m =
     (range_has (a + 1) n k (omega arith) (omega arith)))
     (cases_eq k a)
 
+pub ascending_range : (a n : ℕ) → IsAscending (range_with_len a n)
+ascending_range a zero = tt
+ascending_range a (suc n) = (
+  all_from (λ k. a < k) (range_with_len (a + 1) n)
+      (λ k c. let l = (range_only (a + 1) n k c).0 in omega arith),
+  ascending_range (a + 1) n,
+)
+
 -- ---- the labels of a list of numbers
 pub map_only : (f : ℕ → ℕ) (js : List ℕ) (k : ℕ) → Contains (map f js) k →
     (j : ℕ) × Contains js j × (k ≡ f j)
@@ -95,6 +116,13 @@ map_has f [] j c = absurd (Contains-nil j c)
 map_has f (x ∷ js) j c =
     by_cases (λ (i : ℕ). Contains (map f (x ∷ js)) (f i)) x js (Contains-first (f x) (map f js))
     (λ i d. Contains-later (f i) (f x) (map f js) (map_has f js i d)) j c
+
+-- coordinate j is a label, from the first on
+pub coordinate_is_label : (m first n j : ℕ) → first ≤ j → j < n → Contains (labels_of m first n) (coordinate_label j)
+coordinate_is_label m first n j l h =
+    Contains-append_right (range_with_len 1 m) (map coordinate_label (range_with_len first (n - first)))
+    (coordinate_label j)
+    (map_has coordinate_label (range_with_len first (n - first)) j (range_has first (n - first) j l (omega arith)))
 
 -- ---- the test for members
 pub member_only : (k : ℕ) (ks : List ℕ) → is_member k ks ≡ true → Contains ks k

@@ -4,7 +4,7 @@
 use Rattle.dictionary_laws.proofs.PhasePoints.{phase_points}
 use Rattle.std.proofs.Common.{◌≡◌, ℕ, ◌<◌, ◌^◌, ◌-◌, List, [], ◌∷◌, ℤ, pos, ◌+ℤ◌, ◌*ℤ◌, refl, ap, subst, inl, arith}
 use Rattle.std.proofs.Common.{lit<}
-use Rattle.std.specs.Prelude.{◌≤ℤ◌, ◌<ℤ◌, ◌==◌, if◌then◌else◌, unsigned_abs}
+use Rattle.std.specs.Prelude.{◌==◌, if◌then◌else◌, unsigned_abs}
 use Rattle.std.specs.List.{AllByRecursion, Contains}
 use Rattle.std.proofs.lemmas.Int.{ints}
 use Rattle.std.proofs.lemmas.List.Elements.{All-from_recursion}
@@ -20,9 +20,12 @@ use Rattle.poly_model.specs.Dictionaries.{Table, IsCobasis, AreIndependent, Writ
 use Rattle.poly_model.specs.Overflows.{Passes}
 use Rattle.dictionary_laws.specs.Numbers.{Agree}
 use Rattle.linear_laws.proofs.Members.{Contains-first, Contains-later, Contains-nil}
+use Rattle.linear_laws.proofs.Entries.{by_three}
+use Rattle.linear_laws.proofs.Signs.{at_least_one}
 use Rattle.dictionary_laws.proofs.Members.{by_cases}
-use Rattle.dictionary_laws.proofs.KnownValues.{row, three}
+use Rattle.dictionary_laws.proofs.KnownValues.{row, each_label}
 use Rattle.dictionary_laws.proofs.SameLabels.{one_dictionary}
+use Rattle.dictionary_laws.proofs.Sizes.{crosses_along}
 
 abbrev file : ℕ → ℕ → Polyhedron
 file p q = record {
@@ -66,14 +69,6 @@ row_2_value m a b c y t =
     omega (arith, ints)
 
 module _ (p q : ℕ) where
-  each_label : (P : ℕ → Type 0) → P 1 → P 2 → P 8193 → P 8194 → (i : ℕ) →
-      Contains (1 ∷ 2 ∷ 8193 ∷ 8194 ∷ []) i → P i
-  each_label P a b c d =
-      by_cases P 1 (2 ∷ 8193 ∷ 8194 ∷ []) a
-      (by_cases P 2 (8193 ∷ 8194 ∷ []) b
-      (by_cases P 8193 (8194 ∷ []) c
-      (by_cases P 8194 [] d (λ i h. absurd (Contains-nil i h)))))
-
   abbrev IsWritten : ℕ → Vector → Type 0
   IsWritten i y =
       pos 1 *ℤ ((space p q).form i · y)
@@ -83,7 +78,7 @@ module _ (p q : ℕ) where
   writes : Writes (space p q) key (table p q)
   writes = record {
     positive = omega (arith, ints);
-    values = λ i l y h. three (λ z. IsWritten i z)
+    values = λ i l y h. by_three (λ z. IsWritten i z)
         (λ a b c. each_label (λ j. IsWritten j (a ∷ b ∷ c ∷ []))
         (row_1_value (pos p) a b c (pos 1 *ℤ a +ℤ pos 0)
         (pos 0 *ℤ a +ℤ (pos 0 *ℤ b +ℤ (pos 1 *ℤ c +ℤ pos 0))))
@@ -139,14 +134,11 @@ module _ (p q : ℕ) where
     labels = All-from_recursion (Contains (space p q).labels) key (has_x1, (has_x2, tt));
     independent = independent;
     enough = λ z d v.
-        three (λ y. (space p q).infinity · y ≡ pos 0 →
+        by_three (λ y. (space p q).infinity · y ≡ pos 0 →
         AllByRecursion (λ k. (space p q).form k · y ≡ pos 0) key → IsZero y)
         (λ a b c l w. only_zero a b c l w.0 w.1.0)
         z (IsInside.width d.inside) d.level v;
   }
-
-  at_least_one : (d : ℤ) → pos 0 <ℤ d → pos 1 ≤ℤ d
-  at_least_one d h = omega (arith, ints)
 
   dictionary : IsDictionary (space p q) key (table p q)
   dictionary = record
@@ -218,10 +210,6 @@ entry_is : (u : Table) → IsDictionary (space (2 ^ 127 - 1) 1) key u → (i k :
     (table (2 ^ 127 - 1) 1).entry i k ≡ u.entry i k
 entry_is u d = Agree.entries (one_dictionary (space (2 ^ 127 - 1) 1) key key (table (2 ^ 127 - 1) 1) u
     (record { there = λ k c. c; back = λ k c. c }) (dictionary (2 ^ 127 - 1) 1) d)
-
-crosses_along : (a b c d e f g h : ℤ) → a ≡ e → b ≡ f → c ≡ g → d ≡ h → Crosses a b c d →
-    Crosses e f g h
-crosses_along a b c d e f g h i j k l m = rw (← i, ← j, ← k, ← l) m
 
 passes_not : Passes (file (2 ^ 127 - 1) 1) overflow → ⊥
 passes_not h =

@@ -4,7 +4,7 @@
 --     2 x1 = -1 + 1 row1 + 3 x2        2 row2 = 2 x2
 --
 -- The same numbers doubled write the labels, and are no dictionary.
-use Rattle.std.proofs.Common.{◌≡◌, ℕ, false, List, [], ◌∷◌, ℤ, pos, negsuc, ◌+ℤ◌, ◌*ℤ◌, length, refl, arith}
+use Rattle.std.proofs.Common.{◌≡◌, ℕ, false, List, [], ◌∷◌, ℤ, pos, negsuc, ◌+ℤ◌, ◌*ℤ◌, refl, arith}
 use Rattle.std.specs.Prelude.{◌≤ℤ◌, ◌<ℤ◌, ◌==◌, if◌then◌else◌}
 use Rattle.std.specs.List.{AllByRecursion, Contains}
 use Rattle.std.proofs.lemmas.Int.{ints}
@@ -16,6 +16,7 @@ use Rattle.poly_model.specs.Spaces.{Space, IsInside, IsDirection, prepare_space}
 use Rattle.poly_model.specs.Dictionaries.{Table, IsCobasis, AreIndependent, Writes, IsDictionary, sum_over}
 use Rattle.dictionary_laws.specs.Coordinates.{coordinate_key, coordinate_table, first_coordinate}
 use Rattle.linear_laws.proofs.Members.{Contains-first, Contains-later, Contains-nil}
+use Rattle.linear_laws.proofs.Entries.{by_three}
 use Rattle.dictionary_laws.proofs.Members.{by_cases}
 
 abbrev pub row : Vector → FileRow
@@ -66,17 +67,9 @@ entries_of_x2 = refl
 labels_are : space.labels ≡ 1 ∷ 2 ∷ 8193 ∷ 8194 ∷ []
 labels_are = refl
 
--- a vector of three entries
-pub three : (P : Vector → Type 0) → ((a b c : ℤ) → P (a ∷ b ∷ c ∷ [])) → (y : Vector) → length y ≡ 3 →
-    P y
-three P f [] l = absurd (omega arith)
-three P f (a ∷ []) l = absurd (omega arith)
-three P f (a ∷ b ∷ []) l = absurd (omega arith)
-three P f (a ∷ b ∷ c ∷ []) l = f a b c
-three P f (a ∷ b ∷ c ∷ d ∷ y) l = absurd (omega arith)
-
 -- a fact of each label
-each_label : (P : ℕ → Type 0) → P 1 → P 2 → P 8193 → P 8194 → (i : ℕ) → Contains space.labels i → P i
+pub each_label : (P : ℕ → Type 0) → P 1 → P 2 → P 8193 → P 8194 → (i : ℕ) →
+    Contains (1 ∷ 2 ∷ 8193 ∷ 8194 ∷ []) i → P i
 each_label P p q r s =
     by_cases P 1 (2 ∷ 8193 ∷ 8194 ∷ []) p
     (by_cases P 2 (8193 ∷ 8194 ∷ []) q
@@ -91,7 +84,7 @@ IsWritten t i y =
 writes : Writes space key table
 writes = record {
   positive = omega (arith, ints);
-  values = λ i l y h. three (λ z. IsWritten table i z)
+  values = λ i l y h. by_three (λ z. IsWritten table i z)
       (λ a b c. each_label (λ j. IsWritten table j (a ∷ b ∷ c ∷ []))
       (omega (arith, ints)) (omega (arith, ints)) (omega (arith, ints)) (omega (arith, ints)) i l)
       y h.width;
@@ -137,7 +130,7 @@ cobasis = record {
   );
   independent = independent;
   enough = λ z d v.
-      three (λ y. space.infinity · y ≡ pos 0 → AllByRecursion (λ k. space.form k · y ≡ pos 0) key →
+      by_three (λ y. space.infinity · y ≡ pos 0 → AllByRecursion (λ k. space.form k · y ≡ pos 0) key →
       IsZero y)
       (λ a b c l w. only_zero a b c l w.0 w.1.0)
       z (IsInside.width d.inside) d.level v;
@@ -171,7 +164,7 @@ doubled = record {
 doubled_writes : Writes space key doubled
 doubled_writes = record {
   positive = omega (arith, ints);
-  values = λ i l y h. three (λ z. IsWritten doubled i z)
+  values = λ i l y h. by_three (λ z. IsWritten doubled i z)
       (λ a b c. each_label (λ j. IsWritten doubled j (a ∷ b ∷ c ∷ []))
       (omega (arith, ints)) (omega (arith, ints)) (omega (arith, ints)) (omega (arith, ints)) i l)
       y h.width;

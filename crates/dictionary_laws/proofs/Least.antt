@@ -7,7 +7,7 @@ use Rattle.std.specs.List.{Contains}
 use Rattle.std.proofs.lemmas.Int.{ints, unsigned_abs-mul}
 use Rattle.std.proofs.lemmas.Bool.{cases_eq}
 use Rattle.std.proofs.lemmas.Nat.Gcd.{dvd-zero, le_of_dvd, IsGcd-swap}
-use Rattle.std.proofs.Math.Nat.{dvd-mul_right, one-mul, eq-zero_of_zero-dvd, eq-one_of_dvd-one, div-mul_cancel, mul-dvd-mul_right, dvd_of_mul-dvd-mul_right, mul-div_cancel, mul_right_comm}
+use Rattle.std.proofs.Math.Nat.{dvd-mul_right, one-mul, eq-one_of_dvd-one, div-mul_cancel, mul-dvd-mul_right, dvd_of_mul-dvd-mul_right, mul-div_cancel, mul_right_comm}
 use Rattle.poly_num.specs.Divisors.{gcd_of}
 use Rattle.poly_num.proofs.Ring.{lin, mul_comm, mul_one}
 use Rattle.poly_num.proofs.Order.{zero_factor, keeps_order}
@@ -18,6 +18,7 @@ use Rattle.dictionary_laws.specs.Numbers.{IsOwnRow, DividesNumbers, DividesOutsi
 use Rattle.dictionary_laws.proofs.Members.{contains_or}
 use Rattle.dictionary_laws.proofs.Values.{own_row, entries_proportional, constants_proportional}
 use Rattle.dictionary_laws.proofs.Multiples.{AreTimes, divisors_write}
+use Rattle.dictionary_laws.proofs.Sizes.{size_positive, divisor_positive}
 
 cancel_nat : (g u v : ℕ) → 0 < g → u * g ≡ v * g → u ≡ v
 cancel_nat g u v lt e = sym (mul-div_cancel u lt) ∙ ap (λ k. k / g) e ∙ mul-div_cancel v lt
@@ -67,20 +68,10 @@ sizes : (d e x y : ℤ) → d *ℤ y ≡ e *ℤ x →
     unsigned_abs d * unsigned_abs y ≡ unsigned_abs e * unsigned_abs x
 sizes d e x y h = sym (unsigned_abs-mul d y) ∙ ap unsigned_abs h ∙ unsigned_abs-mul e x
 
-size_positive : (d : ℤ) → pos 0 <ℤ d → 0 < unsigned_abs d
-size_positive (pos n) h = omega (arith, ints)
-size_positive (negsuc n) h = absurd (omega (arith, ints))
-
 order_of_sizes : (d e : ℤ) → pos 0 <ℤ d → pos 0 <ℤ e → unsigned_abs d ≤ unsigned_abs e → d ≤ℤ e
 order_of_sizes (pos m) (pos n) h k l = omega (arith, ints)
 order_of_sizes (negsuc m) e h k l = absurd (omega (arith, ints))
 order_of_sizes (pos m) (negsuc n) h k l = absurd (omega (arith, ints))
-
--- a divisor of a positive number
-divisor_positive : (d : ℕ) (x : ℤ) → pos 0 <ℤ x → d ∣ unsigned_abs x → 0 < d
-divisor_positive zero x h k =
-    absurd (let e = eq-zero_of_zero-dvd k in let f = size_positive x h in omega arith)
-divisor_positive (suc d) x h k = omega arith
 
 quotient_is : (d : ℕ) (x : ℤ) → d ∣ unsigned_abs x → x ≡ pos d *ℤ int_div x (pos d)
 quotient_is d x h = sym (mul_comm (pos d) (int_div x (pos d)) ∙ quotient_times d x h)

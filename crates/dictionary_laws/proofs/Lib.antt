@@ -1,4 +1,6 @@
 pub mod Members
+pub mod Sizes
+pub mod InFront
 pub mod Directions
 pub mod Duals
 pub mod Values

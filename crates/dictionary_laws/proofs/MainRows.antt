@@ -10,7 +10,7 @@ use Rattle.poly_model.specs.declared.kind.Kind.TheVariants.{H, V}
 use Rattle.poly_model.specs.Systems.{Row, no_row, row_of, first_unit, Polyhedron, file_rows, cone_of, cone_row, added_row, is_point_row}
 use Rattle.poly_model.specs.Cones.{coordinate}
 use Rattle.poly_model.specs.Spaces.{label_form, linear_rows}
-use Rattle.poly_model.specs.Labels.{coordinate_label, is_row}
+use Rattle.poly_model.specs.Labels.{coordinate_label, is_row, coordinate_index, IsRow}
 use Rattle.linear_laws.proofs.AllLemmas.{all_left, all_right, all_both, all_from_map, all_to_map}
 use Rattle.linear_laws.proofs.Members.{all_at}
 use Rattle.poly_model.specs.Equations.{equation_labels}
@@ -81,6 +81,12 @@ module _ (p : Polyhedron) where
   same_in_cone m l =
       get_or_append_left (file_rows p) (added_row p.kind p.n (file_rows p)) no_row m l
 
+  -- a row of the file is the row of the cone with the same number
+  pub row_in_cone : (i : ℕ) → 0 < i → i ≤ length (file_rows p) → row_of (cone_of p).rows i ≡ row_of (file_rows p) i
+  row_in_cone i some within =
+      row_from_one (cone_of p).rows i some ∙ same_in_cone (i - 1) (omega arith)
+      ∙ sym (row_from_one (file_rows p) i some)
+
   -- a linear row of the cone is one of the file
   pub linear_in_file : (m : ℕ) → (get_or (cone_of p).rows m no_row).linear ≡ true →
       m < length (file_rows p)
@@ -113,13 +119,14 @@ module _ (p : Polyhedron) where
   abbrev pub fixed_rows : List ℕ → List Vector
   fixed_rows free = map coordinate free ++ linear_rows (file_rows p)
 
-  module _ (few : length p.rows < 8192) (free : List ℕ) (rows : List Row)
+  module _ (few : IsRow (length p.rows)) (free : List ℕ) (rows : List Row)
       (same : (m : ℕ) → m < length (file_rows p) → get_or rows m no_row ≡ get_or (file_rows p) m no_row) where
     equation_form : (i : ℕ) → IsEquation i → label_form rows i ≡ (row_of (file_rows p) i).entries
     equation_form i e =
         let l = e.some in
         let m = e.within in
-        cond-true (is_row i) (row_of rows i).entries (coordinate (i - 8192)) (lt-ltb i 8192 (omega arith))
+        cond-true (is_row i) (row_of rows i).entries (coordinate (coordinate_index i))
+        (lt-ltb i _ (omega arith))
         ∙ ap (λ (row : Row). row.entries) (row_from_one rows i l ∙ same (i - 1) (omega (arith, count_of_rows))
         ∙ sym (row_from_one (file_rows p) i l))
 

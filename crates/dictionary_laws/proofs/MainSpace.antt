@@ -10,7 +10,7 @@ use Rattle.poly_model.specs.declared.kind.Kind.{Kind}
 use Rattle.poly_model.specs.declared.kind.Kind.TheVariants.{H, V}
 use Rattle.poly_model.specs.Systems.{Row, row_of, Polyhedron, file_rows, added_row, cone_of}
 use Rattle.poly_model.specs.Spaces.{Space, IsInside, HasPoints, is_left, is_member, labels_of, in_front, cut_space, prepare_space, main_space}
-use Rattle.poly_model.specs.Labels.{coordinate_label, is_row}
+use Rattle.poly_model.specs.Labels.{coordinate_label, is_row, coordinate_index, IsRow}
 use Rattle.poly_model.specs.Dictionaries.{Table, IsCobasis, Writes, IsDictionary}
 use Rattle.linear_laws.proofs.AllLemmas.{all_from_map, all_to_map}
 use Rattle.poly_model.proofs.RowLemmas.{row_from_one}
@@ -32,7 +32,7 @@ label_is_positive m j n k c =
     (λ (d : Contains (range_with_len 1 m) k). (range_only 1 m k d).0)
     (λ (d : Contains (map coordinate_label (range_with_len j (n - j))) k).
     let h = map_only coordinate_label (range_with_len j (n - j)) k d in
-    let e : k ≡ 8192 + h.0 = h.2 in omega arith)
+    let e : k ≡ coordinate_label h.0 = h.2 in omega arith)
     (Contains-append_cases (range_with_len 1 m) (map coordinate_label (range_with_len j (n - j))) k c)
 
 row_is_label : (m j n k : ℕ) → 1 ≤ k → k < 1 + m → Contains (labels_of m j n) k
@@ -40,15 +40,15 @@ row_is_label m j n k l r =
     Contains-append_left (range_with_len 1 m) (map coordinate_label (range_with_len j (n - j))) k
     (range_has 1 m k l r)
 
-module _ (p : Polyhedron) (few : length p.rows < 8192) (free : List ℕ) where
+module _ (p : Polyhedron) (few : IsRow (length p.rows)) (free : List ℕ) where
   -- ---- the test of labels
   row_stays : (k : ℕ) → is_row k ≡ true → stays p free k ≡ not (row_of (cone_of p).rows k).linear
   row_stays k =
-      cond-true (is_row k) (not (row_of (cone_of p).rows k).linear) (not (is_member (k - 8192) free))
+      cond-true (is_row k) (not (row_of (cone_of p).rows k).linear) (not (is_member (coordinate_index k) free))
 
-  coordinate_stays : (k : ℕ) → is_row k ≡ false → stays p free k ≡ not (is_member (k - 8192) free)
+  coordinate_stays : (k : ℕ) → is_row k ≡ false → stays p free k ≡ not (is_member (coordinate_index k) free)
   coordinate_stays k =
-      cond-false (is_row k) (not (row_of (cone_of p).rows k).linear) (not (is_member (k - 8192) free))
+      cond-false (is_row k) (not (row_of (cone_of p).rows k).linear) (not (is_member (coordinate_index k) free))
 
   left_if_stays : (k : ℕ) → stays p free k ≡ true → is_left (cone_of p).rows k ≡ true
   left_if_stays k e =
@@ -76,12 +76,12 @@ module _ (p : Polyhedron) (few : length p.rows < 8192) (free : List ℕ) where
 
       of_coordinate : is_row k ≡ false → Contains (gone p free) k
       of_coordinate b =
-          let member = not-false (is_member (k - 8192) free) (sym (coordinate_stays k b) ∙ e) in
-          let l = ltb-false k 8192 b in
-          let there : coordinate_label (k - 8192) ≡ k = omega arith in
+          let member = not-false (is_member (coordinate_index k) free) (sym (coordinate_stays k b) ∙ e) in
+          let l = ltb-false k _ b in
+          let there : coordinate_label (coordinate_index k) ≡ k = omega arith in
           Contains-append_left (map coordinate_label free) (equation_labels p) k
           (subst (λ (i : ℕ). Contains (map coordinate_label free) i) there
-          (map_has coordinate_label free (k - 8192) (member_only (k - 8192) free member)))
+          (map_has coordinate_label free (coordinate_index k) (member_only (coordinate_index k) free member)))
 
   not_gone_if : (k : ℕ) → stays p free k ≡ true → Contains (gone p free) k → ⊥
   not_gone_if k e c =
@@ -91,11 +91,11 @@ module _ (p : Polyhedron) (few : length p.rows < 8192) (free : List ℕ) where
       of_coordinate : Contains (map coordinate_label free) k → ⊥
       of_coordinate d =
           let h = map_only coordinate_label free k d in
-          let i : k ≡ 8192 + h.0 = h.2 in
-          let j : h.0 ≡ k - 8192 = omega arith in
-          let member = member_has (k - 8192) free (subst (λ (m : ℕ). Contains free m) j h.1) in
-          let f : true ≡ false = sym e ∙ coordinate_stays k (le-ltb k 8192 (omega arith))
-          ∙ not_from_true (is_member (k - 8192) free) member in
+          let i : k ≡ coordinate_label h.0 = h.2 in
+          let j : h.0 ≡ coordinate_index k = omega arith in
+          let member = member_has (coordinate_index k) free (subst (λ (m : ℕ). Contains free m) j h.1) in
+          let f : true ≡ false = sym e ∙ coordinate_stays k (le-ltb k _ (omega arith))
+          ∙ not_from_true (is_member (coordinate_index k) free) member in
           cc
 
       of_row : Contains (equation_labels p) k → ⊥
@@ -106,7 +106,7 @@ module _ (p : Polyhedron) (few : length p.rows < 8192) (free : List ℕ) where
           let linear = ap (λ (row : Row). row.linear)
           (row_from_one (cone_of p).rows k l ∙ same_in_cone p (k - 1) (omega (arith, count_of_rows p))
           ∙ sym (row_from_one (file_rows p) k l)) ∙ q.linear in
-          let f : true ≡ false = sym e ∙ row_stays k (lt-ltb k 8192 (omega arith))
+          let f : true ≡ false = sym e ∙ row_stays k (lt-ltb k _ (omega arith))
           ∙ not_from_true (row_of (cone_of p).rows k).linear linear in
           cc
 
@@ -228,7 +228,7 @@ module _ (p : Polyhedron) (few : length p.rows < 8192) (free : List ℕ) where
         points : HasPoints space
         points = record { vector = point.vector; inside = point.inside; finite = point.finite }
 
-pub main_dictionary : (p : Polyhedron) (free key : List ℕ) (t : Table) → length p.rows < 8192 →
+pub main_dictionary : (p : Polyhedron) (free key : List ℕ) (t : Table) → IsRow (length p.rows) →
     IsDictionary (prepare_space p) key t → CanEnterMain p free key t → EntersMain p free key t
 main_dictionary p free key t few d can = record {
   points = subst HasPoints same

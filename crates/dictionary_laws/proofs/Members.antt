@@ -9,7 +9,8 @@ use Rattle.linear_laws.proofs.Members.{Contains-nil, Contains-first, Contains-la
 use Rattle.dictionary_laws.specs.Keys.{AreDistinct, HaveSameLabels}
 
 pub contains_cases : (x : ℕ) (ks : List ℕ) (k : ℕ) → Contains (x ∷ ks) k → (k ≡ x) ⊎ Contains ks k
-contains_cases x ks k c = ⊎_elim (λ (e : x ≡ k). inl (sym e)) (λ (d : Contains ks k). inr d) (Contains-cons_cases k x ks c)
+contains_cases x ks k c =
+    ⊎_elim (λ (e : x ≡ k). inl (sym e)) (λ (d : Contains ks k). inr d) (Contains-cons_cases k x ks c)
 
 pub contains_other : (x : ℕ) (ks : List ℕ) (k : ℕ) → Contains (x ∷ ks) k → k ≢ x → Contains ks k
 contains_other x ks k c n = ⊎_elim (λ (e : k ≡ x). absurd (n e)) (λ (d : Contains ks k). d)

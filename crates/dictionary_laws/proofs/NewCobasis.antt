@@ -14,8 +14,8 @@ use Rattle.dictionary_laws.specs.Keys.{Exchanges}
 use Rattle.dictionary_laws.specs.Exchange.{CanExchange}
 use Rattle.linear_laws.proofs.Members.{Contains-nil, all_at}
 use Rattle.dictionary_laws.proofs.Members.{all_from}
-use Rattle.linear_laws.proofs.Combinations.{combination, dot-combination}
-use Rattle.dictionary_laws.proofs.Directions.{times_zero, cancels, cleared_value, zero_at, direction_combination}
+use Rattle.linear_laws.proofs.Combinations.{combination, dot-combination, cancels}
+use Rattle.dictionary_laws.proofs.Directions.{times_zero, cleared_value, zero_at, direction_combination}
 use Rattle.dictionary_laws.proofs.Duals.{Dual, dual_of, independent}
 use Rattle.dictionary_laws.proofs.Values.{is_label, value_along}
 

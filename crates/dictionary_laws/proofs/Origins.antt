@@ -9,8 +9,9 @@ use Rattle.poly_num.proofs.Order.{positive_product}
 use Rattle.poly_num.proofs.VectorLemmas.{dot-scale}
 use Rattle.poly_model.specs.Spaces.{Space, IsInside, HasPoints}
 use Rattle.poly_model.specs.Dictionaries.{IsCobasis, sum_over}
+use Rattle.linear_laws.proofs.Signs.{square_positive}
 use Rattle.dictionary_laws.proofs.Directions.{inside_scale, spread, dot-spread}
-use Rattle.dictionary_laws.proofs.Columns.{Columns, columns, shares, square_positive, level_sum, own_sum, inside_columns}
+use Rattle.dictionary_laws.proofs.Columns.{Columns, columns, shares, level_sum, own_sum, inside_columns}
 
 -- at a label of the key, and at infinity, what is left of a point
 point_cancels : (l e v s : ℤ) → s ≡ neg_ℤ (l *ℤ v) *ℤ e → s +ℤ (e *ℤ l) *ℤ v ≡ pos 0

@@ -1,24 +1,15 @@
 -- The spaces of the phases that have a point whatever the file says.
-use Rattle.std.proofs.Common.{◌≡◌, ℕ, zero, suc, ◌<◌, List, [], ◌∷◌, ℤ, pos, ◌+ℤ◌, ◌*ℤ◌, map, sym, ap, ◌∙◌, arith}
+use Rattle.std.proofs.Common.{◌≡◌, ℕ, zero, suc, ◌<◌, List, [], ◌∷◌, ℤ, pos, ◌+ℤ◌, ◌*ℤ◌, sym, ap, ◌∙◌, arith}
 use Rattle.std.proofs.lemmas.Int.{ints}
 use Rattle.poly_num.specs.Vectors.{Vector, ◌·◌}
 use Rattle.poly_model.specs.declared.kind.Kind.{Kind}
 use Rattle.poly_model.specs.declared.kind.Kind.TheVariants.{H, V}
-use Rattle.poly_model.specs.Independence.{Vanish}
 use Rattle.poly_model.specs.Systems.{Row, Polyhedron}
-use Rattle.poly_model.specs.Spaces.{Space, IsInside, in_front, with_constants, without_constants, cut_space, lifted, HasPoints}
+use Rattle.poly_model.specs.Spaces.{Space, IsInside, with_constants, without_constants, cut_space, lifted, HasPoints}
 use Rattle.dictionary_laws.specs.Points.{ArePhasePoints}
 use Rattle.dictionary_laws.proofs.Directions.{vanish_zero}
+use Rattle.dictionary_laws.proofs.InFront.{vanish_in_front}
 use Rattle.linear_laws.proofs.Entries.{zeros, length-zeros, IsZero-zeros}
-
-front_zero : (a x : ℤ) → x ≡ pos 0 → pos 0 *ℤ a +ℤ x ≡ pos 0
-front_zero a x e = omega (arith, ints)
-
--- rows that are 0 on the entry in front
-vanish_in_front : (gs : List Vector) (a : ℤ) (v : Vector) → Vanish gs v →
-    Vanish (map in_front gs) (a ∷ v)
-vanish_in_front [] a v h = tt
-vanish_in_front (g ∷ gs) a v h = (front_zero a (g · v) h.0, vanish_in_front gs a v h.1)
 
 point_with_constants : (n : ℕ) (rows : List Row) → 0 < n → HasPoints (with_constants n [] rows)
 point_with_constants zero rows l = absurd (omega arith)
@@ -57,7 +48,7 @@ point_of_cut : (kind : Kind) (p : Polyhedron) (fixed : List Vector) → kind ≡
 point_of_cut H p fixed e = absurd (cc)
 point_of_cut V p fixed e = point_without_constants p.n fixed _
 
-point_of_lifted : (space : Space) (start : List ℕ) → HasPoints space → HasPoints (lifted space start)
+pub point_of_lifted : (space : Space) (start : List ℕ) → HasPoints space → HasPoints (lifted space start)
 point_of_lifted space start p = record {
   vector = pos 0 ∷ p.vector;
   inside = record {

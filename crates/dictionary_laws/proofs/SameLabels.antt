@@ -1,7 +1,6 @@
 -- Cobases and dictionaries go by the labels of the key and not by their order, and a cobasis has at
 -- most one dictionary.
-use Rattle.std.proofs.Common.{◌≡◌, ◌≢◌, ℕ, ◌⊎◌, inl, inr, List, [], ℤ, pos, ◌+ℤ◌, ◌*ℤ◌, sym, ap, subst, ◌∙◌, ⊎_elim, arith}
-use lib.IntN.{ℤ_discrete}
+use Rattle.std.proofs.Common.{◌≡◌, ◌≢◌, ℕ, List, [], ℤ, pos, ◌+ℤ◌, ◌*ℤ◌, sym, ap, subst, ◌∙◌, ⊎_elim, arith}
 use Rattle.std.specs.Prelude.{◌≤ℤ◌, ◌<ℤ◌}
 use Rattle.std.specs.List.{Contains}
 use Rattle.std.proofs.lemmas.List.Elements.{All-contains, All-from_recursion}
@@ -13,17 +12,11 @@ use Rattle.poly_model.specs.Dictionaries.{Table, IsCobasis, Writes, IsDictionary
 use Rattle.dictionary_laws.specs.Keys.{AreDistinct, HaveSameLabels}
 use Rattle.dictionary_laws.specs.Numbers.{Agree}
 use Rattle.linear_laws.proofs.Members.{all_at}
+use Rattle.linear_laws.proofs.Signs.{zero_or}
 use Rattle.dictionary_laws.proofs.Members.{all_from, sum_same, sum_members}
 use Rattle.dictionary_laws.proofs.Directions.{times_zero}
 use Rattle.dictionary_laws.proofs.Duals.{Dual, dual_of, distinct, independent}
 use Rattle.dictionary_laws.proofs.Values.{terms, entries_proportional, constants_proportional}
-
-zero_or : (x : ℤ) → (x ≡ pos 0) ⊎ (x ≢ pos 0)
-zero_or x = by (ℤ_discrete x (pos 0))
-  where
-    by : Dec (x ≡ pos 0) → (x ≡ pos 0) ⊎ (x ≢ pos 0)
-    by (yes e) = inl e
-    by (no n) = inr n
 
 pub turned_round : (key other : List ℕ) → HaveSameLabels key other → HaveSameLabels other key
 turned_round key other m = record { there = m.back; back = m.there }

@@ -13,13 +13,13 @@ use Rattle.dictionary_laws.proofs.Members.{by_cases, all_from}
 use Rattle.dictionary_laws.proofs.Filters.{filter_only}
 use Rattle.linear_laws.proofs.FirstBases.{first_basis, first_unique}
 
-marked_within : (ks : List ℕ) (ms : List Bool) (k : ℕ) → Contains (marked ks ms) k → Contains ks k
-marked_within [] ms k c = c
-marked_within (x ∷ ks) [] k c = absurd (Contains-nil k c)
-marked_within (x ∷ ks) (true ∷ ms) k c =
+pub marked_only : (ks : List ℕ) (ms : List Bool) (k : ℕ) → Contains (marked ks ms) k → Contains ks k
+marked_only [] ms k c = c
+marked_only (x ∷ ks) [] k c = absurd (Contains-nil k c)
+marked_only (x ∷ ks) (true ∷ ms) k c =
     by_cases (Contains (x ∷ ks)) x (marked ks ms) (Contains-first x ks)
-    (λ j i. Contains-later j x ks (marked_within ks ms j i)) k c
-marked_within (x ∷ ks) (false ∷ ms) k c = Contains-later k x ks (marked_within ks ms k c)
+    (λ j i. Contains-later j x ks (marked_only ks ms j i)) k c
+marked_only (x ∷ ks) (false ∷ ms) k c = Contains-later k x ks (marked_only ks ms k c)
 
 module _ (space : Space) where
   -- vectors at which the rows are 0 are directions at which the labels are
@@ -84,7 +84,7 @@ module _ (space : Space) where
     labels = All-from_recursion (Contains space.labels) key
         (all_from (Contains space.labels) key
         (λ k c. (filter_only is_row space.labels k
-        (marked_within (filter is_row space.labels) h.marks k c)).0));
+        (marked_only (filter is_row space.labels) h.marks k c)).0));
     independent = marked_independent [] (space.infinity ∷ space.fixed)
         (filter is_row space.labels) h.marks stand_at_first h.first;
     enough = λ z d v. rows z d

@@ -21,6 +21,14 @@ terms space t i y k = t.entry i k *ℤ (space.form k · y)
 pub level_value : (c x s v : ℤ) → x ≡ pos 0 → v ≡ c *ℤ x +ℤ s → v ≡ s
 level_value c x s v e f = let a = ap (λ (t : ℤ). c *ℤ t) e ∙ mul_zero c in omega (arith, lin)
 
+-- what is added is 0
+pub no_sum : (v a s : ℤ) → v ≡ a +ℤ s → s ≡ pos 0 → v ≡ a
+no_sum v a s e z = omega (arith, lin)
+
+-- x times the value is the entry times x
+pub value_by_factor : (x e v a c : ℤ) → x ≢ pos 0 → e *ℤ v ≡ x *ℤ a → e *ℤ v ≡ c *ℤ x → a ≡ c
+value_by_factor x e v a c n h k = cancel x a c n (sym h ∙ k ∙ mul_comm c x)
+
 same_factor : (d e v : ℤ) → v ≢ pos 0 → d *ℤ v ≡ e *ℤ v → e ≡ d
 same_factor d e v n h = cancel v e d n (mul_comm v e ∙ sym h ∙ mul_comm d v)
 

@@ -1,5 +1,5 @@
 -- Spaces in which nothing is fixed, the key of their coordinates, and its dictionary.
-use Rattle.std.specs.Prelude.{◌≡◌, ℕ, suc, ◌<◌, ◌≤◌, ◌-◌, pos, List, [], map, length}
+use Rattle.std.specs.Prelude.{◌≡◌, ℕ, suc, ◌<◌, ◌-◌, pos, List, [], map, length}
 use Rattle.std.specs.List.{All, Contains, range_with_len}
 use Rattle.poly_model.specs.declared.kind.Kind.{Kind}
 use Rattle.poly_model.specs.declared.kind.Kind.TheVariants.{H, V}
@@ -7,7 +7,7 @@ use Rattle.poly_model.specs.Keys.{IsAscending}
 use Rattle.poly_model.specs.Systems.{Polyhedron}
 use Rattle.poly_model.specs.Cones.{at, coordinate}
 use Rattle.poly_model.specs.Spaces.{Space, cone_space, prepare_space}
-use Rattle.poly_model.specs.Labels.{coordinate_label}
+use Rattle.poly_model.specs.Labels.{coordinate_label, IsCoordinate}
 use Rattle.poly_model.specs.Dictionaries.{Table}
 use Rattle.dictionary_laws.specs.Keys.{AreDistinct, place_in}
 
@@ -48,4 +48,4 @@ pub record ArePhaseCoordinates (p : Polyhedron) : Type 0 where
 pub record AreCoordinateLabels (key : List ℕ) : Type 0 where
   pub ascending : IsAscending key
   pub distinct : AreDistinct key
-  pub coordinates : (k : ℕ) → Contains key k → 8192 ≤ k
+  pub coordinates : (k : ℕ) → Contains key k → IsCoordinate k

@@ -12,17 +12,18 @@ pub record CanExchange (space : Space) (key : List ℕ) (t : Table) (r s : ℕ) 
   pub inside : Contains key s
   pub nonzero : t.entry r s ≢ pos 0
 
--- the entry at (i, j) when r has taken the place of s, before any sign is turned
-abbrev pub exchanged_entry : Table → ℕ → ℕ → ℕ → ℕ → ℤ
-exchanged_entry t r s i j =
-    if j == r then t.entry i s *ℤ t.denominator
-    else (t.entry i j *ℤ t.entry r s -ℤ t.entry i s *ℤ t.entry r j)
+module _ (t : Table) (r s : ℕ) where
+  -- the entry at (i, j) when r has taken the place of s, before any sign is turned
+  abbrev pub exchanged_entry : ℕ → ℕ → ℤ
+  exchanged_entry i j =
+      if j == r then t.entry i s *ℤ t.denominator
+      else (t.entry i j *ℤ t.entry r s -ℤ t.entry i s *ℤ t.entry r j)
 
--- the numbers when r has taken the place of s, signs turned where the entry at (r, s) is negative
-abbrev pub exchanged : Table → ℕ → ℕ → Table
-exchanged t r s = record {
-  denominator = turned_by (t.entry r s) (t.denominator *ℤ t.entry r s);
-  constant = λ i.
-      turned_by (t.entry r s) (t.constant i *ℤ t.entry r s -ℤ t.entry i s *ℤ t.constant r);
-  entry = λ i j. turned_by (t.entry r s) (exchanged_entry t r s i j);
-}
+  -- the numbers when r has taken the place of s, signs turned where the entry at (r, s) is negative
+  abbrev pub exchanged : Table
+  exchanged = record {
+    denominator = turned_by (t.entry r s) (t.denominator *ℤ t.entry r s);
+    constant = λ i.
+        turned_by (t.entry r s) (t.constant i *ℤ t.entry r s -ℤ t.entry i s *ℤ t.constant r);
+    entry = λ i j. turned_by (t.entry r s) (exchanged_entry i j);
+  }

@@ -7,6 +7,7 @@ use Rattle.poly_model.specs.Spaces.{Space, IsStartCobasis, prepare_space, HasPoi
 use Rattle.poly_model.specs.Dictionaries.{Table, IsCobasis, Writes, IsDictionary}
 use Rattle.dictionary_laws.specs.Keys.{AreDistinct, HaveSameLabels, Exchanges}
 use Rattle.poly_model.specs.Equations.{HasPointOn}
+use Rattle.poly_model.specs.Labels.{IsRow}
 use Rattle.dictionary_laws.specs.Points.{AreSettled, RowsDetermine, ArePhasePoints}
 use Rattle.dictionary_laws.specs.Numbers.{IsOwnRow, Agree, DividesNumbers, DividesOutside, ArePrimitive, IsGcdOfNumbers, divided}
 use Rattle.dictionary_laws.specs.Exchange.{CanExchange, exchanged}
@@ -142,5 +143,5 @@ CoordinateKeys = (j n : ℕ) → AreCoordinateLabels (coordinate_key j n)
 -- up to a common divisor. No label of a row may be that of a coordinate
 abbrev pub MainDictionary : Type 0
 MainDictionary =
-    (p : Polyhedron) (free key : List ℕ) (t : Table) → length p.rows < 8192 →
+    (p : Polyhedron) (free key : List ℕ) (t : Table) → IsRow (length p.rows) →
     IsDictionary (prepare_space p) key t → CanEnterMain p free key t → EntersMain p free key t

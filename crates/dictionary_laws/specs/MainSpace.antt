@@ -1,11 +1,11 @@
 -- From the space of the file's rows to the main space, where the equations hold and the free
 -- coordinates are 0.
-use Rattle.std.specs.Prelude.{ℕ, ◌-◌, Bool, not, if◌then◌else◌, List}
+use Rattle.std.specs.Prelude.{ℕ, Bool, not, if◌then◌else◌, List}
 use Rattle.std.specs.List.{Contains, filter}
 use Rattle.poly_model.specs.FreeColumns.{AreFreeColumns}
 use Rattle.poly_model.specs.Systems.{row_of, Polyhedron, cone_of}
 use Rattle.poly_model.specs.Spaces.{is_member, prepare_space, main_space, HasPoints}
-use Rattle.poly_model.specs.Labels.{coordinate_label, is_row}
+use Rattle.poly_model.specs.Labels.{coordinate_label, is_row, coordinate_index}
 use Rattle.poly_model.specs.Dictionaries.{Table, IsCobasis, Writes}
 use Rattle.poly_model.specs.Equations.{HasPointOn, equation_labels}
 use Rattle.dictionary_laws.specs.Points.{AreSettled}
@@ -13,7 +13,7 @@ use Rattle.dictionary_laws.specs.Points.{AreSettled}
 -- a label of the key stays: it is neither that of an equation nor that of a free coordinate
 abbrev pub stays : Polyhedron → List ℕ → ℕ → Bool
 stays p free k =
-    if is_row k then not (row_of (cone_of p).rows k).linear else not (is_member (k - 8192) free)
+    if is_row k then not (row_of (cone_of p).rows k).linear else not (is_member (coordinate_index k) free)
 
 -- at this dictionary of the file's rows the main space can be entered: every free coordinate is in the
 -- key, no equation can enter it for a label that is none, and the equations have a common point

@@ -1,17 +1,16 @@
 -- The numbers of a column are, over the denominator, the values of the coordinates at a direction along
 -- its label, and at the point.
-use Rattle.std.proofs.Common.{◌≡◌, ◌≢◌, ℕ, Bool, true, false, cond, ℤ, pos, ◌+ℤ◌, ◌*ℤ◌, refl, sym, ap, subst, ◌∙◌, arith}
+use Rattle.std.proofs.Common.{◌≡◌, ◌≢◌, ℕ, Bool, true, false, cond, ℤ, pos, ◌*ℤ◌, refl, sym, ap, subst, ◌∙◌}
 use Rattle.std.specs.Prelude.{◌==◌, if◌then◌else◌}
 use Rattle.std.specs.List.{Contains}
 use Rattle.std.proofs.lemmas.Bool.{cond-false, ne_eqb}
 use Rattle.poly_num.specs.Vectors.{Vector, ◌·◌}
-use Rattle.poly_num.proofs.Ring.{lin}
 use Rattle.poly_model.specs.Spaces.{Space, is_member}
 use Rattle.poly_model.specs.Labels.{coordinate_label, constant_label}
 use Rattle.poly_model.specs.Dictionaries.{Table, sum_over}
 use Rattle.dictionary_laws.proofs.Members.{sum_zero}
 use Rattle.dictionary_laws.proofs.Directions.{times_zero, zero_times}
-use Rattle.dictionary_laws.proofs.Values.{terms, value_along}
+use Rattle.dictionary_laws.proofs.Values.{terms, value_along, no_sum}
 use Rattle.dictionary_laws.proofs.Filters.{member_only}
 use Rattle.dictionary.specs.Views.{Dictionary, IsDictionaryIn, table_of}
 use Rattle.hull_lift.specs.Facets.{number_in, infinity_in, coordinate_in}
@@ -28,9 +27,6 @@ either : (b : Bool) (e x : ℤ) (f g y : Vector) (a c : ℤ) → (b ≡ true →
     e *ℤ (cond b f g · y) ≡ cond b a c *ℤ x
 either true e x f g y a c h k = h refl
 either false e x f g y a c h k = k refl
-
-no_sum : (v a s : ℤ) → v ≡ a +ℤ s → s ≡ pos 0 → v ≡ a
-no_sum v a s e z = omega (arith, lin)
 
 module _ (space : Space) (d : Dictionary) (is : IsDictionaryIn space d) where
   -- the value of coordinate j at y is its number in the column of col, times x

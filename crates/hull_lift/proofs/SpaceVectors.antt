@@ -1,11 +1,10 @@
 -- The vectors of the spaces of the phases, over the coordinates of the cone.
-use Rattle.std.proofs.Common.{◌≡◌, ◌≢◌, ℕ, zero, suc, ◌+◌, ◌-◌, ◌≤◌, ◌<◌, true, false, List, [], ◌∷◌, ◌++◌, ℤ, map, length, refl, sym, ap, subst, ◌∙◌, ⊎_elim, arith}
+use Rattle.std.proofs.Common.{◌≡◌, ◌≢◌, ℕ, zero, suc, ◌+◌, ◌-◌, ◌≤◌, ◌<◌, true, false, List, [], ◌∷◌, ◌++◌, map, length, refl, sym, ap, subst, ◌∙◌, ⊎_elim, arith}
 use Rattle.std.specs.Prelude.{not}
 use Rattle.std.specs.List.{Contains, filter, range_with_len}
 use Rattle.std.proofs.lemmas.Bool.{le-ltb, ltb-true, cond-true, cond-false, cond_both, cases_Bool}
 use Rattle.std.proofs.lemmas.List.Elements.{Contains-append_right, Contains-append_cases}
 use Rattle.poly_num.specs.Vectors.{Vector, ◌·◌}
-use Rattle.poly_num.proofs.Ring.{lin, zero_mul}
 use Rattle.poly_model.specs.declared.kind.Kind.{Kind}
 use Rattle.poly_model.specs.declared.kind.Kind.TheVariants.{H, V}
 use Rattle.poly_model.specs.declared.overflow.Phase.{Phase}
@@ -16,9 +15,10 @@ use Rattle.poly_model.specs.Spaces.{Space, IsInside, IsSpaceOf, is_left, is_memb
 use Rattle.poly_model.specs.Labels.{coordinates_from, is_row, coordinate_label, coordinate_index}
 use Rattle.linear_laws.proofs.Entries.{coordinate_reads}
 use Rattle.dictionary_laws.specs.Coordinates.{first_coordinate}
-use Rattle.dictionary_laws.proofs.Filters.{filter_only, filter_kept, range_only, range_has, map_only, map_has, member_has}
+use Rattle.dictionary_laws.proofs.Filters.{filter_only, filter_kept, range_only, range_has, map_only, map_has, member_has, coordinate_is_label}
 use Rattle.dictionary_laws.proofs.CoordinateSpaces.{coordinate_form}
-use Rattle.dictionary.proofs.ConeRows.{row_in_cone}
+use Rattle.dictionary_laws.proofs.InFront.{with_front}
+use Rattle.dictionary_laws.proofs.MainRows.{row_in_cone}
 use Rattle.hull_lift.proofs.ColumnNumbers.{form_of_coordinate}
 
 -- y over the coordinates of the cone: the coordinates and labels of the space have their values there
@@ -30,14 +30,7 @@ pub record IsOver (p : Polyhedron) (space : Space) (y : Vector) : Type 0 where
 
 -- ---- labels
 
--- coordinate j is a label, from the first on
-pub coordinate_is_label : (m first n j : ℕ) → first ≤ j → j < n → Contains (labels_of m first n) (coordinate_label j)
-coordinate_is_label m first n j l h =
-    Contains-append_right (range_with_len 1 m) (map coordinate_label (range_with_len first (n - first)))
-    (coordinate_label j)
-    (map_has coordinate_label (range_with_len first (n - first)) j (range_has first (n - first) j l (omega arith)))
-
--- it is left, since it is no row
+-- the label of a coordinate is left, since it is no row
 coordinate_is_left : (rows : List Row) (j : ℕ) → is_left rows (coordinate_label j) ≡ true
 coordinate_is_left rows j =
     cond-false (is_row (coordinate_label j)) (not (row_of rows (coordinate_label j)).linear) true
@@ -81,10 +74,6 @@ with_labels space labels = record space { labels = labels }
 -- the coordinates from the first on are among them
 abbrev pub HasFrom : ℕ → ℕ → List ℕ → Type 0
 HasFrom first n labels = (j : ℕ) → first ≤ j → j < n → Contains labels (coordinate_label j)
-
--- a form with 0 in front has the value of the form behind it
-pub with_front : (g : Vector) (x : ℤ) (v : Vector) → in_front g · (x ∷ v) ≡ g · v
-with_front g x v = omega (arith, lin, zero_mul x)
 
 module _ (p : Polyhedron) (fixed : List Vector) (labels : List ℕ) where
   abbrev vectors : Space

@@ -5,7 +5,7 @@ use Rattle.poly_num.specs.Vectors.{Vector, ◌·◌, scale}
 use Rattle.poly_num.proofs.Ring.{lin, mul_comm, mul_zero, zero_mul}
 use Rattle.poly_num.proofs.Order.{zero_factor}
 use Rattle.poly_model.specs.Independence.{Vanish}
-use Rattle.linear_laws.specs.Frames.{Column, rows_of, expand, AreApart, AreDual, IsInside, IsFrameOn, RowsVanish, EntriesVanish}
+use Rattle.linear_laws.specs.Frames.{Column, rows_of, expand, AreApart, AreDual, IsVectorOn, IsFrameOn, RowsVanish, EntriesVanish}
 use Rattle.linear_laws.proofs.AllLemmas.{all_out, all_in, all_right, all_weaker}
 use Rattle.linear_laws.proofs.Proportions.{multiples_from_values}
 
@@ -36,7 +36,7 @@ pub frame_out : {n : ℕ} {fixed : List Vector} {D : ℤ} (ls : List Column) (c 
     IsFrameOn n fixed D (ls ++ c ∷ bs) → IsFrameOn n fixed D (c ∷ ls ++ bs)
 frame_out {n} {fixed} {D} ls c bs f = record {
   nonzero = f.nonzero;
-  inside = all_out (λ c. IsInside n fixed c.dual) ls c bs f.inside;
+  inside = all_out (λ c. IsVectorOn n fixed c.dual) ls c bs f.inside;
   duals = dual_out D ls c bs f.duals;
   expands = λ g y l. f.expands g y l ∙ expand-out g y ls c bs;
 }
@@ -45,7 +45,7 @@ pub frame_in : {n : ℕ} {fixed : List Vector} {D : ℤ} (ls : List Column) (c :
     IsFrameOn n fixed D (c ∷ ls ++ bs) → IsFrameOn n fixed D (ls ++ c ∷ bs)
 frame_in {n} {fixed} {D} ls c bs f = record {
   nonzero = f.nonzero;
-  inside = all_in (λ c. IsInside n fixed c.dual) ls c bs f.inside;
+  inside = all_in (λ c. IsVectorOn n fixed c.dual) ls c bs f.inside;
   duals = dual_in D ls c bs f.duals;
   expands = λ g y l. f.expands g y l ∙ sym (expand-out g y ls c bs);
 }
@@ -89,7 +89,7 @@ expand-append g y (a ∷ ls) bs = omega (arith, lin, expand-append g y ls bs)
 -- ---- what follows from a frame
 -- a vector at which all rows but the first are 0 is a multiple of the first dual vector
 pub along_first : {n : ℕ} {fixed : List Vector} {D : ℤ} {c : Column} {cs : List Column} →
-    IsFrameOn n fixed D (c ∷ cs) → (y : Vector) → IsInside n fixed y → RowsVanish cs y →
+    IsFrameOn n fixed D (c ∷ cs) → (y : Vector) → IsVectorOn n fixed y → RowsVanish cs y →
     scale D y ≡ scale (c.row · y) c.dual
 along_first {n} {fixed} {D} {c} {cs} f y i h =
     multiples_from_values D (c.row · y) y c.dual (i.0 ∙ sym f.inside.0.0)
@@ -100,13 +100,13 @@ along_first {n} {fixed} {D} {c} {cs} f y i h =
 
 -- every form is 0 at a vector at which all rows are
 pub zero_where_rows : {n : ℕ} {fixed : List Vector} {D : ℤ} {cs : List Column} → IsFrameOn n fixed D cs →
-    (y : Vector) → IsInside n fixed y → RowsVanish cs y → (g : Vector) → g · y ≡ pos 0
+    (y : Vector) → IsVectorOn n fixed y → RowsVanish cs y → (g : Vector) → g · y ≡ pos 0
 zero_where_rows {n} {fixed} {D} {cs} f y i h g =
     zero_factor D (g · y) (f.expands g y i ∙ expand_rows_zero g y cs h) f.nonzero
 
 -- a form is 0 at y where its entries are 0 in some columns and the rows of the others are 0 at y
 pub zero_in_parts : {n : ℕ} {fixed : List Vector} {D : ℤ} (ls bs : List Column) →
-    IsFrameOn n fixed D (ls ++ bs) → (g y : Vector) → IsInside n fixed y → EntriesVanish g ls →
+    IsFrameOn n fixed D (ls ++ bs) → (g y : Vector) → IsVectorOn n fixed y → EntriesVanish g ls →
     RowsVanish bs y → g · y ≡ pos 0
 zero_in_parts {n} {fixed} {D} ls bs f g y i h k = zero_factor D (g · y) sum_is f.nonzero
   where

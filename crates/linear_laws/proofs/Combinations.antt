@@ -1,10 +1,10 @@
 -- The combination p u + q v: its value at a form, its width, and the rows that are 0 at it.
-use Rattle.std.proofs.Common.{◌≡◌, ℕ, ℤ, pos, ◌+ℤ◌, ◌*ℤ◌, List, [], ◌∷◌, length, sym, ap, ◌∙◌, arith}
+use Rattle.std.proofs.Common.{◌≡◌, ℕ, ℤ, pos, ◌+ℤ◌, ◌*ℤ◌, List, [], ◌∷◌, length, sym, ap, ◌∙◌, arith, neg_ℤ}
 use Rattle.poly_num.specs.Vectors.{Vector, ◌·◌, scale, sum_of}
-use Rattle.poly_num.proofs.Ring.{lin, mul_zero}
+use Rattle.poly_num.proofs.Ring.{expand, lin, mul_zero}
 use Rattle.poly_num.proofs.VectorLemmas.{dot-sum, dot-scale, length-scale, length-sum}
 use Rattle.poly_model.specs.Independence.{Vanish}
-use Rattle.linear_laws.specs.Frames.{IsInside}
+use Rattle.linear_laws.specs.Frames.{IsVectorOn}
 
 -- p u + q v
 abbrev pub combination : ℤ → Vector → ℤ → Vector → Vector
@@ -25,6 +25,10 @@ zero_combination p x q y e f =
     let b = ap (λ t. q *ℤ t) f ∙ mul_zero q in
     omega (arith, lin)
 
+-- the multiples of two vectors whose values at one form cancel
+pub cancels : (v x : ℤ) → v *ℤ x +ℤ neg_ℤ x *ℤ v ≡ pos 0
+cancels v x = simp expand (omega (arith, lin))
+
 pub vanish_combination : (gs : List Vector) (p : ℤ) (u : Vector) (q : ℤ) (v : Vector) →
     Vanish gs u → Vanish gs v → Vanish gs (combination p u q v)
 vanish_combination [] p u q v h k = tt
@@ -34,14 +38,17 @@ vanish_combination (g ∷ gs) p u q v h k = (
 )
 
 pub inside_combination : (n : ℕ) (fixed : List Vector) (p : ℤ) (u : Vector) (q : ℤ) (v : Vector) →
-    IsInside n fixed u → IsInside n fixed v → IsInside n fixed (combination p u q v)
+    IsVectorOn n fixed u → IsVectorOn n fixed v → IsVectorOn n fixed (combination p u q v)
 inside_combination n fixed p u q v h k =
     (length-combination n p u q v h.0 k.0, vanish_combination fixed p u q v h.1 k.1)
 
+pub zero_at_scale : (g : Vector) (p : ℤ) (v : Vector) → g · v ≡ pos 0 → g · scale p v ≡ pos 0
+zero_at_scale g p v e = dot-scale g p v ∙ ap (λ t. p *ℤ t) e ∙ mul_zero p
+
 pub vanish_scale : (gs : List Vector) (p : ℤ) (v : Vector) → Vanish gs v → Vanish gs (scale p v)
 vanish_scale [] p v h = tt
-vanish_scale (g ∷ gs) p v h = (dot-scale g p v ∙ ap (λ t. p *ℤ t) h.0 ∙ mul_zero p, vanish_scale gs p v h.1)
+vanish_scale (g ∷ gs) p v h = (zero_at_scale g p v h.0, vanish_scale gs p v h.1)
 
 pub inside_scale : (n : ℕ) (fixed : List Vector) (p : ℤ) (v : Vector) →
-    IsInside n fixed v → IsInside n fixed (scale p v)
+    IsVectorOn n fixed v → IsVectorOn n fixed (scale p v)
 inside_scale n fixed p v h = (length-scale p v ∙ h.0, vanish_scale fixed p v h.1)

@@ -6,7 +6,7 @@ use Rattle.std.specs.List.{AllByRecursion}
 use Rattle.poly_num.specs.Vectors.{Vector, ◌·◌}
 use Rattle.poly_num.proofs.Ring.{lin, mul_zero, zero_mul, mul_one, one_mul, add_zero}
 use Rattle.poly_num.proofs.VectorLemmas.{dot_comm, dot-nil}
-use Rattle.linear_laws.specs.Frames.{Column, expand, AreApart, AreDual, IsInside, IsFrame}
+use Rattle.linear_laws.specs.Frames.{Column, expand, AreApart, AreDual, IsVectorOn, IsFrame}
 use Rattle.linear_laws.proofs.Entries.{zeros, length-zeros, zeros-dot}
 
 -- the column with an entry 0 more in front
@@ -40,8 +40,8 @@ expand-shifted a g x y (c ∷ cs) =
     ∙ ap (λ s. (g · c.dual) *ℤ s +ℤ expand (map shifted cs) (a ∷ g) (x ∷ y)) (zero_in_row x c.row y)
     ∙ ap (λ s. (g · c.dual) *ℤ (c.row · y) +ℤ s) (expand-shifted a g x y cs)
 
-shifted_inside : (n : ℕ) (cs : List Column) → AllByRecursion (λ c. IsInside n [] c.dual) cs →
-    AllByRecursion (λ c. IsInside (suc n) [] c.dual) (map shifted cs)
+shifted_inside : (n : ℕ) (cs : List Column) → AllByRecursion (λ c. IsVectorOn n [] c.dual) cs →
+    AllByRecursion (λ c. IsVectorOn (suc n) [] c.dual) (map shifted cs)
 shifted_inside n [] w = tt
 shifted_inside n (c ∷ cs) w = ((ap suc w.0.0, tt), shifted_inside n cs w.1)
 
@@ -97,7 +97,7 @@ coordinates_frame n = record {
   expands = λ g y i. expands_coordinates n g y i.0;
 }
   where
-    inside : (n : ℕ) → AllByRecursion (λ c. IsInside n [] c.dual) (coordinates n)
+    inside : (n : ℕ) → AllByRecursion (λ c. IsVectorOn n [] c.dual) (coordinates n)
     inside zero = tt
     inside (suc n) = ((ap suc (length-zeros n), tt), shifted_inside n (coordinates n) (inside n))
 

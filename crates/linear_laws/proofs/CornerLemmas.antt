@@ -2,11 +2,11 @@
 --
 -- Where two slots are left after the rows that are tight at the vector, it is moved along a combination
 -- of their dual vectors. At the end it is alone on what is tight at it.
-use Rattle.std.proofs.Common.{◌≡◌, ◌≢◌, ◌⊎◌, inl, inr, ⊎_elim, ℕ, zero, suc, ◌<◌, ℤ, pos, ◌+ℤ◌, ◌*ℤ◌, neg_ℤ, ◌<ℤ◌, List, [], ◌∷◌, ◌++◌, length, refl, sym, ap, ◌∙◌, arith}
+use Rattle.std.proofs.Common.{◌≡◌, ◌≢◌, ◌⊎◌, inl, inr, ⊎_elim, ℕ, zero, suc, ◌<◌, pos, ◌*ℤ◌, neg_ℤ, ◌<ℤ◌, List, [], ◌∷◌, ◌++◌, length, refl, sym, ap, ◌∙◌, arith}
 use Rattle.std.proofs.lemmas.Int.{ints}
 use lib.IntN.{ℤ_discrete}
 use Rattle.poly_num.specs.Vectors.{Vector, ◌·◌, scale, IsZero}
-use Rattle.poly_num.proofs.Ring.{expand, lin, mul_zero}
+use Rattle.poly_num.proofs.Ring.{lin, mul_zero}
 use Rattle.poly_num.proofs.Order.{mul_nonzero, positive_nonzero}
 use Rattle.poly_num.proofs.VectorLemmas.{scale-one}
 use Rattle.poly_model.specs.Independence.{Vanish, taken}
@@ -14,7 +14,7 @@ use Rattle.linear_laws.specs.Frames.{Column, IsFrame}
 use Rattle.linear_laws.specs.Corners.{IsInConeOf, IsPointed, IsOnTight, IsAloneOnTight, IsCorner}
 use Rattle.linear_laws.proofs.AllLemmas.{all_left, all_right, all_both}
 use Rattle.linear_laws.proofs.Proportions.{not_zero_by_form}
-use Rattle.linear_laws.proofs.Combinations.{combination, dot-combination, length-combination, zero_combination, vanish_combination}
+use Rattle.linear_laws.proofs.Combinations.{combination, dot-combination, length-combination, zero_combination, vanish_combination, cancels}
 use Rattle.linear_laws.proofs.Elimination.{Eliminated, eliminate_all}
 use Rattle.linear_laws.proofs.FirstBases.{taken_enough, taken_of}
 use Rattle.linear_laws.proofs.Alone.{zero_from_none, alone_from_one, two_frame, vanish_at_first, vanish_at_second, alone_from_taken}
@@ -57,9 +57,6 @@ module _ (n : ℕ) (fixed rows : List Vector) (h : Vector) where
         level : Vector
         level = combination (h · d.dual) c.dual (neg_ℤ (h · c.dual)) d.dual
 
-        cancels : (a b : ℤ) → b *ℤ a +ℤ neg_ℤ a *ℤ b ≡ pos 0
-        cancels a b = simp expand (omega (arith, lin))
-
         on_tight : (ks : List Vector) → IsOnTight y ks c.dual → IsOnTight y ks d.dual → IsOnTight y ks level
         on_tight [] a b = tt
         on_tight (k ∷ ks) a b = (
@@ -91,7 +88,7 @@ module _ (n : ℕ) (fixed rows : List Vector) (h : Vector) where
           width = length-combination n (h · d.dual) c.dual (neg_ℤ (h · c.dual)) d.dual f.inside.0.0 f.inside.1.0.0;
           vanishing = vanish_combination fixed (h · d.dual) c.dual (neg_ℤ (h · c.dual)) d.dual at_first.0 at_second.0;
           on_tight = on_tight rows at_first.1 at_second.1;
-          flat = dot-combination h (h · d.dual) c.dual (neg_ℤ (h · c.dual)) d.dual ∙ cancels (h · c.dual) (h · d.dual);
+          flat = dot-combination h (h · d.dual) c.dual (neg_ℤ (h · c.dual)) d.dual ∙ cancels (h · d.dual) (h · c.dual);
           not_zero = not_zero_by_form d.row level
               (λ z. mul_nonzero (neg_ℤ (h · c.dual)) e.reached.D (turned_nonzero k) f.nonzero (sym value ∙ z));
         })

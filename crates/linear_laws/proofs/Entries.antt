@@ -66,3 +66,11 @@ pub within_from_entry : (v : Vector) (j : ℕ) → at j v ≢ pos 0 → j < leng
 within_from_entry [] j n = absurd (n (at-nil j))
 within_from_entry (x ∷ v) zero n = omega arith
 within_from_entry (x ∷ v) (suc j) n = let h : j < length v = within_from_entry v j n in omega arith
+
+-- what holds of each (a, b, c) holds of each vector of width 3
+pub by_three : (P : Vector → Type 0) → ((a b c : ℤ) → P (a ∷ b ∷ c ∷ [])) → (z : Vector) → length z ≡ 3 → P z
+by_three P h [] w = absurd (omega arith)
+by_three P h (a ∷ []) w = absurd (omega arith)
+by_three P h (a ∷ b ∷ []) w = absurd (omega arith)
+by_three P h (a ∷ b ∷ c ∷ []) w = h a b c
+by_three P h (a ∷ b ∷ c ∷ x ∷ z) w = absurd (omega arith)

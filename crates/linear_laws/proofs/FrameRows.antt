@@ -7,7 +7,7 @@ use Rattle.std.specs.List.{AllByRecursion}
 use Rattle.poly_num.specs.Vectors.{Vector, ◌·◌, scale}
 use Rattle.poly_num.proofs.Ring.{lin}
 use Rattle.poly_model.specs.Independence.{Vanish}
-use Rattle.linear_laws.specs.Frames.{Column, rows_of, AreApart, AreDual, IsInside, IsFrameOn, IsFrame, RowsVanish}
+use Rattle.linear_laws.specs.Frames.{Column, rows_of, AreApart, AreDual, IsVectorOn, IsFrameOn, IsFrame, RowsVanish}
 use Rattle.linear_laws.specs.NewRows.{AreNew}
 use Rattle.linear_laws.proofs.AllLemmas.{all_right, all_always}
 use Rattle.linear_laws.proofs.Columns.{rows_vanish_at, vanish_from_columns, columns_from_vanish, expand-append, expand_rows_zero, along_first, zero_where_rows}
@@ -16,7 +16,7 @@ use Rattle.linear_laws.proofs.FirstBases.{reach}
 
 -- ---- the rows of a frame
 new_rows : (n : ℕ) (fixed : List Vector) (D : ℤ) (cs : List Column) → D ≢ pos 0 →
-    AllByRecursion (λ c. IsInside n fixed c.dual) cs → AreDual D cs → AreNew n (rows_of cs)
+    AllByRecursion (λ c. IsVectorOn n fixed c.dual) cs → AreDual D cs → AreNew n (rows_of cs)
 new_rows n fixed D [] nz w d = tt
 new_rows n fixed D (c ∷ cs) nz w d = (
   (c.dual, w.0.0, vanish_from_columns cs c.dual (rows_vanish_at c cs d.1), λ e. nz (sym d.0 ∙ e)),
@@ -92,7 +92,7 @@ pub frame_restricted : (n : ℕ) (fixed more : List Vector) (D : ℤ) (bs cs : L
 frame_restricted n fixed more D bs cs f same = record {
   nonzero = f.nonzero;
   inside =
-      lie_inside cs (all_right (λ c. IsInside n fixed c.dual) bs cs f.inside)
+      lie_inside cs (all_right (λ c. IsVectorOn n fixed c.dual) bs cs f.inside)
       (earlier_rows_vanish D bs cs f.duals);
   duals = dual_right D bs cs f.duals;
   expands = λ g y i.
@@ -101,8 +101,8 @@ frame_restricted n fixed more D bs cs f same = record {
       omega (arith, lin, expand_rows_zero g y bs (columns_from_vanish bs y w.1));
 }
   where
-    lie_inside : (es : List Column) → AllByRecursion (λ c. IsInside n fixed c.dual) es →
-        AllByRecursion (λ c. RowsVanish bs c.dual) es → AllByRecursion (λ c. IsInside n more c.dual) es
+    lie_inside : (es : List Column) → AllByRecursion (λ c. IsVectorOn n fixed c.dual) es →
+        AllByRecursion (λ c. RowsVanish bs c.dual) es → AllByRecursion (λ c. IsVectorOn n more c.dual) es
     lie_inside [] h k = tt
     lie_inside (e ∷ es) h k =
         ((h.0.0, (same e.dual h.0.0).1 (h.0.1, vanish_from_columns bs e.dual k.0)), lie_inside es h.1 k.1)

@@ -10,7 +10,7 @@ use Rattle.poly_model.specs.Independence.{Vanish}
 use Rattle.linear_laws.specs.Frames.{Column, expand, RowsVanish}
 use Rattle.poly_model.specs.Cones.{at, coordinate}
 use Rattle.linear_laws.specs.Slots.{IsSlot, AreSlots}
-use Rattle.linear_laws.specs.FreeColumns.{IsFreeColumn, AreFreeColumns, LeavesSlots}
+use Rattle.linear_laws.specs.FreeColumns.{IsFreeColumn, AreFreeColumnsOf, LeavesSlots}
 use Rattle.linear_laws.proofs.Members.{ascending_is_one, Contains-first, Contains-later, less_or_equal}
 use Rattle.linear_laws.proofs.Columns.{expand-append, expand_rows_zero, columns_from_vanish}
 use Rattle.linear_laws.proofs.Entries.{coordinate_reads, within_from_entry}
@@ -122,7 +122,7 @@ module _ {n : ℕ} {rows : List Vector} (j : ℕ) (f : IsFreeColumn n rows j) wh
 
 -- ---- both
 pub free_are_slots : (n : ℕ) (rows : List Vector) (columns : List ℕ) (D : ℤ) (slots rest : List Column) →
-    LeavesSlots n rows columns D slots rest → AreFreeColumns n rows columns
+    LeavesSlots n rows columns D slots rest → AreFreeColumnsOf n rows columns
 free_are_slots n rows columns D slots rest s = record {
   ascending = s.ascending;
   exactly = λ j. (λ f. slot_from_free j f s, λ m. of_slot j (slot_at columns slots s.slots_of j m));
@@ -131,8 +131,8 @@ free_are_slots n rows columns D slots rest s = record {
     of_slot : (j : ℕ) → SlotAt columns slots j → IsFreeColumn n rows j
     of_slot j w = free_from_slot w.ls w.c w.bs j w.slot (parted_at s w)
 
-pub free_columns_one_list : (n : ℕ) (rows : List Vector) (xs ys : List ℕ) → AreFreeColumns n rows xs →
-    AreFreeColumns n rows ys → xs ≡ ys
+pub free_columns_one_list : (n : ℕ) (rows : List Vector) (xs ys : List ℕ) → AreFreeColumnsOf n rows xs →
+    AreFreeColumnsOf n rows ys → xs ≡ ys
 free_columns_one_list n rows xs ys a b =
     ascending_is_one xs ys a.ascending b.ascending
     (λ k m. (b.exactly k).0 ((a.exactly k).1 m)) (λ k m. (a.exactly k).0 ((b.exactly k).1 m))

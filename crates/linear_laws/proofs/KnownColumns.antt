@@ -8,7 +8,7 @@ use Rattle.poly_num.specs.Divisors.{gcd_in, gcd_of, gcd_of_all}
 use Rattle.poly_num.proofs.PrimitiveLemmas.{primitive_from_gcd, gcd_from_primitive}
 use Rattle.poly_model.specs.Cones.{at, coordinate}
 use Rattle.linear_laws.specs.Slots.{IsSlot}
-use Rattle.linear_laws.specs.FreeColumns.{IsFreeColumn, AreFreeColumns, IsLineOf, LeavesSlots}
+use Rattle.linear_laws.specs.FreeColumns.{IsFreeColumn, AreFreeColumnsOf, IsLineOf, LeavesSlots}
 use Rattle.linear_laws.specs.Frames.{Column}
 use Rattle.linear_laws.proofs.Coordinates.{coordinates_frame}
 use Rattle.linear_laws.proofs.Entries.{at-nil, first_reads}
@@ -46,7 +46,7 @@ column_1_is_not_free f = f.nonzero (no_factor f.weights f.factor f.earlier f.com
     no_factor (x ∷ []) p l e = omega (arith, ints)
     no_factor (x ∷ y ∷ w) p l e = absurd (omega arith)
 
-free_columns : AreFreeColumns 3 rows (0 ∷ 2 ∷ [])
+free_columns : AreFreeColumnsOf 3 rows (0 ∷ 2 ∷ [])
 free_columns = record {
   ascending = ((omega arith, tt), (tt, tt));
   exactly = λ j. (listed j, free j);
@@ -65,7 +65,7 @@ free_columns = record {
         (Contains-cons_cases j 2 [] q))
         (Contains-cons_cases j 0 (2 ∷ []) m)
 
-not_the_free_columns : AreFreeColumns 3 rows (1 ∷ 2 ∷ []) → ⊥
+not_the_free_columns : AreFreeColumnsOf 3 rows (1 ∷ 2 ∷ []) → ⊥
 not_the_free_columns a = column_1_is_not_free ((a.exactly 1).1 (Contains-first 1 (2 ∷ [])))
 
 -- the line of column 2 is (0, -1, 1)

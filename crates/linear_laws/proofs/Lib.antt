@@ -1,3 +1,4 @@
+pub mod Signs
 pub mod AllLemmas
 pub mod Members
 pub mod Proportions

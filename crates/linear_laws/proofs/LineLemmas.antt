@@ -1,9 +1,9 @@
 -- Each free column has one line, which is along the dual vector of its slot.
 use Rattle.std.proofs.Common.{◌≡◌, ◌≢◌, ◌⊎◌, inl, inr, ℕ, ◌<◌, ℤ, pos, ◌+ℤ◌, ◌*ℤ◌, neg_ℤ, ◌<ℤ◌, List, ◌∷◌, ◌++◌, length, sym, ap, ◌∙◌, subst, arith}
-use Rattle.std.proofs.lemmas.Int.{ints, by_lt_z}
+use Rattle.std.proofs.lemmas.Int.{ints}
 use Rattle.poly_num.specs.Vectors.{Vector, ◌·◌, scale, IsZero, IsPrimitive}
-use Rattle.poly_num.proofs.Ring.{expand, lin, neg-mul, neg-mul-neg}
-use Rattle.poly_num.proofs.Order.{positive_nonzero, positive_product, positive_factor}
+use Rattle.poly_num.proofs.Ring.{lin, neg-mul}
+use Rattle.poly_num.proofs.Order.{positive_nonzero, positive_factor}
 use Rattle.poly_num.proofs.VectorLemmas.{dot-zero, zero_from_scale}
 use Rattle.poly_model.specs.Independence.{Vanish}
 use Rattle.linear_laws.specs.Frames.{Column}
@@ -12,11 +12,12 @@ use Rattle.linear_laws.specs.Slots.{IsSlot}
 use Rattle.linear_laws.specs.FreeColumns.{IsFreeColumn, IsLineOf, LeavesSlots}
 use Rattle.linear_laws.proofs.Members.{less_or_equal}
 use Rattle.linear_laws.proofs.Proportions.{zero_from_proportion, multiples_from_values, vanish_from_multiple, same_width}
-use Rattle.linear_laws.proofs.Combinations.{combination, dot-combination, length-combination, zero_combination, vanish_combination}
+use Rattle.linear_laws.proofs.Combinations.{combination, dot-combination, length-combination, zero_combination, vanish_combination, cancels}
 use Rattle.linear_laws.proofs.Entries.{at-scale, at-combination, at-zero}
 use Rattle.linear_laws.proofs.PrimitiveAlong.{PrimitiveOf, primitive_of, primitive_same}
 use Rattle.linear_laws.proofs.LeftSlots.{Left, elimination_leaves, SlotAt, slot_at, parted_at, zero_from_left, slot_width, slot_value, slot_vanish, slot_elsewhere}
 use Rattle.linear_laws.proofs.FreeLemmas.{free_from_slot, slot_from_free}
+use Rattle.linear_laws.proofs.Signs.{square_positive}
 
 -- ---- no line is 0 at the free columns
 pub zero_at_free : (n : ℕ) (rows : List Vector) (y : Vector) → length y ≡ n → Vanish rows y →
@@ -51,15 +52,6 @@ line_from_slot n rows columns D ls c bs rest j y p q s o prim hp hq e = record {
   where
     entry : (k : ℕ) → p *ℤ at k y ≡ q *ℤ at k c.dual
     entry k = sym (at-scale k p y) ∙ ap (λ t. at k t) e ∙ at-scale k q c.dual
-
-square_positive : (e : ℤ) → e ≢ pos 0 → pos 0 <ℤ (e *ℤ e)
-square_positive e n =
-    by_lt_z (pos 0) e (λ h. positive_product e e h h)
-    (λ h. by_lt_z e (pos 0) (λ k. subst (λ t. pos 0 <ℤ t) (neg-mul-neg e e) (turned k))
-    (λ k. absurd (n (omega (arith, lin)))))
-  where
-    turned : e <ℤ pos 0 → pos 0 <ℤ (neg_ℤ e *ℤ neg_ℤ e)
-    turned k = let h : pos 0 <ℤ neg_ℤ e = omega (arith, lin) in positive_product (neg_ℤ e) (neg_ℤ e) h h
 
 slot_not_zero : {n : ℕ} {rows : List Vector} {columns : List ℕ} {D : ℤ} {rest : List Column} (ls : List Column)
     (c : Column) (bs : List Column) (j : ℕ) → IsSlot j c → LeavesSlots n rows columns D (ls ++ c ∷ bs) rest →
@@ -102,9 +94,6 @@ one_line n rows j y z a b =
     -- the combination of the two that is 0 at j is zero
     difference : Vector
     difference = combination (at j y) z (neg_ℤ (at j z)) y
-
-    cancels : (a b : ℤ) → a *ℤ b +ℤ neg_ℤ b *ℤ a ≡ pos 0
-    cancels a b = simp expand (omega (arith, lin))
 
     at_free : (k : ℕ) → IsFreeColumn n rows k → at k difference ≡ pos 0
     at_free k f = at-combination k (at j y) z (neg_ℤ (at j z)) y ∙ by (less_or_equal k j)

@@ -33,7 +33,7 @@ less_or_equal a b = by (cases_lt a b) (cases_lt b a)
     by (inr h) (inr k) = inr (inr (omega arith))
 
 -- ---- ascending lists
-above_first : (x : ℕ) (xs : List ℕ) → IsAscending (x ∷ xs) → (k : ℕ) → Contains xs k → x < k
+pub above_first : (x : ℕ) (xs : List ℕ) → IsAscending (x ∷ xs) → (k : ℕ) → Contains xs k → x < k
 above_first x xs a k m = all_at (λ y. x < y) xs a.0 k m
 
 first_is_first : (x y : ℕ) (xs ys : List ℕ) → IsAscending (x ∷ xs) → IsAscending (y ∷ ys) →

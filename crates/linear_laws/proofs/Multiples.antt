@@ -7,8 +7,8 @@ use Rattle.poly_num.proofs.Ring.{expand as multiply_out, lin, mul_assoc, mul_zer
 use Rattle.poly_num.proofs.Order.{zero_factor, mul_nonzero, cancel}
 use Rattle.poly_num.proofs.VectorLemmas.{dot-scale, length-scale}
 use Rattle.poly_model.specs.Independence.{Vanish}
-use Rattle.linear_laws.specs.Frames.{scaled, Column, expand, AreApart, AreDual, IsInside, IsFrameOn}
-use Rattle.linear_laws.proofs.Combinations.{inside_scale}
+use Rattle.linear_laws.specs.Frames.{scaled, Column, expand, AreApart, AreDual, IsVectorOn, IsFrameOn}
+use Rattle.linear_laws.proofs.Combinations.{inside_scale, zero_at_scale}
 
 pub expand-scaled : (p : ℤ) (g y : Vector) (cs : List Column) → expand (map (scaled p) cs) g y ≡ p *ℤ expand cs g y
 expand-scaled p g y [] = sym (mul_zero p)
@@ -18,14 +18,11 @@ expand-scaled p g y (c ∷ cs) =
     rw (e, f) (simp multiply_out (omega (arith, lin)))
 
 -- ---- multiplied
-zero_scaled : (g : Vector) (p : ℤ) (v : Vector) → g · v ≡ pos 0 → g · scale p v ≡ pos 0
-zero_scaled g p v e = dot-scale g p v ∙ ap (λ t. p *ℤ t) e ∙ mul_zero p
-
 scaled_apart : (p : ℤ) (c : Column) (cs : List Column) → AllByRecursion (AreApart c) cs →
     AllByRecursion (AreApart (scaled p c)) (map (scaled p) cs)
 scaled_apart p c [] h = tt
 scaled_apart p c (e ∷ cs) h =
-    ((zero_scaled c.row p e.dual h.0.0, zero_scaled e.row p c.dual h.0.1), scaled_apart p c cs h.1)
+    ((zero_at_scale c.row p e.dual h.0.0, zero_at_scale e.row p c.dual h.0.1), scaled_apart p c cs h.1)
 
 scaled_dual : (p D : ℤ) (cs : List Column) → AreDual D cs → AreDual (p *ℤ D) (map (scaled p) cs)
 scaled_dual p D [] d = tt
@@ -33,7 +30,8 @@ scaled_dual p D (c ∷ cs) d =
     (dot-scale c.row p c.dual ∙ ap (λ t. p *ℤ t) d.0, scaled_apart p c cs d.1, scaled_dual p D cs d.2)
 
 scaled_inside : (n : ℕ) (fixed : List Vector) (p : ℤ) (cs : List Column) →
-    AllByRecursion (λ c. IsInside n fixed c.dual) cs → AllByRecursion (λ c. IsInside n fixed c.dual) (map (scaled p) cs)
+    AllByRecursion (λ c. IsVectorOn n fixed c.dual) cs →
+    AllByRecursion (λ c. IsVectorOn n fixed c.dual) (map (scaled p) cs)
 scaled_inside n fixed p [] h = tt
 scaled_inside n fixed p (c ∷ cs) h = (inside_scale n fixed p c.dual h.0, scaled_inside n fixed p cs h.1)
 
@@ -55,7 +53,8 @@ vanish_unscaled [] p v n h = tt
 vanish_unscaled (g ∷ gs) p v n h = (zero_unscaled g p v n h.0, vanish_unscaled gs p v n h.1)
 
 unscaled_inside : (n : ℕ) (fixed : List Vector) (p : ℤ) (cs : List Column) → p ≢ pos 0 →
-    AllByRecursion (λ c. IsInside n fixed c.dual) (map (scaled p) cs) → AllByRecursion (λ c. IsInside n fixed c.dual) cs
+    AllByRecursion (λ c. IsVectorOn n fixed c.dual) (map (scaled p) cs) →
+    AllByRecursion (λ c. IsVectorOn n fixed c.dual) cs
 unscaled_inside n fixed p [] nz h = tt
 unscaled_inside n fixed p (c ∷ cs) nz h = (
   (sym (length-scale p c.dual) ∙ h.0.0, vanish_unscaled fixed p c.dual nz h.0.1),

@@ -19,7 +19,7 @@ nonnegative_product a b h k = let m = keeps_at_most a (pos 0) b h k in omega (ar
 pub nonnegative_factor : (a b : ℤ) → pos 0 <ℤ a → pos 0 ≤ℤ (a *ℤ b) → pos 0 ≤ℤ b
 nonnegative_factor a b h k = gives_at_most a (pos 0) b h (omega (arith, lin, mul_zero a))
 
-both_nonnegative : (a b : ℤ) → pos 0 ≤ℤ a → pos 0 ≤ℤ b → pos 0 ≤ℤ (a *ℤ b)
+pub both_nonnegative : (a b : ℤ) → pos 0 ≤ℤ a → pos 0 ≤ℤ b → pos 0 ≤ℤ (a *ℤ b)
 both_nonnegative a b h k =
     by_lt_z (pos 0) a (λ p. nonnegative_product a b p k)
     (λ n. let e : a ≡ pos 0 = omega (arith, lin) in rw (e, zero_mul) (omega (arith, ints)))

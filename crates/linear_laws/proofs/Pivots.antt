@@ -8,9 +8,9 @@ use Rattle.poly_num.specs.Vectors.{Vector, ◌·◌, scale}
 use Rattle.poly_num.proofs.Ring.{expand as multiply_out, lin, mul_comm, mul_zero}
 use Rattle.poly_num.proofs.Order.{mul_nonzero}
 use Rattle.poly_num.proofs.VectorLemmas.{dot-scale}
-use Rattle.linear_laws.specs.Frames.{moved, pivoted, Column, rows_of, expand, AreApart, AreDual, IsInside, IsFrameOn, RowsVanish}
+use Rattle.linear_laws.specs.Frames.{moved, pivoted, Column, rows_of, expand, AreApart, AreDual, IsVectorOn, IsFrameOn, RowsVanish}
 use Rattle.linear_laws.proofs.Columns.{rows_vanish_at}
-use Rattle.linear_laws.proofs.Combinations.{dot-combination, inside_combination, inside_scale}
+use Rattle.linear_laws.proofs.Combinations.{dot-combination, inside_combination, inside_scale, cancels}
 
 pub rows-moved : (g : Vector) (e : ℤ) (z : Vector) (cs : List Column) → rows_of (map (moved g e z) cs) ≡ rows_of cs
 rows-moved g e z [] = refl
@@ -49,14 +49,11 @@ apart_from_new : (D : ℤ) (g : Vector) (c : Column) (cs : List Column) → AllB
 apart_from_new D g c [] x = tt
 apart_from_new D g c (b ∷ cs) x = (
   (
-    dot-moved g (g · c.dual) c.dual g b ∙ gone (g · c.dual) (g · b.dual),
+    dot-moved g (g · c.dual) c.dual g b ∙ cancels (g · c.dual) (g · b.dual),
     dot-scale b.row D c.dual ∙ ap (λ t. D *ℤ t) x.0.1 ∙ mul_zero D,
   ),
   apart_from_new D g c cs x.1,
 )
-  where
-    gone : (e b : ℤ) → e *ℤ b +ℤ neg_ℤ b *ℤ e ≡ pos 0
-    gone e b = simp multiply_out (omega (arith, lin))
 
 moved_apart : (g : Vector) (e : ℤ) (z : Vector) (b : Column) (cs : List Column) → RowsVanish cs z →
     b.row · z ≡ pos 0 → AllByRecursion (AreApart b) cs →
@@ -81,8 +78,8 @@ moved_dual D g e z (c ∷ cs) rows d = (
 
 -- ---- the pivot
 moved_inside : (n : ℕ) (fixed : List Vector) (g : Vector) (e : ℤ) (z : Vector) (cs : List Column) →
-    IsInside n fixed z → AllByRecursion (λ c. IsInside n fixed c.dual) cs →
-    AllByRecursion (λ c. IsInside n fixed c.dual) (map (moved g e z) cs)
+    IsVectorOn n fixed z → AllByRecursion (λ c. IsVectorOn n fixed c.dual) cs →
+    AllByRecursion (λ c. IsVectorOn n fixed c.dual) (map (moved g e z) cs)
 moved_inside n fixed g e z [] i w = tt
 moved_inside n fixed g e z (c ∷ cs) i w =
     (inside_combination n fixed e c.dual (neg_ℤ (g · c.dual)) z w.0 i, moved_inside n fixed g e z cs i w.1)

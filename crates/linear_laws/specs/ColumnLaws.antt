@@ -5,7 +5,7 @@ use Rattle.poly_model.specs.Independence.{Vanish}
 use Rattle.linear_laws.specs.Frames.{Column}
 use Rattle.poly_model.specs.Cones.{at}
 use Rattle.linear_laws.specs.Slots.{IsSlot}
-use Rattle.linear_laws.specs.FreeColumns.{IsFreeColumn, AreFreeColumns, IsLineOf, LeavesSlots}
+use Rattle.linear_laws.specs.FreeColumns.{IsFreeColumn, AreFreeColumnsOf, IsLineOf, LeavesSlots}
 
 -- each list of rows can be eliminated
 abbrev pub EliminationLeavesSlots : Type 0
@@ -17,12 +17,12 @@ EliminationLeavesSlots = (n : ℕ) (rows : List Vector) →
 abbrev pub FreeColumnsAreTheSlots : Type 0
 FreeColumnsAreTheSlots = (n : ℕ) (rows : List Vector) (columns : List ℕ) (D : ℤ)
     (slots rest : List Column) → LeavesSlots n rows columns D slots rest →
-    AreFreeColumns n rows columns
+    AreFreeColumnsOf n rows columns
 
 -- the free columns are one list
 abbrev pub FreeColumnsAreOneList : Type 0
 FreeColumnsAreOneList = (n : ℕ) (rows : List Vector) (columns others : List ℕ) →
-    AreFreeColumns n rows columns → AreFreeColumns n rows others → columns ≡ others
+    AreFreeColumnsOf n rows columns → AreFreeColumnsOf n rows others → columns ≡ others
 
 -- each free column has one line
 abbrev pub LineIsOne : Type 0

@@ -29,17 +29,17 @@ AreDual D [] = Unit {0}
 AreDual D (c ∷ cs) = (c.row · c.dual ≡ D) × AllByRecursion (AreApart c) cs × AreDual D cs
 
 -- y has width n, and the fixed rows are 0 at it
-abbrev pub IsInside : ℕ → List Vector → Vector → Type 0
-IsInside n fixed y = (length y ≡ n) × Vanish fixed y
+abbrev pub IsVectorOn : ℕ → List Vector → Vector → Type 0
+IsVectorOn n fixed y = (length y ≡ n) × Vanish fixed y
 
 -- a frame, over the denominator D, of the space of the vectors of width n at which the fixed rows
 -- are 0: the dual vectors lie in the space, and D times the value of a form at a vector of it is the
 -- sum over the columns
 pub record IsFrameOn (n : ℕ) (fixed : List Vector) (D : ℤ) (cs : List Column) : Type 0 where
   pub nonzero : D ≢ pos 0
-  pub inside : AllByRecursion (λ c. IsInside n fixed c.dual) cs
+  pub inside : AllByRecursion (λ c. IsVectorOn n fixed c.dual) cs
   pub duals : AreDual D cs
-  pub expands : (g y : Vector) → IsInside n fixed y → D *ℤ (g · y) ≡ expand cs g y
+  pub expands : (g y : Vector) → IsVectorOn n fixed y → D *ℤ (g · y) ≡ expand cs g y
 
 -- a frame of the space of all vectors of width n
 abbrev pub IsFrame : ℕ → ℤ → List Column → Type 0

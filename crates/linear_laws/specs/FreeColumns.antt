@@ -19,7 +19,7 @@ pub record IsFreeColumn (n : ℕ) (rows : List Vector) (j : ℕ) : Type 0 where
   pub combines : AllByRecursion (λ g. factor *ℤ at j g ≡ weights · g) rows
 
 -- the columns are the free ones, ascending
-pub record AreFreeColumns (n : ℕ) (rows : List Vector) (columns : List ℕ) : Type 0 where
+pub record AreFreeColumnsOf (n : ℕ) (rows : List Vector) (columns : List ℕ) : Type 0 where
   pub ascending : IsAscending columns
   pub exactly : (j : ℕ) → IsFreeColumn n rows j ↔ Contains columns j
 

@@ -15,11 +15,11 @@ AreFirstTight n before y (g ∷ gs) (false ∷ ms) =
     (g · y ≡ pos 0 → Follows n before g) × AreFirstTight n before y gs ms
 
 -- the marked rows, in their order
-abbrev pub marked : List Vector → List Bool → List Vector
-marked [] ms = []
-marked (g ∷ gs) [] = []
-marked (g ∷ gs) (true ∷ ms) = g ∷ marked gs ms
-marked (g ∷ gs) (false ∷ ms) = marked gs ms
+abbrev pub marked_rows : List Vector → List Bool → List Vector
+marked_rows [] ms = []
+marked_rows (g ∷ gs) [] = []
+marked_rows (g ∷ gs) (true ∷ ms) = g ∷ marked_rows gs ms
+marked_rows (g ∷ gs) (false ∷ ms) = marked_rows gs ms
 
 -- all but the first
 abbrev pub rest_of : List Column → List Column

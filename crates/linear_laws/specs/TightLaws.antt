@@ -4,7 +4,7 @@ use Rattle.poly_num.specs.Vectors.{Vector, ◌·◌, IsZero}
 use Rattle.poly_model.specs.Independence.{Vanish, Follows, taken}
 use Rattle.linear_laws.specs.Frames.{Column, rows_of, IsFrame, EntriesVanish}
 use Rattle.linear_laws.specs.NewRows.{AreNew}
-use Rattle.linear_laws.specs.LocalTest.{AreFirstTight, marked, PassesTest, HaveSameZeros}
+use Rattle.linear_laws.specs.LocalTest.{AreFirstTight, marked_rows, PassesTest, HaveSameZeros}
 use Rattle.linear_laws.specs.Corners.{IsInConeOf, IsPointed, IsAloneOnTight, IsCorner}
 
 -- each vector has one first independent list of the rows tight at it
@@ -35,7 +35,7 @@ RowTest = (n : ℕ) (D : ℤ) (c : Column) (later before : List Column) (g : Vec
 abbrev pub LocalTest : Type 0
 LocalTest = (n : ℕ) (D : ℤ) (c : Column) (later before : List Column) (y : Vector)
     (rows : List Vector) (marks : List Bool) →
-    IsFrame n D ((c ∷ later) ++ before) → rows_of later ≡ marked rows marks →
+    IsFrame n D ((c ∷ later) ++ before) → rows_of later ≡ marked_rows rows marks →
     length marks ≤ length rows → HaveSameZeros y c.dual →
     PassesTest c later rows marks ↔ AreFirstTight n (rows_of before) y rows marks
 

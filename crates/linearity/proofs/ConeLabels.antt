@@ -15,8 +15,9 @@ use Rattle.poly_model.specs.Cones.{at}
 use Rattle.poly_model.specs.Spaces.{Space, IsDirection, IsSpaceOf, label_form, labels_of, with_constants, cut_space, cone_space, prepare_space}
 use Rattle.poly_model.specs.Labels.{coordinates_from, IsRow, coordinate_label}
 use Rattle.linear_laws.proofs.Entries.{coordinate_reads}
-use Rattle.dictionary_laws.proofs.Filters.{range_only, range_has, map_only}
-use Rattle.hull_lift.proofs.SpaceVectors.{coordinate_is_label, same_form, with_front}
+use Rattle.dictionary_laws.proofs.Filters.{range_only, range_has, map_only, coordinate_is_label}
+use Rattle.dictionary_laws.proofs.InFront.{with_front}
+use Rattle.hull_lift.proofs.SpaceVectors.{same_form}
 
 -- coordinate 0 is no label: constants are read off the vectors there
 abbrev pub HasNoFirst : List ℕ → Type 0

@@ -6,8 +6,6 @@ use Rattle.std.specs.List.{Contains}
 use Rattle.std.proofs.lemmas.Bool.{cond-false, cond_both, ne_eqb}
 use Rattle.std.proofs.lemmas.List.FromFn.{length-map-range_with_len}
 use Rattle.poly_num.specs.Vectors.{Vector, ◌·◌}
-use Rattle.poly_num.proofs.Ring.{mul_comm}
-use Rattle.poly_num.proofs.Order.{cancel}
 use Rattle.poly_num.proofs.VectorLemmas.{dot-scale}
 use Rattle.poly_model.specs.declared.overflow.Phase.TheVariants.{Cone, Prepare, First}
 use Rattle.poly_model.specs.Systems.{Polyhedron, cone_of}
@@ -17,7 +15,7 @@ use Rattle.poly_model.specs.Labels.{coordinate_label, constant_label}
 use Rattle.poly_model.specs.Dictionaries.{Table, sum_over}
 use Rattle.dictionary_laws.specs.Numbers.{IsOwnRow}
 use Rattle.dictionary_laws.proofs.Duals.{Dual, dual_of}
-use Rattle.dictionary_laws.proofs.Values.{terms, level_value, value_along, own_row, is_label}
+use Rattle.dictionary_laws.proofs.Values.{terms, level_value, value_along, own_row, is_label, value_by_factor}
 use Rattle.dictionary_laws.proofs.Members.{sum_same}
 use Rattle.dictionary_laws.proofs.Filters.{member_only}
 use Rattle.dictionary.specs.Views.{Dictionary, table_of}
@@ -44,10 +42,6 @@ pub record ReadsCone (p : Polyhedron) (d : Dictionary) : Type 0 where
   pub expands : (i : ℕ) → Contains d.labels i → (w : Vector) → length w ≡ p.n → IsLevel d.labels w →
       d.denominator *ℤ (label_form (cone_of p).rows i · w)
       ≡ sum_over d.key (λ k. Table.entry (table_of d) i k *ℤ (label_form (cone_of p).rows k · w))
-
--- x times the value is the entry times x
-pub value_by_factor : (x e v a c : ℤ) → x ≢ pos 0 → e *ℤ v ≡ x *ℤ a → e *ℤ v ≡ c *ℤ x → a ≡ c
-value_by_factor x e v a c n h k = cancel x a c n (sym h ∙ k ∙ mul_comm c x)
 
 module _ (p : Polyhedron) (d : Dictionary) (is : IsDictionaryOf p d) where
   over : IsOverCone p is.space

@@ -1,7 +1,6 @@
 -- Whether the equations of a file have a common point, once the linear rows have been tried; and what is prepared once
 -- all rows have been.
-use Rattle.std.proofs.Common.{◌≡◌, ◌↔◌, inr, Result, Err, refl, ℕ, ◌+◌, ◌<◌, ◌≤◌, false, List, [], length, sym, ap, subst, ◌∙◌, arith}
-use Rattle.std.specs.Prelude.{IsErrOf}
+use Rattle.std.proofs.Common.{◌≡◌, ◌↔◌, inr, refl, ℕ, ◌+◌, ◌<◌, ◌≤◌, false, List, [], length, sym, ap, subst, ◌∙◌, arith}
 use Rattle.std.specs.List.{Contains, filter}
 use Rattle.poly_num.specs.Vectors.{Vector}
 use Rattle.poly_model.specs.Labels.{IsRow}
@@ -118,7 +117,3 @@ begins_elimination sys d p file same some narrow count few new =
       of = begun.0;
       untried = subst (λ (s : System). IsEliminated s.rows false 1 d) file begun.1;
     }
-
--- an answer has one error
-pub one_error : {T E : Type 0} (r : Result T E) (x y : E) → IsErrOf r x → r ≡ Err y → y ≡ x
-one_error {T} {E} r x y h e = let same : ◌≡◌ {A = Result T E} (Err y) (Err x) = sym e ∙ h in cc

@@ -7,8 +7,7 @@ use Rattle.poly_model.specs.Keys.{IsAscending}
 use Rattle.poly_model.specs.Labels.{coordinates_from, IsCoordinate, is_row, is_coordinate, coordinate_label, coordinate_index}
 use Rattle.linear_laws.proofs.Members.{Contains-first, Contains-later, all_at}
 use Rattle.dictionary_laws.proofs.Members.{all_from}
-use Rattle.dictionary_laws.proofs.Filters.{filter_only, filter_kept, map_only, map_has}
-use Rattle.dictionary.proofs.KeptPlaces.{ascending_filter}
+use Rattle.dictionary_laws.proofs.Filters.{filter_only, filter_kept, map_only, map_has, ascending_filter}
 use Rattle.linearity.specs.Columns.{coordinates_in, columns_in}
 
 -- a label is that of a coordinate exactly from 8192 on

@@ -14,5 +14,6 @@ pub mod LeftLines
 pub mod StartCobasis
 pub mod MainStart
 pub mod RowsInStart
+pub mod Errors
 pub mod Consistency
 pub mod DueOverflows

@@ -21,15 +21,13 @@ use Rattle.poly_model.specs.Equations.{HasPointOn, equation_labels}
 use Rattle.dictionary_laws.specs.Points.{AreSettled}
 use Rattle.dictionary_laws.specs.MainSpace.{stays, CanEnterMain, EntersMain}
 use Rattle.dictionary_laws.proofs.Members.{contains_or}
-use Rattle.dictionary_laws.proofs.Filters.{filter_only, filter_kept, range_only, member_only, member_has}
+use Rattle.dictionary_laws.proofs.Filters.{filter_only, filter_kept, range_only, member_only, member_has, ascending_filter, ascending_range}
 use Rattle.dictionary_laws.proofs.CoordinateSpaces.{coordinate_keys}
 use Rattle.dictionary_laws.proofs.Values.{own_row}
-use Rattle.dictionary_laws.proofs.MainRows.{count_of_rows, linear_in_file, equation_only, equation_has}
+use Rattle.dictionary_laws.proofs.MainRows.{count_of_rows, linear_in_file, equation_only, equation_has, row_in_cone}
 use Rattle.dictionary_laws.proofs.MainSpace.{equation_in, main_dictionary}
 use Rattle.dictionary.specs.Views.{Dictionary, IsDictionaryIn, table_of}
-use Rattle.dictionary.proofs.ConeRows.{row_in_cone}
-use Rattle.dictionary.proofs.Beginnings.{ascending_range, ascending_joined}
-use Rattle.dictionary.proofs.KeptPlaces.{ascending_filter}
+use Rattle.dictionary.proofs.Beginnings.{ascending_joined}
 use Rattle.linearity.specs.Columns.{columns_in}
 use Rattle.linearity.specs.Elimination.{IsBehind, IsSettled, IsEliminated}
 use Rattle.linearity.proofs.KeyColumns.{column_of_label, column_only}

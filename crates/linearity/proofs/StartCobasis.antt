@@ -13,11 +13,10 @@ use Rattle.poly_model.specs.Dictionaries.{Table, IsCobasis, Writes, sum_over}
 use Rattle.linear_laws.proofs.AllLemmas.{all_left, all_right, all_both, all_from_map, all_to_map}
 use Rattle.linear_laws.proofs.Members.{Contains-nil, Contains-first, Contains-later, all_at, less_or_equal, ascending_is_one}
 use Rattle.dictionary_laws.proofs.Members.{contains_cases, all_from, sum_zero}
-use Rattle.dictionary_laws.proofs.Filters.{filter_only, filter_kept, member_only, member_has}
+use Rattle.dictionary_laws.proofs.Filters.{filter_only, filter_kept, member_only, member_has, ascending_filter}
 use Rattle.dictionary_laws.proofs.Directions.{times_zero, zero_times}
 use Rattle.dictionary_laws.proofs.Duals.{dual_of}
 use Rattle.dictionary_laws.proofs.Values.{terms, level_value}
-use Rattle.dictionary.proofs.KeptPlaces.{ascending_filter}
 
 -- the labels that are marked by a test
 marked_by_test : (test : ℕ → Bool) (ks : List ℕ) → marked ks (map test ks) ≡ filter test ks

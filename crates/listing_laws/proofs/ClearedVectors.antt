@@ -8,7 +8,7 @@ use Rattle.poly_num.proofs.Ring.{expand, lin, mul_zero, one_mul}
 use Rattle.poly_num.proofs.Order.{mul_nonzero}
 use Rattle.poly_model.specs.Independence.{Vanish}
 use Rattle.linear_laws.proofs.Members.{Contains-nil, Contains-first, Contains-later, Contains-cons_cases}
-use Rattle.linear_laws.proofs.Combinations.{combination, dot-combination, length-combination, zero_combination, vanish_combination}
+use Rattle.linear_laws.proofs.Combinations.{combination, dot-combination, length-combination, zero_combination, vanish_combination, cancels}
 use Rattle.listing_laws.specs.ListedCone.{ListedCone, row_at}
 use Rattle.listing_laws.specs.Directions.{DualVector, DualVectors}
 
@@ -53,9 +53,6 @@ module _ {cone : ListedCone} {labels : List ℕ} (duals : DualVectors cone label
 
       u : Vector
       u = combination p r.vector (neg_ℤ q) d.vector
-
-      cancels : (p q : ℤ) → p *ℤ q +ℤ neg_ℤ q *ℤ p ≡ pos 0
-      cancels p q = simp expand (omega (arith, lin))
 
       multiplied : (p a q b f x : ℤ) → b ≡ pos 0 → a ≡ f *ℤ x → p *ℤ a +ℤ q *ℤ b ≡ (p *ℤ f) *ℤ x
       multiplied p a q b f x e h =

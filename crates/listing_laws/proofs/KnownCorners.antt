@@ -7,8 +7,9 @@ use Rattle.poly_num.specs.Vectors.{Vector, ◌·◌, IsPrimitive, IsMultipleOf}
 use Rattle.poly_num.specs.Divisors.{gcd_in, gcd_of}
 use Rattle.poly_num.proofs.PrimitiveLemmas.{primitive_from_gcd}
 use Rattle.linear_laws.specs.Corners.{IsOnTight}
+use Rattle.linear_laws.proofs.Entries.{by_three}
 use Rattle.cone_laws.proofs.KnownValues.{axis, upward}
-use Rattle.cone_laws.proofs.KnownExtremes.{one_is_not_zero, by_three}
+use Rattle.cone_laws.proofs.KnownExtremes.{one_is_not_zero}
 use Rattle.listing_laws.specs.ListedCone.{IsShownCorner}
 use Rattle.listing_laws.specs.Prefixes.{IsCornerUnder}
 use Rattle.listing_laws.proofs.KnownValues.{square_cone}

@@ -2,9 +2,10 @@
 -- one direction is left.
 use Rattle.std.proofs.Common.{◌≡◌, ◌≢◌, ⊎_elim, true, false, ℕ, zero, suc, ◌<◌, pos, negsuc, [], ◌∷◌, length, refl, subst, arith}
 use Rattle.std.proofs.lemmas.Int.{ints}
-use Rattle.std.specs.List.{All, Contains}
+use Rattle.std.specs.Prelude.{◌≤ℤ◌}
+use Rattle.std.specs.List.{All, AllByRecursion, Contains}
 use Rattle.std.proofs.lemmas.List.Elements.{All-from_recursion}
-use Rattle.poly_num.specs.Vectors.{Vector, ◌·◌, IsZero}
+use Rattle.poly_num.specs.Vectors.{Vector, ◌·◌, IsZero, IsPrimitive}
 use Rattle.poly_num.specs.Divisors.{gcd_in, gcd_of}
 use Rattle.poly_num.proofs.PrimitiveLemmas.{primitive_from_gcd}
 use Rattle.poly_model.specs.Systems.{System, cone_of}
@@ -18,7 +19,7 @@ use Rattle.cone_laws.proofs.KnownExtremes.{one_is_not_zero}
 use Rattle.listing_laws.specs.ListedCone.{ListedCone, row_at, IsListable, IsConeOf, cone_over}
 use Rattle.listing_laws.specs.Lists.{Lists}
 use Rattle.listing_laws.specs.Prefixes.{IsCornerUnder, IsListedUpTo}
-use Rattle.listing_laws.specs.Directions.{DualVector, IsLeft, LeavesOne}
+use Rattle.listing_laws.specs.Directions.{DualVector, IsLeft, LeavesOne, IsShownAlong}
 use Rattle.listing_laws.proofs.BaseLemmas.{nothing_is_base}
 use Rattle.listing_laws.proofs.ConeLemmas.{is_listable}
 use Rattle.listing_laws.proofs.ListingLemmas.{whole_listing}
@@ -97,21 +98,23 @@ high = pos 1 ∷ pos 1 ∷ []
 abbrev along : Vector
 along = pos 0 ∷ pos 1 ∷ []
 
+-- an end of the interval is shown along itself
+end_is_shown : (y : Vector) → IsPrimitive y → length y ≡ 2 →
+    AllByRecursion (λ g. pos 0 ≤ℤ (g · y)) interval_cone.rows → IsShownAlong interval_cone y y
+end_is_shown y primitive width nonnegative = record {
+  primitive = primitive;
+  along = (pos 1, pos 1, one_is_not_zero, refl);
+  in_cone = record { width = width; vanishing = tt; nonnegative = nonnegative };
+  shown = refl;
+}
+
 -- row 1 leaves the point 0
 at_row_1 : Lists (IsCornerUnder interval_cone (true ∷ [])) (low ∷ [])
 unfolding gcd_in gcd_of
 at_row_1 =
     one_if_it_passes interval_cone interval_listable (true ∷ []) low leaves (λ i l e k c m. (duals k c).1 i l e m) low
-    (record {
-      primitive = primitive_from_gcd low refl;
-      along = (pos 1, pos 1, one_is_not_zero, refl);
-      in_cone = record {
-        width = refl;
-        vanishing = tt;
-        nonnegative = (omega (arith, ints), (omega (arith, ints), (omega (arith, ints), tt)));
-      };
-      shown = refl;
-    })
+    (end_is_shown low (primitive_from_gcd low refl) refl
+    (omega (arith, ints), (omega (arith, ints), (omega (arith, ints), tt))))
   where
     duals : (j : ℕ) → Contains (1 ∷ []) j → Tested interval_cone 1 along low refl tt (λ e. cc) j
     duals = tested interval_cone 1 along low refl tt (λ e. cc) (λ i l e m. absurd (omega arith))
@@ -130,16 +133,8 @@ unfolding gcd_in gcd_of
 at_row_2 =
     one_if_it_passes interval_cone interval_listable (false ∷ true ∷ []) high leaves
     (λ i l e k c m. (duals k c).1 i l e m) high
-    (record {
-      primitive = primitive_from_gcd high refl;
-      along = (pos 1, pos 1, one_is_not_zero, refl);
-      in_cone = record {
-        width = refl;
-        vanishing = tt;
-        nonnegative = (omega (arith, ints), (omega (arith, ints), (omega (arith, ints), tt)));
-      };
-      shown = refl;
-    })
+    (end_is_shown high (primitive_from_gcd high refl) refl
+    (omega (arith, ints), (omega (arith, ints), (omega (arith, ints), tt))))
   where
     -- row 1 is not 0 there
     passes : (i : ℕ) → 0 < i → row_at interval_cone i · high ≡ pos 0 → i < 2 →

@@ -3,8 +3,7 @@ use Rattle.std.proofs.Common.{◌≡◌, ◌≢◌, ℕ, suc, List, [], ◌∷�
 use Rattle.std.specs.List.{Contains}
 use Rattle.std.proofs.lemmas.List.FromFn.{length-map-range_with_len}
 use Rattle.poly_num.specs.Vectors.{Vector, ◌·◌, IsZero}
-use Rattle.poly_num.proofs.Ring.{mul_comm}
-use Rattle.poly_num.proofs.Order.{zero_factor, cancel, positive_nonzero}
+use Rattle.poly_num.proofs.Order.{zero_factor, positive_nonzero}
 use Rattle.poly_num.proofs.VectorLemmas.{dot-scale}
 use Rattle.poly_model.specs.declared.overflow.Phase.TheVariants.{Cone}
 use Rattle.poly_model.specs.Systems.{Polyhedron}
@@ -12,12 +11,12 @@ use Rattle.poly_model.specs.Spaces.{IsDirection, in_front, cone_space}
 use Rattle.poly_model.specs.Dictionaries.{Table, IsCobasis, Writes, sum_over}
 use Rattle.linear_laws.proofs.Entries.{coordinate_reads}
 use Rattle.dictionary_laws.proofs.Duals.{Dual, dual_of}
-use Rattle.dictionary_laws.proofs.Values.{level_value, terms, value_along}
+use Rattle.dictionary_laws.proofs.Values.{level_value, terms, value_along, value_by_factor}
 use Rattle.dictionary_laws.proofs.Members.{all_from, sum_zero}
+use Rattle.dictionary_laws.proofs.InFront.{with_front}
 use Rattle.dictionary.specs.Views.{table_of}
 use Rattle.hull_lift.specs.Facets.{coordinate_in, column_of}
 use Rattle.hull_lift.specs.Laws.{IsInColumn, HasColumns}
-use Rattle.hull_lift.proofs.SpaceVectors.{with_front}
 use Rattle.hull_lift.proofs.ColumnVectors.{column_vectors}
 use Rattle.plain_enum.specs.Standing.{form_of}
 use Rattle.plain_enum.specs.Laws.{ValuesAtColumns}
@@ -92,10 +91,6 @@ module _ (p : Polyhedron) where
           (positive_nonzero t.denominator w.positive)
 
 -- ---- columns
--- x times the value is the entry times x
-value_by_factor : (x e v a c : ℤ) → x ≢ pos 0 → e *ℤ v ≡ x *ℤ a → e *ℤ v ≡ c *ℤ x → a ≡ c
-value_by_factor x e v a c n h k = cancel x a c n (sym h ∙ k ∙ mul_comm c x)
-
 pub values_at_columns : ValuesAtColumns
 values_at_columns p d is col c l = record {
   width = length-map-range_with_len (coordinate_in d col) 0 p.n;

@@ -1,5 +1,5 @@
 -- The loop over the rows behind a prefix: what is visited when it begins, after a row, where it ends and breaks.
-use Rattle.std.specs.Prelude.{Result, IsErrOf}
+use Rattle.std.specs.Prelude.{Result}
 use Rattle.poly_model.specs.Independence.{IsNew}
 use Rattle.std.proofs.Common.{◌≡◌, Bool, true, false, ℕ, zero, suc, ◌+◌, ◌<◌, ◌≤◌, List, [], ◌∷◌, ◌++◌, length, Ok, Err, refl, sym, subst, ◌∙◌, arith}
 use Rattle.std.specs.List.{All, Contains}
@@ -50,13 +50,6 @@ shapes_joined d e xs s a (suc k) z l = a k z (omega arith)
 
 pub rows_stay : (d new : Dictionary) (rows i k : ℕ) → IsPivot d i k new → HasRows rows d → HasRows rows new
 rows_stay d new rows i k pivot h j a b = subst (λ ks. Contains ks j) (sym pivot.labels) (h j a b)
-
--- ---- the one error of an answer
-same_err : {T E : Type 0} (x y : E) → ◌≡◌ {A = Result T E} (Err y) (Err x) → y ≡ x
-same_err x y h = cc
-
-pub err_of : {T E : Type 0} (r : Result T E) (x y : E) → IsErrOf r x → r ≡ Err y → y ≡ x
-err_of r x y h e = same_err x y (sym e ∙ h)
 
 -- ---- the room for a search
 module _ (sys : System) (d : Dictionary) where

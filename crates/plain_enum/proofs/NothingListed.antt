@@ -3,12 +3,12 @@ use Rattle.std.proofs.Common.{◌≡◌, inl, inr, ℕ, List, Option, Err, refl,
 use Rattle.poly_model.specs.declared.overflow.Overflow.{Overflow as Passed}
 use Rattle.poly_model.specs.Extreme.{IsFeasible}
 use Rattle.poly_model.specs.Systems.{Polyhedron, cone_of}
+use Rattle.linearity.proofs.Errors.{one_error}
 use Rattle.plain_enum.specs.declared.answers.ListStop.{ListStop}
 use Rattle.plain_enum.specs.declared.answers.ListStop.TheVariants.{Infeasible, Overflow}
 use Rattle.plain_enum.specs.Feasible.{ListsIfFeasible}
 use Rattle.plain_enum.specs.Plain.{PassesInCone, WritesListing}
 use Rattle.plain_enum.proofs.ListingParts.{nothing_written}
-use Rattle.plain_enum.proofs.LoopUnder.{err_of}
 
 pub nothing_listed : (p : Polyhedron) (old : Option (List ℕ)) (Unwritten : Type 0) → Unwritten → (stop : ListStop) →
     (stop ≡ Infeasible → ¬ (IsFeasible (cone_of p))) → ((o : Passed) → stop ≡ Overflow o → PassesInCone p o) →
@@ -16,8 +16,8 @@ pub nothing_listed : (p : Polyhedron) (old : Option (List ℕ)) (Unwritten : Typ
 nothing_listed p old Unwritten unwritten stop infeasible overflow = record {
   written = nothing_written p old (Err stop) refl;
   feasible = λ e. absurd (cc);
-  infeasible = λ e. infeasible (err_of (Err stop) Infeasible stop e refl);
-  overflow = λ o e. overflow o (err_of (Err stop) (Overflow o) stop e refl);
+  infeasible = λ e. infeasible (one_error (Err stop) Infeasible stop e refl);
+  overflow = λ o e. overflow o (one_error (Err stop) (Overflow o) stop e refl);
   printed = inl unwritten;
 }
 
@@ -35,8 +35,8 @@ pub passes_listed : {E : Type 0} (p : Polyhedron) (old new : Option (List ℕ)) 
 passes_listed p old new Unwritten x e feasible passes w = record {
   written = record { whole = tt; part = w.part };
   feasible = λ h. absurd (cc);
-  infeasible = λ h. absurd (other_stop x (err_of (Err (Overflow x)) Infeasible (Overflow x) h refl));
+  infeasible = λ h. absurd (other_stop x (one_error (Err (Overflow x)) Infeasible (Overflow x) h refl));
   overflow = λ o h. subst (λ (y : Passed). PassesInCone p y)
-      (same_overflow x o (err_of (Err (Overflow x)) (Overflow o) (Overflow x) h refl)) passes;
+      (same_overflow x o (one_error (Err (Overflow x)) (Overflow o) (Overflow x) h refl)) passes;
   printed = inr feasible;
 }

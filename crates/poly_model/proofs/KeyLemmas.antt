@@ -87,7 +87,7 @@ length_with label (x ∷ xs) = by (length_with label xs) (nat_lt label x) (label
     by rest false true = omega arith
     by rest false false = omega arith
 
-ascending_with : (label : ℕ) (xs : List ℕ) → IsAscending xs → IsAscending (with_label label xs)
+pub ascending_with : (label : ℕ) (xs : List ℕ) → IsAscending xs → IsAscending (with_label label xs)
 ascending_with label [] h = (tt, tt)
 ascending_with label (x ∷ xs) h = by (ascending_with label xs h.1) (nat_lt label x) (label == x) refl refl
   where

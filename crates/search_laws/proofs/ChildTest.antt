@@ -8,12 +8,13 @@ use Rattle.poly_model.specs.Spaces.{Space}
 use Rattle.poly_model.specs.Dictionaries.{Table}
 use Rattle.poly_model.specs.LexOrder.{rows_in, IsEarlier}
 use Rattle.poly_model.specs.Tree.{IsRowDictionary, IsLexFeasible, Leaves, MayEnter, IsNeighbour, IsParent, exchanged_key}
+use Rattle.linear_laws.proofs.Signs.{minus_positive}
 use Rattle.dictionary_laws.specs.Keys.{AreDistinct, Exchanges}
 use Rattle.search_laws.specs.Shares.{IsChild}
 use Rattle.search_laws.specs.ChildTest.{neighbour_entry, downward, LeadsUp, WouldEnter, IsDown}
 use Rattle.tree_laws.proofs.Numbers.{key_row}
 use Rattle.tree_laws.proofs.OrderLemmas.{backwards_within_only, one_is_earlier, not_earlier_and_later}
-use Rattle.tree_laws.proofs.Neighbours.{minus_positive, neighbour_exchanges, neighbour_dictionary, neighbour_feasible}
+use Rattle.tree_laws.proofs.Neighbours.{neighbour_exchanges, neighbour_dictionary, neighbour_feasible}
 use Rattle.tree_laws.proofs.Back.{neighbour_back}
 use Rattle.search_laws.proofs.NeighbourColumns.{positive_at_members, column_r, column_j}
 

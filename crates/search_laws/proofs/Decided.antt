@@ -12,6 +12,7 @@ use Rattle.poly_model.specs.LexOrder.{rows_in, outside, order}
 use Rattle.poly_model.specs.Tree.{IsRowDictionary, IsRowOutside, IsFeasibleRoot, exchanged_key}
 use Rattle.poly_model.specs.PhaseOne.{IsWorst, IsFirstWorst, lowering_root, IsLastColumn, IsLastExchange, GivesByPhaseOne}
 use Rattle.linear_laws.proofs.Members.{Contains-nil, Contains-first, Contains-later}
+use Rattle.linear_laws.proofs.Signs.{zero_or, not_both, nonnegative_zero}
 use Rattle.dictionary_laws.proofs.Members.{contains_or, contains_cases}
 use Rattle.dictionary_laws.specs.Keys.{Exchanges}
 use Rattle.search_laws.specs.Lowering.{HasEnd}
@@ -24,7 +25,6 @@ use Rattle.tree_laws.proofs.Levels.{own_level}
 use Rattle.tree_laws.proofs.ExchangedKeys.{exchanges}
 use Rattle.tree_laws.proofs.Roots.{root_is_feasible}
 use Rattle.tree_laws.proofs.PointTest.{constants_are_not_negative}
-use Rattle.tree_laws.proofs.SettledRows.{zero_or}
 use Rattle.search_laws.proofs.KeyPoints.{point_of_root}
 use Rattle.search_laws.proofs.LoweredEnds.{steps_end}
 use Rattle.search_laws.proofs.PhaseEnds.{none_meets_rows, some_column, exchange_at_zero}
@@ -201,10 +201,7 @@ module _ (space : Space) (start : List ℕ) (none : HasNoRowZero space) (t : Tab
         by_sign (IsGiven space start ⊎ (MeetsRows space → ⊥)) (e.table.constant 0)
         (λ up. inr (none_meets_rows space start e.end e.table none e.feasible.dictionary e.lowest up))
         (λ z. inl (⊎_elim from_inside (λ (o : Contains e.end 0 → ⊥). from_outside o z) (contains_or e.end 0)))
-        (λ down. absurd (below (e.table.constant 0) down (feasible.constants 0 (t_is_row space start none))))
-      where
-        below : (x : ℤ) → x <ℤ pos 0 → pos 0 ≤ℤ x → ⊥
-        below x l g = omega (arith, lin)
+        (λ down. absurd (not_both (e.table.constant 0) down (feasible.constants 0 (t_is_row space start none))))
 
   -- ---- from the start
   from_worst : (r : ℕ) → IsFirstWorst space start t r → IsGiven space start ⊎ (MeetsRows space → ⊥)
@@ -232,7 +229,7 @@ module _ (space : Space) (start : List ℕ) (none : HasNoRowZero space) (t : Tab
           dictionary = d;
           constants = λ i l.
               ⊎_elim
-              (λ (c : Contains start i). no_less (t.constant i) (own_level space start t d i c None))
+              (λ (c : Contains start i). nonnegative_zero (t.constant i) (own_level space start t d i c None))
               (λ (o : Contains start i → ⊥). h i (record { row = l; outside = o }))
               (contains_or start i);
         },
@@ -240,9 +237,6 @@ module _ (space : Space) (start : List ℕ) (none : HasNoRowZero space) (t : Tab
       );
     },
   )
-    where
-      no_less : (x : ℤ) → x ≡ pos 0 → pos 0 ≤ℤ x
-      no_less x e = omega (arith, lin)
 
   from_rows : (ks : List ℕ) → outside space.labels start ≡ ks → IsGiven space start ⊎ (MeetsRows space → ⊥)
   from_rows [] e =

@@ -1,25 +1,27 @@
 -- Which files are feasible, by their main space; and the constants of V files.
-use Rattle.std.proofs.Common.{◌≡◌, ◌↔◌, ℕ, suc, ◌<◌, List, [], ◌∷◌, ℤ, pos, ◌+ℤ◌, ◌*ℤ◌, map, length, sym, ap, subst, ◌∙◌, arith}
+use Rattle.std.proofs.Common.{◌≡◌, ◌↔◌, ℕ, suc, List, ◌∷◌, ℤ, pos, ◌*ℤ◌, length, sym, ap, subst, ◌∙◌, arith}
 use Rattle.std.specs.Prelude.{◌<ℤ◌, ◌≤ℤ◌}
 use Rattle.std.proofs.lemmas.Int.{ints}
 use Rattle.std.proofs.lemmas.List.{length-append}
-use Rattle.poly_num.specs.Vectors.{Vector, ◌·◌}
+use Rattle.poly_num.specs.Vectors.{◌·◌}
 use Rattle.poly_num.proofs.Ring.{mul_one}
 use Rattle.poly_num.proofs.VectorLemmas.{dot-zero}
 use Rattle.poly_model.specs.declared.kind.Kind.{Kind}
 use Rattle.poly_model.specs.declared.kind.Kind.TheVariants.{H, V}
-use Rattle.poly_model.specs.Independence.{Vanish}
 use Rattle.poly_model.specs.Systems.{Polyhedron, file_rows, cone_of, added_row}
 use Rattle.poly_model.specs.FreeColumns.{AreFreeColumns}
 use Rattle.poly_model.specs.Extreme.{IsFeasibleAs, IsFeasible}
-use Rattle.poly_model.specs.Spaces.{in_front, is_left, labels_of, main_space, label_form}
+use Rattle.poly_model.specs.Spaces.{is_left, labels_of, main_space, label_form}
 use Rattle.poly_model.specs.Dictionaries.{Table}
 use Rattle.poly_model.specs.Tree.{IsRowDictionary, IsFeasibleRoot}
+use Rattle.poly_model.specs.Labels.{IsRow}
 use Rattle.linear_laws.proofs.Entries.{coordinate_reads, zeros, length-zeros, IsZero-zeros}
+use Rattle.linear_laws.proofs.Signs.{nonnegative_positive}
 use Rattle.cone_laws.specs.FeasibilityLaws.{HasVertex}
 use Rattle.cone_laws.proofs.FeasibleLemmas.{feasible_file_by_vertex}
-use Rattle.dictionary_laws.proofs.Directions.{times_zero}
+use Rattle.dictionary_laws.proofs.Directions.{times_zero, vanish_zero}
 use Rattle.dictionary_laws.proofs.Filters.{filter_only}
+use Rattle.dictionary_laws.proofs.InFront.{with_front, vanish_in_front}
 use Rattle.search_laws.specs.PhaseOne.{HasNoRowZero, MeetsRows}
 use Rattle.tree_laws.proofs.MainLabels.{main_in}
 use Rattle.tree_laws.proofs.AscendingRows.{positive_labels}
@@ -42,8 +44,8 @@ main_has_no_row_zero p free = no_zero p.kind p free
 
 -- ---- H files
 module _ (p : Polyhedron) (free : List ℕ) (kind : p.kind ≡ H) (f : AreFreeColumns (cone_of p) free)
-    (few : length (cone_of p).rows < 8192) where
-  file_few : length (file_rows p) < 8192
+    (few : IsRow (length (cone_of p).rows)) where
+  file_few : IsRow (length (file_rows p))
   file_few = omega (arith, few, length-append (file_rows p) (added_row p.kind p.n (file_rows p)))
 
   to_space : HasVertex (cone_of p) → MeetsRows (main_in H p free)
@@ -63,13 +65,10 @@ module _ (p : Polyhedron) (free : List ℕ) (kind : p.kind ≡ H) (f : AreFreeCo
         in_cone = record {
           width = m.inside.width;
           meets = meets_all p kind free f file_few m.vector m.inside
-              (at_least ((main_in H p free).infinity · m.vector) m.finite) m.rows;
+              (nonnegative_positive ((main_in H p free).infinity · m.vector) m.finite) m.rows;
         };
         positive = subst (λ (x : ℤ). pos 0 <ℤ x) (coordinate_reads 0 m.vector) m.finite;
       })
-    where
-      at_least : (x : ℤ) → pos 0 <ℤ x → pos 0 ≤ℤ x
-      at_least x h = omega (arith, ints)
 
   pub feasible_files : IsFeasible (cone_of p) ↔ MeetsRows (main_space p free)
   feasible_files = (
@@ -78,13 +77,6 @@ module _ (p : Polyhedron) (free : List ℕ) (kind : p.kind ≡ H) (f : AreFreeCo
   )
 
 -- ---- V files
-skip : (x v : ℤ) → v ≡ pos 0 → pos 0 *ℤ x +ℤ v ≡ pos 0
-skip x v e = omega (arith, ints)
-
-vanish_at_one : (gs : List Vector) (n : ℕ) → Vanish (map in_front gs) (pos 1 ∷ zeros n)
-vanish_at_one [] n = tt
-vanish_at_one (g ∷ gs) n = (skip (pos 1) (g · zeros n) (dot-zero g (zeros n) (IsZero-zeros n)), vanish_at_one gs n)
-
 no_constant : (d v c l : ℤ) → v ≡ pos 0 → l ≡ pos 1 → d *ℤ v ≡ c *ℤ l → pos 0 ≤ℤ c
 no_constant d v c l e f h =
     let a = times_zero d v e in
@@ -99,14 +91,17 @@ roots_in V p free key t e d = record {
   constants = λ i l. no_constant t.denominator ((main_in V p free).form i · (pos 1 ∷ zeros p.n)) (t.constant i)
       ((main_in V p free).infinity · (pos 1 ∷ zeros p.n)) (no_value i) (coordinate_reads 0 (pos 1 ∷ zeros p.n))
       (row_at_point (main_in V p free) key t d i l (pos 1 ∷ zeros p.n)
-      (record { width = ap suc (length-zeros p.n); fixed = vanish_at_one _ p.n })
+      (record {
+        width = ap suc (length-zeros p.n);
+        fixed = vanish_in_front _ (pos 1) (zeros p.n) (vanish_zero _ (zeros p.n) (IsZero-zeros p.n));
+      })
       (λ k c. no_value k));
 }
   where
     no_value : (i : ℕ) → (main_in V p free).form i · (pos 1 ∷ zeros p.n) ≡ pos 0
     no_value i =
-        skip (pos 1) (label_form (cone_of p).rows i · zeros p.n)
-        (dot-zero (label_form (cone_of p).rows i) (zeros p.n) (IsZero-zeros p.n))
+        with_front (label_form (cone_of p).rows i) (pos 1) (zeros p.n)
+        ∙ dot-zero (label_form (cone_of p).rows i) (zeros p.n) (IsZero-zeros p.n)
 
 pub roots_of_points : (p : Polyhedron) (free key : List ℕ) (t : Table) → p.kind ≡ V →
     IsRowDictionary (main_space p free) key t → IsFeasibleRoot (main_space p free) key t

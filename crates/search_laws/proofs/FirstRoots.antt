@@ -3,7 +3,7 @@ use Rattle.std.proofs.Common.{◌≡◌, ◌≢◌, ⊎_elim, ℕ, cond, List, [
 use Rattle.std.specs.Prelude.{◌<ℤ◌, ◌≤ℤ◌}
 use Rattle.std.specs.List.{Contains}
 use Rattle.poly_num.specs.Vectors.{Vector, ◌·◌}
-use Rattle.poly_num.proofs.Ring.{expand, lin, mul_zero, zero_mul, mul_one}
+use Rattle.poly_num.proofs.Ring.{expand, lin, mul_zero, zero_mul, mul_one, add_zero}
 use Rattle.poly_num.proofs.Order.{positive_nonzero}
 use Rattle.poly_model.specs.Spaces.{Space, lift_of, lifted}
 use Rattle.poly_model.specs.Dictionaries.{Table}
@@ -11,6 +11,7 @@ use Rattle.poly_model.specs.LexOrder.{rows_in}
 use Rattle.poly_model.specs.Tree.{IsRowDictionary, IsRowOutside, IsFeasibleRoot, exchanged_key}
 use Rattle.linear_laws.proofs.Members.{Contains-first, Contains-later}
 use Rattle.linear_laws.proofs.Nearest.{nonnegative_product, nonnegative_factor}
+use Rattle.linear_laws.proofs.Signs.{nonnegative_zero}
 use Rattle.dictionary_laws.specs.Keys.{Exchanges}
 use Rattle.dictionary_laws.proofs.Members.{contains_or, contains_cases}
 use Rattle.poly_model.specs.PhaseOne.{IsWorst}
@@ -42,17 +43,11 @@ no_less d l x v c w b p q z e f g =
 
 t_above : (d l x v c : ℤ) → pos 0 <ℤ d → pos 0 <ℤ l → x +ℤ v ≡ pos 0 → d *ℤ v ≡ c *ℤ l → c <ℤ pos 0 → pos 0 ≤ℤ x
 t_above d l x v c p q z e g =
-    subst (λ (n : ℤ). pos 0 ≤ℤ n) (same x)
+    subst (λ (n : ℤ). pos 0 ≤ℤ n) (add_zero x)
     (no_less d l x v c (pos 0) (pos 0) p q z e (mul_zero d ∙ sym (zero_mul l)) (weak c g))
   where
-    same : (x : ℤ) → x +ℤ pos 0 ≡ x
-    same x = omega (arith, lin)
-
     weak : (c : ℤ) → c <ℤ pos 0 → c ≤ℤ pos 0
     weak c g = omega (arith, lin)
-
-at_least : (v : ℤ) → v ≡ pos 0 → pos 0 ≤ℤ v
-at_least v e = omega (arith, lin)
 
 module _ (space : Space) (start : List ℕ) (t : Table) (none : HasNoRowZero space) (d : IsRowDictionary space start t)
     (r : ℕ) (w : IsWorst space start t r) where
@@ -102,7 +97,7 @@ module _ (space : Space) (start : List ℕ) (t : Table) (none : HasNoRowZero spa
     row_value : (i : ℕ) → Contains (rows_in space.labels) i → pos 0 ≤ℤ ((first space start).form i · (x ∷ z))
     row_value i l =
         ⊎_elim
-        (λ (c : Contains start i). at_least ((first space start).form i · (x ∷ z))
+        (λ (c : Contains start i). nonnegative_zero ((first space start).form i · (x ∷ z))
         (value_inside space start i (row_not_t i l) c x z ∙ start_zero i c))
         (λ (o : Contains start i → ⊥).
         subst (λ (n : ℤ). pos 0 ≤ℤ n)

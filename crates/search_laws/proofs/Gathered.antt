@@ -9,7 +9,7 @@ use Rattle.poly_model.specs.Tree.{IsFeasibleRoot, IsUnder}
 use Rattle.linear_laws.proofs.Members.{Contains-nil, Contains-first, Contains-later, Contains-cons_cases}
 use Rattle.dictionary_laws.specs.Keys.{AreDistinct}
 use Rattle.search_laws.specs.Shares.{StandOnce, ListsAll, IsFeasibleKey, IsChild, IsFeasibleUnder, IsTree}
-use Rattle.search_laws.specs.Weights.{IsTotal, IsUnderSome, IsApart, AreApart}
+use Rattle.search_laws.specs.Weights.{IsTotal, IsUnderSome, AreIncomparable, IsAntichain}
 use Rattle.search_laws.proofs.Depths.{above_twice, child_above, one_length}
 use Rattle.search_laws.proofs.OnceLists.{once-append}
 use Rattle.search_laws.proofs.ShareParts.{is_tree}
@@ -48,11 +48,11 @@ module _ (space : Space) (root : List ℕ) (home : Table) (h : IsFeasibleRoot sp
   tree = is_tree space root home h distinct
 
   -- a cobasis is not under both of two keys that are apart
-  pub not_under_both : (one b c : List ℕ) → IsFeasibleKey space root one → IsApart space root b c →
+  pub not_under_both : (one b c : List ℕ) → IsFeasibleKey space root one → AreIncomparable space root b c →
       IsUnder space root one b → IsUnder space root one c → ⊥
   not_under_both one b c f a u v = ⊎_elim a.above a.below (tree.meet one b c f u v)
 
-  pub gather : (keys : List (List ℕ)) → AreApart space root keys → (w : ℕ) → IsTotal space root keys w →
+  pub gather : (keys : List (List ℕ)) → IsAntichain space root keys → (w : ℕ) → IsTotal space root keys w →
       Gathers space root keys w
   gather [] a w t = record {
     ones = [];
@@ -97,7 +97,7 @@ module _ (space : Space) (root : List ℕ) (home : Table) (h : IsFeasibleRoot sp
       absurd (omega (arith, e))
 
   pub children_apart : (key : List ℕ) (cs : List (List ℕ)) → StandOnce cs →
-      ((c : List ℕ) → Contains cs c → IsChild space root key c) → AreApart space root cs
+      ((c : List ℕ) → Contains cs c → IsChild space root key c) → IsAntichain space root cs
   children_apart key [] n a = tt
   children_apart key (c ∷ cs) n a = (
     λ b m. let p = a c (Contains-first c cs) in let q = a b (Contains-later b c cs m) in record {

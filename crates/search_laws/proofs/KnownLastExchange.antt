@@ -1,7 +1,7 @@
 -- The root that phase one gives for the point x = 1 from the start cobasis {1}, whose row is x >= 0, known from a
 -- drawing: t ties with another row, which leaves, and t comes back in the place of the least column by the order
 -- relative to the first root, which is not that of the least number. A wrong definition does not check.
-use Rattle.std.proofs.Common.{◌≡◌, ◌≢◌, ◌⊎◌, inl, inr, ◌≤◌, ℕ, pos, negsuc, List, [], ◌∷◌, refl, arith}
+use Rattle.std.proofs.Common.{◌≡◌, ◌≢◌, ◌⊎◌, inl, inr, ℕ, pos, negsuc, List, [], ◌∷◌, refl, arith}
 use Rattle.std.specs.Prelude.{◌≤ℤ◌, ◌<ℤ◌}
 use Rattle.std.proofs.lemmas.Int.{ints}
 use Rattle.poly_num.specs.Vectors.{Vector}
@@ -12,10 +12,10 @@ use Rattle.poly_model.specs.Tree.{Leaves}
 use Rattle.poly_model.specs.Lowering.{IsLoweringStep, IsLowest}
 use Rattle.poly_model.specs.PhaseOne.{IsFirstWorst, IsLastColumn, IsLastExchange, GivesByPhaseOne}
 use Rattle.linear_laws.proofs.Members.{all_at}
-use Rattle.tree_laws.proofs.KnownTables.{table_of, IsSolved, solved}
+use Rattle.tree_laws.proofs.KnownTables.{table_of, IsSolved, solved, two_is_least}
 use Rattle.tree_laws.proofs.KnownTests.{leaves}
 use Rattle.search_laws.proofs.GivenRoots.{given_one}
-use Rattle.search_laws.proofs.KnownPhaseOne.{table_with_t, space_with, start, first_with, root, first_has_points, start_is_solved, root_is_solved, both_rows, no_row_zero, rows_are_distinct}
+use Rattle.search_laws.proofs.KnownPhaseOne.{table_with_t, space_with, start, first_with, root, first_has_enough_labels, start_is_solved, root_is_solved, no_row_zero, rows_are_distinct, second_is_worst, lowers_first}
 
 -- row 3: 1 - x >= 0
 abbrev third : Vector
@@ -71,36 +71,19 @@ before_is_solved = root_is_solved third before refl (refl, (refl, (refl, (refl, 
 
 last_is_solved : IsSolved first (2 ∷ 3 ∷ []) last
 last_is_solved = record {
-  points = first_has_points third;
+  labels = first_has_enough_labels third;
   ascending = ((omega arith, tt), (tt, tt));
   rows = ((2, omega arith, refl), ((3, omega arith, refl), tt));
   directions = (pos 0 ∷ pos 0 ∷ pos 1 ∷ []) ∷ (pos 1 ∷ pos 0 ∷ negsuc 0 ∷ []) ∷ [];
-  flat = ((refl, tt, refl), ((refl, tt, refl), tt));
-  independent = ((tt, λ e. cc), (((refl, tt), λ e. cc), tt));
-  enough = λ a b c e v.
-      let f = v.0 in let g = v.1.0 in
-      (omega (arith, ints), (omega (arith, ints), (omega (arith, ints), tt)));
-  positive = omega (arith, ints);
+  independent = (((refl, tt, refl), tt, λ e. cc), (((refl, tt, refl), (refl, tt), λ e. cc), tt));
   lines = (refl, (refl, (refl, (refl, (refl, tt)))));
-  least = λ other w.
-      let h = w.values 0 (0, omega arith, refl) (pos 1 ∷ pos 0 ∷ pos 1 ∷ []) (record { width = refl; fixed = tt }) in
-      let p = w.positive in
-      omega (arith, ints);
+  least = two_is_least first (2 ∷ 3 ∷ []) last refl 0 (0, omega arith, refl) (pos 1 ∷ pos 0 ∷ pos 1 ∷ [])
+      (record { width = refl; fixed = tt }) refl refl (pos 1 ∷ pos 0 ∷ []) refl;
 }
 
 -- ---- row 2 takes the place of t
 worst : IsFirstWorst point start wrong 2
-worst = record {
-  worst = record {
-    row = record {
-      row = (1, omega arith, refl);
-      outside = λ c. all_at (λ k. k ≡ 2 → ⊥) start (λ e. omega arith, tt) 2 c refl;
-    };
-    negative = omega (arith, ints);
-    least = both_rows third (λ i. wrong.constant 2 ≤ℤ wrong.constant i) (omega (arith, ints)) (omega (arith, ints));
-  };
-  first = λ i w. both_rows third (λ k. 2 ≤ k) (omega arith) (omega arith) i w.row;
-}
+worst = second_is_worst third wrong (omega (arith, ints)) (omega (arith, ints))
 
 -- ---- t is lowered in the column of row 1: at the same value of it t and row 3 are 0, and row 3 leaves
 row_leaves : Leaves first.labels root root before 1 3
@@ -118,16 +101,7 @@ t_does_not_leave l = by (l.least 3 row_leaves.row row_leaves.negative)
     by (inr (e, inr (f, h))) = cc
 
 step : IsLoweringStep first.labels root 0 root before (2 ∷ 3 ∷ [])
-step = record {
-  s = 1;
-  lowers = record {
-    column = (0, omega arith, refl);
-    negative = omega (arith, ints);
-    least = all_at (λ k. before.entry 0 k <ℤ pos 0 → (k ≡ 1) ⊎ IsEarlier first.labels root 1 k) root
-        (λ h. inl refl, (λ h. absurd (omega (arith, ints)), tt));
-  };
-  neighbour = record { column = (0, omega arith, refl); r = 3; leaves = row_leaves; exchange = refl };
-}
+step = lowers_first third before 3 (omega (arith, ints)) (omega (arith, ints)) row_leaves
 
 lowest : IsLowest (2 ∷ 3 ∷ []) last 0
 lowest = all_at (λ k. pos 0 ≤ℤ last.entry 0 k) (2 ∷ 3 ∷ []) (omega (arith, ints), (omega (arith, ints), tt))

@@ -1,12 +1,12 @@
 -- The root that phase one gives on the half line x >= 1, with the row x - 1 >= 0 twice, from the start cobasis {1},
 -- known from a drawing: the first of the two takes the place of t. A wrong definition does not check.
-use Rattle.std.proofs.Common.{◌≡◌, ◌⊎◌, inl, inr, ◌≤◌, ℕ, ℤ, pos, negsuc, List, [], ◌∷◌, refl, arith}
-use Rattle.std.specs.Prelude.{◌≤ℤ◌, ◌<ℤ◌}
+use Rattle.std.proofs.Common.{◌≡◌, inl, inr, ℕ, pos, negsuc, List, [], ◌∷◌, refl, arith}
+use Rattle.std.specs.Prelude.{◌≤ℤ◌}
 use Rattle.std.proofs.lemmas.Int.{ints}
 use Rattle.poly_num.specs.Vectors.{Vector}
 use Rattle.poly_model.specs.Spaces.{Space}
 use Rattle.poly_model.specs.Dictionaries.{Table}
-use Rattle.poly_model.specs.LexOrder.{outside, IsEarlier}
+use Rattle.poly_model.specs.LexOrder.{outside}
 use Rattle.poly_model.specs.Tree.{Leaves}
 use Rattle.poly_model.specs.Lowering.{IsLoweringStep, IsLowest}
 use Rattle.poly_model.specs.PhaseOne.{IsFirstWorst, GivesByPhaseOne}
@@ -14,7 +14,7 @@ use Rattle.linear_laws.proofs.Members.{all_at}
 use Rattle.tree_laws.proofs.KnownTables.{table_of, IsSolved, solved, one_is_least}
 use Rattle.tree_laws.proofs.KnownTests.{leaves}
 use Rattle.search_laws.proofs.GivenRoots.{given_one}
-use Rattle.search_laws.proofs.KnownPhaseOne.{table_with_t, space_with, start, first_with, root, first_has_points, start_is_solved, root_is_solved, both_rows, no_row_zero, rows_are_distinct}
+use Rattle.search_laws.proofs.KnownPhaseOne.{table_with_t, space_with, start, first_with, root, first_has_enough_labels, start_is_solved, root_is_solved, no_row_zero, rows_are_distinct, second_is_worst, lowers_first}
 
 -- row 3: x - 1 >= 0, as row 2
 abbrev third : Vector
@@ -70,16 +70,11 @@ before_is_solved = root_is_solved third before refl (refl, (refl, (refl, (refl, 
 
 last_is_solved : IsSolved first (0 ∷ 2 ∷ []) last
 last_is_solved = record {
-  points = first_has_points third;
+  labels = first_has_enough_labels third;
   ascending = ((omega arith, tt), (tt, tt));
   rows = ((0, omega arith, refl), ((2, omega arith, refl), tt));
   directions = (pos 1 ∷ pos 0 ∷ pos 0 ∷ []) ∷ (pos 0 ∷ pos 0 ∷ pos 1 ∷ []) ∷ [];
-  flat = ((refl, tt, refl), ((refl, tt, refl), tt));
-  independent = ((tt, λ e. cc), (((refl, tt), λ e. cc), tt));
-  enough = λ a b c e v.
-      let f = v.0 in let g = v.1.0 in
-      (omega (arith, ints), (omega (arith, ints), (omega (arith, ints), tt)));
-  positive = omega (arith, ints);
+  independent = (((refl, tt, refl), tt, λ e. cc), (((refl, tt, refl), (refl, tt), λ e. cc), tt));
   lines = (refl, (refl, (refl, (refl, (refl, tt)))));
   least = one_is_least first (0 ∷ 2 ∷ []) last refl;
 }
@@ -89,17 +84,7 @@ rows_outside_start : outside half_line.labels start ≡ 2 ∷ 3 ∷ []
 rows_outside_start = refl
 
 worst : IsFirstWorst half_line start wrong 2
-worst = record {
-  worst = record {
-    row = record {
-      row = (1, omega arith, refl);
-      outside = λ c. all_at (λ k. k ≡ 2 → ⊥) start (λ e. omega arith, tt) 2 c refl;
-    };
-    negative = omega (arith, ints);
-    least = both_rows third (λ i. wrong.constant 2 ≤ℤ wrong.constant i) (omega (arith, ints)) (omega (arith, ints));
-  };
-  first = λ i w. both_rows third (λ k. 2 ≤ k) (omega arith) (omega arith) i w.row;
-}
+worst = second_is_worst third wrong (omega (arith, ints)) (omega (arith, ints))
 
 second_is_not_first : IsFirstWorst half_line start wrong 3 → ⊥
 second_is_not_first w = let l = w.first 2 worst.worst in omega (arith, l)
@@ -111,16 +96,7 @@ t_leaves =
     (λ h. inr (refl, inr (refl, inr (refl, tt))), (λ h. absurd (omega (arith, ints)), tt))
 
 step : IsLoweringStep first.labels root 0 root before (0 ∷ 2 ∷ [])
-step = record {
-  s = 1;
-  lowers = record {
-    column = (0, omega arith, refl);
-    negative = omega (arith, ints);
-    least = all_at (λ k. before.entry 0 k <ℤ pos 0 → (k ≡ 1) ⊎ IsEarlier first.labels root 1 k) root
-        (λ h. inl refl, (λ h. absurd (omega (arith, ints)), tt));
-  };
-  neighbour = record { column = (0, omega arith, refl); r = 0; leaves = t_leaves; exchange = refl };
-}
+step = lowers_first third before 0 (omega (arith, ints)) (omega (arith, ints)) t_leaves
 
 lowest : IsLowest (0 ∷ 2 ∷ []) last 0
 lowest = all_at (λ k. pos 0 ≤ℤ last.entry 0 k) (0 ∷ 2 ∷ []) (omega (arith, ints), (omega (arith, ints), tt))

@@ -11,12 +11,10 @@ use Rattle.poly_model.specs.Labels.{is_row}
 use Rattle.linear_laws.proofs.Entries.{zeros, length-zeros, IsZero-zeros}
 use Rattle.dictionary_laws.proofs.Directions.{times_zero, vanish_zero}
 use Rattle.dictionary_laws.proofs.Filters.{member_has, member_only}
-use Rattle.tree_laws.proofs.ExtremesOfPoints.{front_vanish, behind_vanish}
+use Rattle.dictionary_laws.proofs.InFront.{vanish_in_front, with_front}
+use Rattle.tree_laws.proofs.ExtremesOfPoints.{behind_vanish}
 
 -- ---- one entry more in front
-skip : (x v : ℤ) → pos 0 *ℤ x +ℤ v ≡ v
-skip x v = omega (arith, ints)
-
 once : (x v : ℤ) → pos 1 *ℤ x +ℤ v ≡ x +ℤ v
 once x v = omega (arith, ints)
 
@@ -35,7 +33,7 @@ module _ (space : Space) (start : List ℕ) where
   first = lifted space start
 
   pub inside_front : (x : ℤ) (z : Vector) → IsInside space z → IsInside first (x ∷ z)
-  inside_front x z h = record { width = ap suc h.width; fixed = front_vanish space.fixed x z h.fixed }
+  inside_front x z h = record { width = ap suc h.width; fixed = vanish_in_front space.fixed x z h.fixed }
 
   pub inside_rest : (x : ℤ) (z : Vector) → IsInside first (x ∷ z) → IsInside space z
   inside_rest x z h =
@@ -43,7 +41,7 @@ module _ (space : Space) (start : List ℕ) where
 
   -- the value at infinity is that of the rest
   pub same_infinity : (x : ℤ) (z : Vector) → first.infinity · (x ∷ z) ≡ space.infinity · z
-  same_infinity x z = skip x (space.infinity · z)
+  same_infinity x z = with_front space.infinity x z
 
   pub direction_front : (x : ℤ) (z : Vector) → IsDirection space z → IsDirection first (x ∷ z)
   direction_front x z h = record { inside = inside_front x z h.inside; level = same_infinity x z ∙ h.level }
@@ -110,7 +108,7 @@ module _ (space : Space) (start : List ℕ) where
   value_inside k n c x z =
       value_of k n x z
       ∙ ap (λ (c : ℤ). c *ℤ x +ℤ space.form k · z) (lift_inside k c)
-      ∙ skip x (space.form k · z)
+      ∙ with_front (space.form k) x z
 
   pub lift_outside : (k : ℕ) → is_row k ≡ true → (Contains start k → ⊥) → lift_of start k ≡ pos 1
   lift_outside k row o = lift_is k true (is_member k start) row refl ∙ by (is_member k start) refl

@@ -10,6 +10,7 @@ use Rattle.poly_model.specs.Dictionaries.{Table}
 use Rattle.poly_model.specs.LexOrder.{IsPositive, gaps, rows_in, order, IsEarlier, list_of}
 use Rattle.poly_model.specs.Tree.{IsRowDictionary, IsLexFeasible, IsNeighbour, exchanged_key}
 use Rattle.linear_laws.proofs.Members.{Contains-nil}
+use Rattle.linear_laws.proofs.Signs.{not_both, minus_positive}
 use Rattle.dictionary_laws.specs.Keys.{AreDistinct}
 use Rattle.dictionary_laws.proofs.Members.{contains_or, contains_cases}
 use Rattle.poly_model.specs.Lowering.{IsLoweringStep, IsLowest}
@@ -18,16 +19,13 @@ use Rattle.tree_laws.proofs.Levels.{level_list, own_level, list_is_levels}
 use Rattle.tree_laws.proofs.FirstMembers.{IsFirst, first_with}
 use Rattle.tree_laws.proofs.OrderLemmas.{order_has, not_earlier_and_later}
 use Rattle.tree_laws.proofs.Least.{some_leaves}
-use Rattle.tree_laws.proofs.Neighbours.{minus_positive, key_entry, neighbour_exchanges, one_neighbour}
+use Rattle.tree_laws.proofs.Neighbours.{key_entry, neighbour_exchanges, one_neighbour}
 use Rattle.tree_laws.proofs.AnyTable.{same_entry, neighbour_too}
 use Rattle.tree_laws.proofs.Falls.{level_gaps, falls}
 
 append_nil : (xs : List ℤ) → xs ++ [] ≡ xs
 append_nil [] = refl
 append_nil (x ∷ xs) = ap (λ ys. x ∷ ys) (append_nil xs)
-
-not_both : (x : ℤ) → x <ℤ pos 0 → pos 0 ≤ℤ x → ⊥
-not_both x l g = omega (arith, lin)
 
 pub only_row : (space : Space) (q : ℕ) → Contains (rows_in space.labels) q → (j : ℕ) → Contains (q ∷ []) j →
     Contains (rows_in space.labels) j

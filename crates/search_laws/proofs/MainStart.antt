@@ -14,12 +14,13 @@ use Rattle.poly_model.specs.Spaces.{Space, HasPoints, marked, IsStartCobasis, ma
 use Rattle.poly_model.specs.Dictionaries.{Table, IsDictionary}
 use Rattle.poly_model.specs.LexOrder.{rows_in}
 use Rattle.poly_model.specs.Tree.{IsRowDictionary}
-use Rattle.linear_laws.proofs.Members.{Contains-nil, Contains-first, Contains-later, all_at}
+use Rattle.poly_model.specs.Labels.{IsRow}
+use Rattle.linear_laws.proofs.Members.{all_at}
 use Rattle.dictionary_laws.specs.Points.{RowsDetermine}
-use Rattle.dictionary_laws.proofs.Members.{all_from, by_cases}
+use Rattle.dictionary_laws.proofs.Members.{all_from}
 use Rattle.dictionary_laws.proofs.Existence.{some_dictionary}
 use Rattle.dictionary_laws.proofs.PhasePoints.{phase_points}
-use Rattle.dictionary_laws.proofs.Starts.{start_exists, start_is_cobasis}
+use Rattle.dictionary_laws.proofs.Starts.{start_exists, start_is_cobasis, marked_only}
 use Rattle.tree_laws.proofs.MainLabels.{main_in}
 use Rattle.tree_laws.proofs.AscendingRows.{fewer, main_rows_ascend}
 use Rattle.tree_laws.proofs.ExtremesOfInequalities as inequalities
@@ -30,14 +31,6 @@ use Rattle.search_laws.proofs.Decided.{phase_one_decides}
 use Rattle.search_laws.proofs.FeasibleFiles.{main_has_no_row_zero, feasible_files, roots_of_points}
 
 -- ---- the marked members of a list
-marked_only : (ks : List ℕ) (ms : List Bool) (k : ℕ) → Contains (marked ks ms) k → Contains ks k
-marked_only [] ms k c = absurd (Contains-nil k c)
-marked_only (x ∷ ks) [] k c = absurd (Contains-nil k c)
-marked_only (x ∷ ks) (true ∷ ms) k c =
-    by_cases (Contains (x ∷ ks)) x (marked ks ms) (Contains-first x ks)
-    (λ j i. Contains-later j x ks (marked_only ks ms j i)) k c
-marked_only (x ∷ ks) (false ∷ ms) k c = Contains-later k x ks (marked_only ks ms k c)
-
 marked_ascend : (ks : List ℕ) (ms : List Bool) → IsAscending ks → IsAscending (marked ks ms)
 marked_ascend [] ms h = tt
 marked_ascend (x ∷ ks) [] h = tt
@@ -68,7 +61,7 @@ start_dictionary space points ascending rows start h =
     )
 
 module _ (p : Polyhedron) (free : List ℕ) (f : AreFreeColumns (cone_of p) free)
-    (few : length (cone_of p).rows < 8192) where
+    (few : IsRow (length (cone_of p).rows)) where
   rows_of_kind : (kind : Kind) → p.kind ≡ kind → RowsDetermine (main_in kind p free)
   rows_of_kind H k = inequalities.rows_determine p k free f (fewer p few)
   rows_of_kind V k = points.rows_determine p free f few

@@ -9,11 +9,11 @@ use Rattle.poly_model.specs.Dictionaries.{Table}
 use Rattle.poly_model.specs.LexOrder.{IsPositive}
 use Rattle.poly_model.specs.Tree.{IsRowDictionary, MayEnter}
 use Rattle.linear_laws.proofs.Members.{Contains-first, Contains-later}
+use Rattle.linear_laws.proofs.Signs.{minus_positive}
 use Rattle.dictionary_laws.specs.Numbers.{IsOwnRow}
 use Rattle.dictionary_laws.proofs.Directions.{times_zero, zero_times}
 use Rattle.dictionary_laws.proofs.Values.{own_row}
 use Rattle.search_laws.specs.ChildTest.{neighbour_entry, downward, WouldEnter, AreNeighbourEntries}
-use Rattle.tree_laws.proofs.Neighbours.{minus_positive}
 use Rattle.search_laws.proofs.NeighbourColumns.{positive_at_members}
 
 -- ---- sums of two products, of which one is 0
@@ -132,7 +132,7 @@ module _ (space : Space) (root key : List ℕ) (t : Table) (d : IsRowDictionary 
       (IsPositive (map (λ q. neg_ℤ (neighbour_entry t s r j q)) qs)) up
       (one_part q (zero_times (t.entry q s) (t.entry r j) z)) o
 
-  pub are_neighbour_entries : AreNeighbourEntries space.labels root key t s r j
+  pub are_neighbour_entries : AreNeighbourEntries t s r space.labels root j
   are_neighbour_entries = record {
     at_r = same_row (t.entry r s) (t.entry r j);
     at_s = at_s;

@@ -13,7 +13,8 @@ use Rattle.poly_model.specs.Dictionaries.{Table, sum_over}
 use Rattle.poly_model.specs.LexOrder.{rows_in}
 use Rattle.poly_model.specs.Tree.{IsRowDictionary, IsRowOutside, IsFeasibleRoot, exchanged_key}
 use Rattle.linear_laws.proofs.Members.{Contains-first, Contains-later}
-use Rattle.linear_laws.proofs.Nearest.{nonnegative_product}
+use Rattle.linear_laws.proofs.Nearest.{both_nonnegative}
+use Rattle.linear_laws.proofs.Signs.{zero_or, nonnegative_zero}
 use Rattle.dictionary_laws.specs.Keys.{Exchanges}
 use Rattle.dictionary_laws.proofs.Members.{contains_cases, sum_single}
 use Rattle.dictionary_laws.proofs.Directions.{times_zero, zero_times}
@@ -21,30 +22,17 @@ use Rattle.dictionary_laws.proofs.Duals.{distinct}
 use Rattle.dictionary_laws.proofs.Values.{terms}
 use Rattle.poly_model.specs.Lowering.{IsLowest}
 use Rattle.search_laws.specs.PhaseOne.{HasNoRowZero, MeetsRows, GivesRoot}
-use Rattle.tree_laws.proofs.LexLemmas.{by_sign}
 use Rattle.tree_laws.proofs.FirstMembers.{IsFirst, first_with}
 use Rattle.tree_laws.proofs.Numbers.{row_is_label, key_row}
 use Rattle.tree_laws.proofs.OrderLemmas.{row_only}
 use Rattle.tree_laws.proofs.ExchangedKeys.{exchanges}
 use Rattle.tree_laws.proofs.Exchange.{exchanged_dictionary}
 use Rattle.tree_laws.proofs.PointValues.{IsKeyPoint, row_at_direction, nonnegative_value}
-use Rattle.tree_laws.proofs.SettledRows.{zero_or}
 use Rattle.search_laws.proofs.LiftedForms.{first, along_t, along_t_direction, t_is_not_zero, inside_front, same_infinity, value_of_t, value_without}
 use Rattle.search_laws.proofs.StartWithT.{not_t}
 use Rattle.search_laws.proofs.KeyPoints.{key_point, root_from_point}
 
 -- ---- sums that are not negative
-nonnegative_both : (a b : ℤ) → pos 0 ≤ℤ a → pos 0 ≤ℤ b → pos 0 ≤ℤ (a *ℤ b)
-nonnegative_both a b h k =
-    by_sign (pos 0 ≤ℤ (a *ℤ b)) a (λ p. nonnegative_product a b p k)
-    (λ e. none (a *ℤ b) (zero_times a b e)) (λ l. absurd (below a l h))
-  where
-    none : (x : ℤ) → x ≡ pos 0 → pos 0 ≤ℤ x
-    none x e = omega (arith, lin)
-
-    below : (a : ℤ) → a <ℤ pos 0 → pos 0 ≤ℤ a → ⊥
-    below a l h = omega (arith, lin)
-
 nonnegative_over : (ks : List ℕ) (f : ℕ → ℤ) → ((k : ℕ) → Contains ks k → pos 0 ≤ℤ f k) → pos 0 ≤ℤ sum_over ks f
 nonnegative_over [] f h = omega (arith, ints)
 nonnegative_over (k ∷ ks) f h =
@@ -64,16 +52,13 @@ module _ (space : Space) (start key : List ℕ) (t : Table) where
     row_value : (k : ℕ) → Contains key k → pos 0 ≤ℤ ((first space start).form k · lifted_vector)
     row_value k c =
         ⊎_elim
-        (λ (e : k ≡ 0). at_least ((first space start).form k · lifted_vector)
+        (λ (e : k ≡ 0). nonnegative_zero ((first space start).form k · lifted_vector)
         (ap (λ j. (first space start).form j · lifted_vector) e ∙ value_of_t space start (pos 0) m.vector))
         (λ (l : Contains (rows_in space.labels) k).
         subst (λ (x : ℤ). pos 0 ≤ℤ x)
         (sym (value_without space start k (not_t space start none k (row_only space k l).0) (pos 0) m.vector refl))
         (m.rows k l))
         (contains_cases 0 (rows_in space.labels) k (key_row (first space start) key t d k c))
-      where
-        at_least : (x : ℤ) → x ≡ pos 0 → pos 0 ≤ℤ x
-        at_least x e = omega (arith, lin)
 
     pub none_meets_rows : ⊥
     none_meets_rows =
@@ -82,7 +67,7 @@ module _ (space : Space) (start key : List ℕ) (t : Table) where
         (positive_product (t.constant 0) ((first space start).infinity · lifted_vector) up
         (subst (λ (x : ℤ). pos 0 <ℤ x) (sym (same_infinity space start (pos 0) m.vector)) m.finite))
         (nonnegative_over key (terms (first space start) t 0 lifted_vector)
-        (λ k c. nonnegative_both (t.entry 0 k) ((first space start).form k · lifted_vector) (low k c) (row_value k c)))
+        (λ k c. both_nonnegative (t.entry 0 k) ((first space start).form k · lifted_vector) (low k c) (row_value k c)))
         (sym (d.dictionary.writes.values 0 (Contains-first 0 space.labels) lifted_vector
         (inside_front space start (pos 0) m.vector m.inside))
         ∙ times_zero t.denominator ((first space start).form 0 · lifted_vector)

@@ -1,5 +1,5 @@
 -- The root of the search of a polyhedron: there is one where the file is feasible, and it is one.
-use Rattle.std.proofs.Common.{◌≡◌, inl, ℕ, ◌<◌, List, length, refl, sym, subst}
+use Rattle.std.proofs.Common.{◌≡◌, inl, ℕ, List, length, refl, sym, subst}
 use Rattle.poly_model.specs.declared.kind.Kind.{Kind}
 use Rattle.poly_model.specs.declared.kind.Kind.TheVariants.{H, V}
 use Rattle.poly_model.specs.Systems.{Polyhedron, cone_of}
@@ -8,6 +8,7 @@ use Rattle.poly_model.specs.Extreme.{IsFeasibleAs, IsFeasible}
 use Rattle.poly_model.specs.Spaces.{IsStartCobasis, main_space}
 use Rattle.poly_model.specs.PhaseOne.{GivesByPhaseOne, IsSearchRoot}
 use Rattle.poly_model.specs.Subtrees.{IsSubtreeRoot}
+use Rattle.poly_model.specs.Labels.{IsRow}
 use Rattle.cone_laws.proofs.ColumnLemmas.{one_list_of_columns}
 use Rattle.dictionary_laws.proofs.PhasePoints.{phase_points}
 use Rattle.dictionary_laws.proofs.Starts.{one_start}
@@ -44,7 +45,7 @@ module _ (p : Polyhedron) where
           (subst (λ free. IsStartCobasis (main_space p free) b.start) same_free b.is_start) a.is_start
 
   -- ---- there is one where the file is feasible
-  module _ (few : length (cone_of p).rows < 8192) where
+  module _ (few : IsRow (length (cone_of p).rows)) where
     feasible_of : (kind : Kind) → p.kind ≡ kind → (root : List ℕ) → IsSubtreeRoot p root → IsFeasible (cone_of p)
     feasible_of H k root r =
         (feasible_files p r.free k r.columns few).1 (point_of_root (main_space p r.free) root r.home r.feasible)

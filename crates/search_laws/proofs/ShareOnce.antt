@@ -1,11 +1,11 @@
 -- Each vector of a share once: two shares meet only where one key is under the other, and what a run has shown is not
 -- in the shares that wait. It is a hypothesis here that a vector is shown along columns of one cobasis at most.
-use Rattle.std.proofs.Common.{◌≡◌, ◌⊎◌, ⊎_elim, ℕ, List, ◌∷◌, ◌++◌, ℤ, pos, sym, subst, arith}
-use Rattle.std.specs.Prelude.{◌<ℤ◌, None, Some}
+use Rattle.std.proofs.Common.{◌≡◌, ◌⊎◌, ⊎_elim, ℕ, List, ◌∷◌, ◌++◌, sym, subst}
+use Rattle.std.specs.Prelude.{None, Some}
 use Rattle.std.specs.List.{Contains}
 use Rattle.std.proofs.lemmas.List.Elements.{Contains-append_left, Contains-append_right}
 use Rattle.poly_num.specs.Vectors.{Vector, ◌·◌}
-use Rattle.poly_num.proofs.Ring.{lin}
+use Rattle.poly_num.proofs.Order.{positive_nonzero}
 use Rattle.poly_model.specs.Spaces.{Space}
 use Rattle.poly_model.specs.Dictionaries.{Table}
 use Rattle.poly_model.specs.LexOrder.{rows_in}
@@ -26,17 +26,14 @@ RaysAreOne space root =
     IsShownAt space root other u (Some r) y → key ≡ other
 
 module _ (space : Space) (root : List ℕ) (rays : RaysAreOne space root) where
-  finite_or_not : (x : ℤ) → pos 0 <ℤ x → x ≡ pos 0 → ⊥
-  finite_or_not x l e = omega (arith, lin)
-
   -- points are told from rays by their value at infinity
   pub one_place : (b c : List ℕ) (y : Vector) → IsShownBy space root b y → IsShownBy space root c y → b ≡ c
   one_place b c y (t, f, None, x) (u, g, None, z) =
       one_key space root y b c t u f.dictionary g.dictionary x.0 z.0 x.1 z.1
   one_place b c y (t, f, None, x) (u, g, Some r, z) =
-      absurd (finite_or_not (space.infinity · y) x.1.finite z.1.level)
+      absurd (positive_nonzero (space.infinity · y) x.1.finite z.1.level)
   one_place b c y (t, f, Some s, x) (u, g, None, z) =
-      absurd (finite_or_not (space.infinity · y) z.1.finite x.1.level)
+      absurd (positive_nonzero (space.infinity · y) z.1.finite x.1.level)
   one_place b c y (t, f, Some s, x) (u, g, Some r, z) = rays b c t u s r y f g x z
 
   module _ (home : Table) (h : IsFeasibleRoot space root home) (distinct : AreDistinct (rows_in space.labels)) where

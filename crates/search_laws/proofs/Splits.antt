@@ -4,7 +4,7 @@ use Rattle.std.specs.List.{Contains}
 use Rattle.std.proofs.lemmas.List.Elements.{Contains-append_left, Contains-append_right, Contains-append_cases}
 use Rattle.poly_model.specs.Spaces.{Space}
 use Rattle.linear_laws.proofs.Members.{Contains-first, Contains-later, Contains-cons_cases}
-use Rattle.search_laws.specs.Weights.{IsTotal, IsUnderSome, IsApart, AreApart}
+use Rattle.search_laws.specs.Weights.{IsTotal, IsUnderSome, AreIncomparable, IsAntichain}
 use Rattle.search_laws.specs.Splits.{IsSplit}
 use Rattle.search_laws.proofs.OnceLists.{at_first_or_later, at_either}
 
@@ -32,24 +32,24 @@ module _ {X : Type 0} (x : X) (front back : List X) where
       (Contains-cons_cases y x (front ++ back) c)
 
 module _ (space : Space) (root : List ℕ) where
-  turned : (key other : List ℕ) → IsApart space root key other → IsApart space root other key
+  turned : (key other : List ℕ) → AreIncomparable space root key other → AreIncomparable space root other key
   turned key other a = record { above = a.below; below = a.above }
 
-  apart_to_front : (one : List ℕ) (front back : List (List ℕ)) → AreApart space root (front ++ one ∷ back) →
-      AreApart space root (one ∷ front ++ back)
+  apart_to_front : (one : List ℕ) (front back : List (List ℕ)) → IsAntichain space root (front ++ one ∷ back) →
+      IsAntichain space root (one ∷ front ++ back)
   apart_to_front one [] back a = a
   apart_to_front one (k ∷ front) back a =
       let b = apart_to_front one front back a.1 in (
-        at_first_or_later (λ o. IsApart space root one o) k (front ++ back)
+        at_first_or_later (λ o. AreIncomparable space root one o) k (front ++ back)
             (turned k one (a.0 one (Contains-append_right front (one ∷ back) one (Contains-first one back)))) b.0,
         (λ o c. a.0 o (from_front_has one front back o (Contains-later o one (front ++ back) c)), b.1),
       )
 
-  apart_from_front : (one : List ℕ) (front back : List (List ℕ)) → AreApart space root (one ∷ front ++ back) →
-      AreApart space root (front ++ one ∷ back)
+  apart_from_front : (one : List ℕ) (front back : List (List ℕ)) → IsAntichain space root (one ∷ front ++ back) →
+      IsAntichain space root (front ++ one ∷ back)
   apart_from_front one [] back a = a
   apart_from_front one (k ∷ front) back a = (
-    λ o c. at_first_or_later (λ o. IsApart space root k o) one (front ++ back)
+    λ o c. at_first_or_later (λ o. AreIncomparable space root k o) one (front ++ back)
         (turned one k (a.0 k (Contains-first k (front ++ back)))) a.1.0 o (to_front_has one front back o c),
     apart_from_front one front back (λ o c. a.0 o (Contains-later o k (front ++ back) c), a.1.1),
   )
@@ -57,7 +57,7 @@ module _ (space : Space) (root : List ℕ) where
   -- the keys that wait, as another list of the same
   same_split : (key : List ℕ) (visited waiting others : List (List ℕ)) → IsSplit space root key visited waiting →
       ((k : List ℕ) → Contains waiting k → Contains others k) →
-      ((k : List ℕ) → Contains others k → Contains waiting k) → AreApart space root others →
+      ((k : List ℕ) → Contains others k → Contains waiting k) → IsAntichain space root others →
       IsSplit space root key visited others
   same_split key visited waiting others s there back a = record {
     once = s.once;
@@ -82,11 +82,12 @@ module _ (space : Space) (root : List ℕ) where
         (to_front_has one front back) (apart_from_front one front back s.apart),
   )
 
-  pub apart-append : (ks ls : List (List ℕ)) → AreApart space root ks → AreApart space root ls →
-      ((k o : List ℕ) → Contains ks k → Contains ls o → IsApart space root k o) → AreApart space root (ks ++ ls)
+  pub apart-append : (ks ls : List (List ℕ)) → IsAntichain space root ks → IsAntichain space root ls →
+      ((k o : List ℕ) → Contains ks k → Contains ls o → AreIncomparable space root k o) →
+      IsAntichain space root (ks ++ ls)
   apart-append [] ls a b h = b
   apart-append (k ∷ ks) ls a b h = (
-    at_either (λ o. IsApart space root k o) ks ls a.0 (λ o c. h k o (Contains-first k ks) c),
+    at_either (λ o. AreIncomparable space root k o) ks ls a.0 (λ o c. h k o (Contains-first k ks) c),
     apart-append ks ls a.1 b (λ j o c d. h j o (Contains-later j k ks c) d),
   )
 

@@ -14,7 +14,7 @@ use Rattle.tree_laws.proofs.AscendingRows.{main_rows_ascend}
 use Rattle.tree_laws.proofs.OneList.{same_columns}
 use Rattle.tree_laws.proofs.ListedVectors as listed
 use Rattle.search_laws.specs.Shares.{StandOnce, ListsAll, IsFeasibleUnder, IsChild}
-use Rattle.search_laws.specs.Weights.{AreApart}
+use Rattle.search_laws.specs.Weights.{IsAntichain}
 use Rattle.search_laws.specs.Splits.{IsSplit, IsShownBySome, InSomeShare, AreSplit}
 use Rattle.search_laws.specs.Partitions.{PartsShare}
 use Rattle.search_laws.specs.SharesOfListings.{LiesUnder, IsKeyUnder, IsSubtreeChild, IsShownAtSome, InSomeSubtree, IsRun, RunsPartSubtrees}
@@ -26,7 +26,7 @@ use Rattle.search_laws.proofs.SubtreeShares as words
 
 -- ---- keys that are apart
 module _ (space : Space) (root : List ℕ) where
-  same_or_apart : (keys : List (List ℕ)) → AreApart space root keys → (b c : List ℕ) → Contains keys b →
+  same_or_apart : (keys : List (List ℕ)) → IsAntichain space root keys → (b c : List ℕ) → Contains keys b →
       Contains keys c → IsUnder space root b c → b ≡ c
   same_or_apart [] a b c m n u = absurd (Contains-nil b m)
   same_or_apart (key ∷ keys) a b c m n u =
@@ -40,7 +40,7 @@ module _ (space : Space) (root : List ℕ) where
       (Contains-cons_cases c key keys n))
       (Contains-cons_cases b key keys m)
 
-  apart_once : (keys : List (List ℕ)) → AreApart space root keys → StandOnce keys
+  apart_once : (keys : List (List ℕ)) → IsAntichain space root keys → StandOnce keys
   apart_once [] a = tt
   apart_once (key ∷ keys) a = (λ c. (a.0 key c).above (under_itself space root key), apart_once keys a.1)
 

@@ -1,5 +1,5 @@
 -- Keys, shares and weights in the words of a polyhedron's listing, from those of its main space.
-use Rattle.std.proofs.Common.{◌⊎◌, ◌↔◌, inl, inr, ◌+◌, ◌<◌, ℕ, List, [], ◌∷◌, length, refl}
+use Rattle.std.proofs.Common.{◌⊎◌, ◌↔◌, inl, inr, ◌+◌, ℕ, List, [], ◌∷◌, length, refl}
 use Rattle.std.specs.Prelude.{Option}
 use Rattle.std.specs.List.{Contains}
 use Rattle.poly_num.specs.Vectors.{Vector}
@@ -8,6 +8,7 @@ use Rattle.poly_model.specs.Extreme.{IsShown, IsExtreme}
 use Rattle.poly_model.specs.Spaces.{Space, main_space, in_main}
 use Rattle.poly_model.specs.Tree.{IsUnder}
 use Rattle.poly_model.specs.Subtrees.{IsSubtreeRoot, IsSubtreeKey, IsShownAtKey, InSubtree}
+use Rattle.poly_model.specs.Labels.{IsRow}
 use Rattle.linear_laws.proofs.Members.{Contains-first, Contains-later}
 use Rattle.tree_laws.proofs.AscendingRows.{main_rows_ascend}
 use Rattle.tree_laws.proofs.MainExtremes.{extremes_of_main}
@@ -151,7 +152,7 @@ module _ (p : Polyhedron) (root : List ℕ) (h : IsSubtreeRoot p root) where
   }
 
   -- ---- the share of the root
-  module _ (few : length (cone_of p).rows < 8192) (y : Vector) where
+  module _ (few : IsRow (length (cone_of p).rows)) (y : Vector) where
     listed_there : InSubtree p root root y → IsExtreme (cone_of p) y
     listed_there m =
         (extremes_of_main p h.free h.columns few y).1

@@ -10,7 +10,7 @@ use Rattle.poly_model.specs.Tree.{IsFeasibleRoot}
 use Rattle.linear_laws.proofs.Members.{Contains-nil, Contains-first, Contains-later}
 use Rattle.dictionary_laws.specs.Keys.{AreDistinct}
 use Rattle.search_laws.specs.Shares.{ListsAll, IsFeasibleKey, IsChild, IsFeasibleUnder, InShare, IsTree}
-use Rattle.search_laws.specs.Weights.{IsWeight, IsTotal, IsUnderSome, IsApart}
+use Rattle.search_laws.specs.Weights.{IsWeight, IsTotal, IsUnderSome, AreIncomparable}
 use Rattle.search_laws.specs.Splits.{IsSplit, IsShownBySome, InSomeShare, AreSplit}
 use Rattle.search_laws.proofs.OnceLists.{at_first_or_later, at_either, once-append}
 use Rattle.search_laws.proofs.ShareParts.{under_twice, child_under, under_itself, is_tree}
@@ -69,7 +69,7 @@ module _ (space : Space) (root : List ℕ) (home : Table) (h : IsFeasibleRoot sp
     own : IsFeasibleUnder space root key one
     own = s.waits one (Contains-first one waiting)
 
-    apart_from : (o : List ℕ) → Contains waiting o → IsApart space root one o
+    apart_from : (o : List ℕ) → Contains waiting o → AreIncomparable space root one o
     apart_from o c = s.apart.0 o c
 
     -- what is under a child is under the key that is visited
@@ -102,10 +102,10 @@ module _ (space : Space) (root : List ℕ) (home : Table) (h : IsFeasibleRoot sp
     one_not_waiting u =
         ⊎_elim
         (not_itself_under space root home h distinct one own.0 cs l)
-        (λ (w : IsUnderSome space root waiting one). IsApart.above (apart_from w.key w.member) w.under)
+        (λ (w : IsUnderSome space root waiting one). AreIncomparable.above (apart_from w.key w.member) w.under)
         (under_some_part space root cs waiting one u)
 
-    child_apart : (c o : List ℕ) → Contains cs c → Contains waiting o → IsApart space root c o
+    child_apart : (c o : List ℕ) → Contains cs c → Contains waiting o → AreIncomparable space root c o
     child_apart c o m n =
         let p = l.only c m in
         let a = apart_from o n in

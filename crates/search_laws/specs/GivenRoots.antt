@@ -1,6 +1,6 @@
 -- The root that phase one gives: it is feasible, it is one, and there is one exactly where some vector meets all rows;
 -- and so the root of the search of a polyhedron.
-use Rattle.std.specs.Prelude.{◌≡◌, ◌↔◌, ℕ, ◌<◌, List, length}
+use Rattle.std.specs.Prelude.{◌≡◌, ◌↔◌, ℕ, List, length}
 use Rattle.poly_model.specs.Systems.{Polyhedron, cone_of}
 use Rattle.poly_model.specs.Extreme.{IsFeasible}
 use Rattle.poly_model.specs.Spaces.{Space}
@@ -9,6 +9,7 @@ use Rattle.poly_model.specs.LexOrder.{rows_in}
 use Rattle.poly_model.specs.Tree.{IsRowDictionary, IsFeasibleRoot}
 use Rattle.poly_model.specs.PhaseOne.{GivesByPhaseOne, IsSearchRoot}
 use Rattle.poly_model.specs.Subtrees.{IsSubtreeRoot}
+use Rattle.poly_model.specs.Labels.{IsRow}
 use Rattle.dictionary_laws.specs.Keys.{AreDistinct}
 use Rattle.search_laws.specs.PhaseOne.{HasNoRowZero, MeetsRows}
 
@@ -39,4 +40,4 @@ pub record HasSearchRoot (p : Polyhedron) : Type 0 where
 
 -- each polyhedron does. No label of a row may be that of a coordinate
 abbrev pub SearchRoots : Type 0
-SearchRoots = (p : Polyhedron) → length (cone_of p).rows < 8192 → HasSearchRoot p
+SearchRoots = (p : Polyhedron) → IsRow (length (cone_of p).rows) → HasSearchRoot p

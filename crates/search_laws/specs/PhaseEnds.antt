@@ -1,5 +1,5 @@
 -- The end of phase one: no vector meets all rows, or a feasible root is at hand; and for which files.
-use Rattle.std.specs.Prelude.{◌≡◌, ◌≢◌, ◌⊎◌, ◌↔◌, ℕ, ◌<◌, pos, ◌<ℤ◌, List, ◌∷◌, length}
+use Rattle.std.specs.Prelude.{◌≡◌, ◌≢◌, ◌⊎◌, ◌↔◌, ℕ, pos, ◌<ℤ◌, List, ◌∷◌, length}
 use Rattle.std.specs.List.{Contains}
 use Rattle.poly_model.specs.declared.kind.Kind.TheVariants.{H, V}
 use Rattle.poly_model.specs.Systems.{Polyhedron, cone_of}
@@ -9,6 +9,7 @@ use Rattle.poly_model.specs.Spaces.{Space, lifted, main_space}
 use Rattle.poly_model.specs.Dictionaries.{Table, Writes}
 use Rattle.poly_model.specs.Tree.{IsRowDictionary, IsRowOutside, IsFeasibleRoot, exchanged_key}
 use Rattle.poly_model.specs.Lowering.{IsLowest}
+use Rattle.poly_model.specs.Labels.{IsRow}
 use Rattle.search_laws.specs.PhaseOne.{HasNoRowZero, MeetsRows, GivesRoot}
 
 -- where t is lowest and its constant is positive, no vector meets all rows
@@ -66,7 +67,7 @@ MainHasNoRowZero = (p : Polyhedron) (free : List ℕ) → HasNoRowZero (main_spa
 abbrev pub FeasibleFiles : Type 0
 FeasibleFiles =
     (p : Polyhedron) (free : List ℕ) → p.kind ≡ H → AreFreeColumns (cone_of p) free →
-    length (cone_of p).rows < 8192 → IsFeasible (cone_of p) ↔ MeetsRows (main_space p free)
+    IsRow (length (cone_of p).rows) → IsFeasible (cone_of p) ↔ MeetsRows (main_space p free)
 
 -- of a V file all constants are 0: each cobasis of rows is a feasible root
 abbrev pub RootsOfPoints : Type 0

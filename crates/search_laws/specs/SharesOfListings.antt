@@ -1,6 +1,6 @@
 -- Shares, weights and runs in the words of a polyhedron's listing: the share of the root is the extreme vectors, and a
 -- run that visits some keys and gives others back parts the share of its key.
-use Rattle.std.specs.Prelude.{◌≡◌, ◌⊎◌, ◌↔◌, ◌+◌, ◌<◌, ℕ, List, [], ◌∷◌, ◌++◌, length, Option}
+use Rattle.std.specs.Prelude.{◌≡◌, ◌⊎◌, ◌↔◌, ◌+◌, ℕ, List, [], ◌∷◌, ◌++◌, length, Option}
 use Rattle.std.specs.List.{Contains}
 use Rattle.poly_num.specs.Vectors.{Vector}
 use Rattle.poly_model.specs.Systems.{Polyhedron, cone_of}
@@ -8,6 +8,7 @@ use Rattle.poly_model.specs.FreeColumns.{AreFreeColumns}
 use Rattle.poly_model.specs.Extreme.{IsExtreme}
 use Rattle.poly_model.specs.Spaces.{main_space}
 use Rattle.poly_model.specs.Subtrees.{IsSubtreeRoot, IsSubtreeKey, IsSubtreeDepth, IsShownAtKey, InSubtree}
+use Rattle.poly_model.specs.Labels.{IsRow}
 use Rattle.search_laws.specs.Shares.{ListsAll}
 use Rattle.search_laws.specs.Splits.{IsSplit}
 use Rattle.search_laws.specs.Partitions.{PartsShare}
@@ -54,8 +55,8 @@ module _ (p : Polyhedron) (root : List ℕ) where
 -- the share of the root is the extreme vectors. No label of a row may be that of a coordinate
 abbrev pub RootShareIsListing : Type 0
 RootShareIsListing =
-    (p : Polyhedron) (root : List ℕ) → length (cone_of p).rows < 8192 → IsSubtreeRoot p root → (y : Vector) →
-    InSubtree p root root y ↔ IsExtreme (cone_of p) y
+    (p : Polyhedron) (root : List ℕ) → IsRow (length (cone_of p).rows) → IsSubtreeRoot p root →
+    (y : Vector) → InSubtree p root root y ↔ IsExtreme (cone_of p) y
 
 pub record HasSubtreeShares (p : Polyhedron) (root : List ℕ) : Type 0 where
   -- the root is a key; what lies over a key is one; what lies under a key that lies under another lies under that

@@ -9,7 +9,7 @@ use Rattle.poly_model.specs.LexOrder.{rows_in}
 use Rattle.poly_model.specs.Tree.{IsFeasibleRoot}
 use Rattle.dictionary_laws.specs.Keys.{AreDistinct}
 use Rattle.search_laws.specs.Shares.{StandOnce, ListsAll, IsFeasibleKey, IsChild, IsFeasibleUnder, IsShownBy, InShare}
-use Rattle.search_laws.specs.Weights.{IsWeight, IsTotal, IsUnderSome, AreApart}
+use Rattle.search_laws.specs.Weights.{IsWeight, IsTotal, IsUnderSome, IsAntichain}
 
 module _ (space : Space) (root : List ℕ) where
   -- each lexicographically feasible cobasis under the key is visited or under a key that waits, and not both
@@ -20,7 +20,7 @@ module _ (space : Space) (root : List ℕ) where
         Contains visited one ⊎ IsUnderSome space root waiting one
     pub not_both : (one : List ℕ) → Contains visited one → IsUnderSome space root waiting one → ⊥
     pub waits : (one : List ℕ) → Contains waiting one → IsFeasibleUnder space root key one
-    pub apart : AreApart space root waiting
+    pub apart : IsAntichain space root waiting
 
   -- y is shown at one of these
   abbrev pub IsShownBySome : List (List ℕ) → Vector → Type 0

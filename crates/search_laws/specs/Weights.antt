@@ -25,13 +25,13 @@ module _ (space : Space) (root : List ℕ) where
     pub under : IsUnder space root one key
 
   -- none of two of these keys is under the other
-  pub record IsApart (key other : List ℕ) : Type 0 where
+  pub record AreIncomparable (key other : List ℕ) : Type 0 where
     pub above : IsUnder space root key other → ⊥
     pub below : IsUnder space root other key → ⊥
 
-  abbrev pub AreApart : List (List ℕ) → Type 0
-  AreApart [] = Unit {0}
-  AreApart (key ∷ keys) = ((other : List ℕ) → Contains keys other → IsApart key other) × AreApart keys
+  abbrev pub IsAntichain : List (List ℕ) → Type 0
+  IsAntichain [] = Unit {0}
+  IsAntichain (key ∷ keys) = ((other : List ℕ) → Contains keys other → AreIncomparable key other) × IsAntichain keys
 
 -- a lexicographically feasible cobasis has one weight: one more than the total of its children
 pub record HasWeight (space : Space) (root key : List ℕ) : Type 0 where

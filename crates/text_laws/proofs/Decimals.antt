@@ -26,14 +26,14 @@ one_digit n lt = record {
   value = omega arith;
 }
 
-nonempty : (text more : List ℕ) → is_nonempty text ≡ true → is_nonempty (text ++ more) ≡ true
-nonempty [] more e = absurd cc
-nonempty (b ∷ text) more e = refl
+pub some_more : (text more : List ℕ) → is_nonempty text ≡ true → is_nonempty (text ++ more) ≡ true
+some_more [] more e = absurd cc
+some_more (b ∷ text) more e = refl
 
 digit_more : (n : ℕ) (text : List ℕ) → 10 ≤ n → IsDecimalOf (n / 10) text → IsDecimalOf n (text ++ (48 + n % 10) ∷ [])
 unfolding value_of
 digit_more n text le h = record {
-  some = nonempty text ((48 + n % 10) ∷ []) h.some;
+  some = some_more text ((48 + n % 10) ∷ []) h.some;
   digits = rw (list_all-append is_digit text ((48 + n % 10) ∷ []), h.digits, digit (n % 10) (omega arith)) refl;
   value =
       fold-append with_digit_of 0 text ((48 + n % 10) ∷ [])

@@ -39,7 +39,9 @@ strip_text : List ℕ
 strip_text = file (codes "V-representation/linearity 1 1/begin/***** 3 rational/ 0 1 0/ 1 0 0/ 1 0 3;2/end/")
 
 strip_printed : listing_text H 3 strip_lines strip_points ≡ strip_text
-unfolding strip_lines strip_points strip_text title_text number_text numbers_text linearity_text size_text head_text entry_text entries_text vector_text denominator_text fraction_text coordinates_text point_text is_point row_text end_text lowest gcd_of gcd_in digits
+unfolding strip_lines strip_points strip_text title_text number_text numbers_text linearity_text size_text head_text
+    entry_text entries_text vector_text denominator_text fraction_text coordinates_text point_text is_point row_text
+    end_text lowest gcd_of gcd_in digits
 strip_printed = refl
 
 strip_rows : List FileRow
@@ -49,12 +51,17 @@ strip_rows =
     ∷ record { entries = pos 2 ∷ pos 0 ∷ pos 3 ∷ []; linear = false } ∷ []
 
 strip_read : reading strip_text ≡ Ok (record { kind = V; n = 3; rows = strip_rows; text = strip_text })
-unfolding strip_text strip_rows reading checked_marks lines_from pieces firsts each head_of body_of are_counts line_fault names_on opening_of rows_announced width_of type_fault size_of matrix_of late_fault number_of name_fault with_names value_of count_of numbers_in first_fault row_fault checked_row rows_from gcd_in gcd_of lcm_of lowest common_den scaled_entries is_wide_row
+unfolding strip_text strip_rows reading checked_marks lines_from pieces firsts each head_of body_of are_counts
+    line_fault names_on opening_of rows_announced width_of type_fault size_of matrix_of late_fault number_of
+    name_fault with_names value_of count_of numbers_in first_fault row_fault checked_row rows_from gcd_in gcd_of
+    lcm_of lowest common_den scaled_entries is_wide_row
 strip_read = refl
 
 -- it meets the premises
 strip_within : IsWithinLimits H 3 strip_lines strip_points
-unfolding strip_lines strip_points strip_text title_text number_text numbers_text linearity_text size_text head_text entry_text entries_text vector_text denominator_text fraction_text coordinates_text point_text is_point row_text end_text lowest gcd_of gcd_in digits
+unfolding strip_lines strip_points strip_text title_text number_text numbers_text linearity_text size_text head_text
+    entry_text entries_text vector_text denominator_text fraction_text coordinates_text point_text is_point row_text
+    end_text lowest gcd_of gcd_in digits
 strip_within = record {
   some_columns = omega arith;
   columns = omega arith;
@@ -90,7 +97,8 @@ segment_text : List ℕ
 segment_text = file (codes "H-representation/linearity 1 1/begin/***** 3 rational/ 0 -1 2/ 0 1 0/ 20 -3 0/end/")
 
 segment_printed : listing_text V 3 segment_lines segment_facets ≡ segment_text
-unfolding segment_lines segment_facets segment_text title_text number_text numbers_text linearity_text size_text head_text entry_text entries_text vector_text row_text end_text digits
+unfolding segment_lines segment_facets segment_text title_text number_text numbers_text linearity_text size_text
+    head_text entry_text entries_text vector_text row_text end_text digits
 segment_printed = refl
 
 segment_rows : List FileRow
@@ -100,24 +108,38 @@ segment_rows =
     ∷ record { entries = pos 20 ∷ negsuc 2 ∷ pos 0 ∷ []; linear = false } ∷ []
 
 segment_read : reading segment_text ≡ Ok (record { kind = H; n = 3; rows = segment_rows; text = segment_text })
-unfolding segment_text segment_rows reading checked_marks lines_from pieces firsts each head_of body_of are_counts line_fault names_on opening_of rows_announced width_of type_fault size_of matrix_of late_fault number_of name_fault with_names value_of count_of numbers_in first_fault row_fault checked_row rows_from gcd_in gcd_of lcm_of lowest common_den scaled_entries is_wide_row
+unfolding segment_text segment_rows reading checked_marks lines_from pieces firsts each head_of body_of are_counts
+    line_fault names_on opening_of rows_announced width_of type_fault size_of matrix_of late_fault number_of
+    name_fault with_names value_of count_of numbers_in first_fault row_fault checked_row rows_from gcd_in gcd_of
+    lcm_of lowest common_den scaled_entries is_wide_row
 segment_read = refl
 
 -- ---- each premise is needed
 
 -- a listing of an H file without a row
 nothing_listed : reading (listing_text H 2 [] []) ≡ bad NoRows 4
-unfolding title_text number_text numbers_text linearity_text size_text head_text end_text digits reading checked_marks lines_from pieces firsts each head_of body_of are_counts line_fault names_on opening_of rows_announced width_of type_fault size_of matrix_of late_fault number_of name_fault with_names value_of count_of numbers_in first_fault row_fault checked_row rows_from gcd_in gcd_of lcm_of lowest common_den scaled_entries is_wide_row
+unfolding title_text number_text numbers_text linearity_text size_text head_text end_text digits reading checked_marks
+    lines_from pieces firsts each head_of body_of are_counts line_fault names_on opening_of rows_announced width_of
+    type_fault size_of matrix_of late_fault number_of name_fault with_names value_of count_of numbers_in first_fault
+    row_fault checked_row rows_from gcd_in gcd_of lcm_of lowest common_den scaled_entries is_wide_row
 nothing_listed = refl
 
 -- a line of an H file that begins with 1
 line_with_one : reading (listing_text H 2 ((pos 1 ∷ pos 3 ∷ []) ∷ []) []) ≡ bad LinearPoint 5
-unfolding title_text number_text numbers_text linearity_text size_text head_text entry_text entries_text vector_text end_text digits reading checked_marks lines_from pieces firsts each head_of body_of are_counts line_fault names_on opening_of rows_announced width_of type_fault size_of matrix_of late_fault number_of name_fault with_names value_of count_of numbers_in first_fault row_fault checked_row rows_from gcd_in gcd_of lcm_of lowest common_den scaled_entries is_wide_row
+unfolding title_text number_text numbers_text linearity_text size_text head_text entry_text entries_text vector_text
+    end_text digits reading checked_marks lines_from pieces firsts each head_of body_of are_counts line_fault names_on
+    opening_of rows_announced width_of type_fault size_of matrix_of late_fault number_of name_fault with_names
+    value_of count_of numbers_in first_fault row_fault checked_row rows_from gcd_in gcd_of lcm_of lowest common_den
+    scaled_entries is_wide_row
 line_with_one = refl
 
 -- a shown vector of an H file that begins with a negative number
 negative_first : reading (listing_text H 2 [] ((negsuc 0 ∷ pos 3 ∷ []) ∷ [])) ≡ bad BadFirst 4
-unfolding title_text number_text numbers_text linearity_text size_text head_text entry_text entries_text vector_text is_point row_text end_text digits reading checked_marks lines_from pieces firsts each head_of body_of are_counts line_fault names_on opening_of rows_announced width_of type_fault size_of matrix_of late_fault number_of name_fault with_names value_of count_of numbers_in first_fault row_fault checked_row rows_from gcd_in gcd_of lcm_of lowest common_den scaled_entries is_wide_row
+unfolding title_text number_text numbers_text linearity_text size_text head_text entry_text entries_text vector_text
+    is_point row_text end_text digits reading checked_marks lines_from pieces firsts each head_of body_of are_counts
+    line_fault names_on opening_of rows_announced width_of type_fault size_of matrix_of late_fault number_of
+    name_fault with_names value_of count_of numbers_in first_fault row_fault checked_row rows_from gcd_in gcd_of
+    lcm_of lowest common_den scaled_entries is_wide_row
 negative_first = refl
 
 -- a vector with a common divisor loses it
@@ -129,5 +151,9 @@ halved = record { entries = pos 1 ∷ pos 2 ∷ []; linear = false } ∷ []
 
 divided : reading (listing_text V 2 [] doubled)
     ≡ Ok (record { kind = H; n = 2; rows = halved; text = listing_text V 2 [] doubled })
-unfolding doubled halved title_text number_text numbers_text linearity_text size_text head_text entry_text entries_text vector_text row_text end_text digits reading checked_marks lines_from pieces firsts each head_of body_of are_counts line_fault names_on opening_of rows_announced width_of type_fault size_of matrix_of late_fault number_of name_fault with_names value_of count_of numbers_in first_fault row_fault checked_row rows_from gcd_in gcd_of lcm_of lowest common_den scaled_entries is_wide_row
+unfolding doubled halved title_text number_text numbers_text linearity_text size_text head_text entry_text
+    entries_text vector_text row_text end_text digits reading checked_marks lines_from pieces firsts each head_of
+    body_of are_counts line_fault names_on opening_of rows_announced width_of type_fault size_of matrix_of late_fault
+    number_of name_fault with_names value_of count_of numbers_in first_fault row_fault checked_row rows_from gcd_in
+    gcd_of lcm_of lowest common_den scaled_entries is_wide_row
 divided = refl

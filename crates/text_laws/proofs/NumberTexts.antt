@@ -15,7 +15,7 @@ use Rattle.poly_model.specs.ListingText.{denominator_text}
 use Rattle.poly_reader.specs.Lines.{is_nonempty, is_same}
 use Rattle.poly_reader.specs.Grammar.{is_digit, is_negative, unsigned, is_slash, numerator_of, denominator_of, signed}
 use Rattle.poly_reader.specs.Matrix.{sizes_of, number_of}
-use Rattle.text_laws.proofs.Decimals.{decimal_is, count_of_is}
+use Rattle.text_laws.proofs.Decimals.{decimal_is, count_of_is, some_more}
 use Rattle.text_laws.proofs.PlainWords.{is_plain, IsPlainWord, all_weaker}
 
 -- p, or p/q
@@ -178,10 +178,6 @@ denominator_bytes (negsuc n) lt = signed_bytes (negsuc n) lt
 signed_some : (z : ℤ) → IsNum z → is_nonempty (signed_decimal z) ≡ true
 signed_some (pos n) lt = (decimal_is n lt).some
 signed_some (negsuc n) lt = refl
-
-some_more : (text more : List ℕ) → is_nonempty text ≡ true → is_nonempty (text ++ more) ≡ true
-some_more [] more e = absurd cc
-some_more (b ∷ text) more e = refl
 
 word_bytes : (f : Fraction) → IsPrintable f → list_all is_number_byte (number_word f) ≡ true
 word_bytes f h =

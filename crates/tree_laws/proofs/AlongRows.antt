@@ -6,13 +6,13 @@ use Rattle.poly_model.specs.Spaces.{Space}
 use Rattle.poly_model.specs.Dictionaries.{Table}
 use Rattle.poly_model.specs.LexOrder.{IsNonnegative, IsPositive, rows_in}
 use Rattle.poly_model.specs.Tree.{IsRowDictionary, Leaves, IsNeighbour, exchanged_key}
+use Rattle.linear_laws.proofs.Signs.{minus_negative}
 use Rattle.tree_laws.proofs.LexLemmas.{values_nonnegative, positive_value, positive_or_not}
 use Rattle.tree_laws.proofs.FirstMembers.{IsFirst, first_with}
 use Rattle.tree_laws.proofs.Least.{some_leaves}
 use Rattle.tree_laws.proofs.Neighbours.{key_entry, neighbour_exchanges, neighbour_dictionary, neighbour_feasible}
 use Rattle.tree_laws.proofs.Falls.{falls}
 use Rattle.tree_laws.proofs.Chains.{State, IsLower, by_falls}
-use Rattle.tree_laws.proofs.Parents.{negative_of}
 
 module _ (space : Space) (root : List ℕ) (home : Table) (h : IsRowDictionary space root home) (qs : List ℕ)
     (rows : (q : ℕ) → Contains qs q → Contains (rows_in space.labels) q) where
@@ -28,7 +28,7 @@ module _ (space : Space) (root : List ℕ) (home : Table) (h : IsRowDictionary s
     some_leaving : (s : ℕ) → Contains d.key s → IsDown s → (r : ℕ) × Leaves space.labels root d.key d.table s r
     some_leaving s c p =
         let w = positive_value (λ q. neg_ℤ (d.table.entry q s)) qs p in
-        let l = negative_of (d.table.entry w.0 s) w.2 in
+        let l = minus_negative (d.table.entry w.0 s) w.2 in
         some_leaves space root d.key d.table s w.0
         (record {
           row = rows w.0 w.1;

@@ -1,5 +1,5 @@
 -- The rows of the spaces of the phases main and first ascend.
-use Rattle.std.proofs.Common.{◌≡◌, ℕ, Bool, true, false, cond, zero, suc, ◌+◌, ◌<◌, List, [], ◌∷◌, ◌++◌, length, refl, sym, ap, subst, ◌∙◌, arith}
+use Rattle.std.proofs.Common.{◌≡◌, ℕ, Bool, true, false, cond, ◌<◌, List, [], ◌∷◌, ◌++◌, length, refl, sym, ap, subst, ◌∙◌, arith}
 use Rattle.std.specs.List.{Contains, filter, range_with_len}
 use Rattle.std.proofs.lemmas.Bool.{le-ltb, cond-false}
 use Rattle.std.proofs.lemmas.List.{length-append}
@@ -8,27 +8,17 @@ use Rattle.poly_model.specs.declared.kind.Kind.TheVariants.{H, V}
 use Rattle.poly_model.specs.Keys.{IsAscending}
 use Rattle.poly_model.specs.Systems.{Polyhedron, file_rows, cone_of, added_row}
 use Rattle.poly_model.specs.Spaces.{Space, is_left, labels_of, lifted, main_space}
-use Rattle.poly_model.specs.Labels.{is_row}
+use Rattle.poly_model.specs.Labels.{is_row, IsRow}
 use Rattle.poly_model.specs.LexOrder.{rows_in}
 use Rattle.linear_laws.proofs.Members.{Contains-first, Contains-later, all_at}
 use Rattle.linear_laws.proofs.AllLemmas.{all_both}
 use Rattle.dictionary_laws.specs.Coordinates.{coordinate_key}
 use Rattle.dictionary_laws.proofs.Members.{all_from}
-use Rattle.dictionary_laws.proofs.Filters.{filter_only, range_only}
+use Rattle.dictionary_laws.proofs.Filters.{filter_only, range_only, ascending_filter, ascending_range}
 use Rattle.dictionary_laws.proofs.KeyExchange.{ascending_distinct}
 use Rattle.dictionary_laws.proofs.CoordinateSpaces.{coordinate_keys}
 use Rattle.tree_laws.specs.Extremes.{HasAscendingRows}
-use Rattle.tree_laws.proofs.OrderLemmas.{ascending_filter}
 use Rattle.tree_laws.proofs.MainLabels.{main_in}
-
--- ---- labels in a row
-ascending_range : (a n : ℕ) → IsAscending (range_with_len a n)
-ascending_range a zero = tt
-ascending_range a (suc n) = (
-  all_from (λ k. a < k) (range_with_len (a + 1) n)
-      (λ k c. let l = (range_only (a + 1) n k c).0 in omega arith),
-  ascending_range (a + 1) n,
-)
 
 -- ---- the labels of coordinates are none of rows
 filter-append : (test : ℕ → Bool) (ks ls : List ℕ) → filter test (ks ++ ls) ≡ filter test ks ++ filter test ls
@@ -58,7 +48,7 @@ rows_left left m j n =
     ∙ filter-append is_row (filter left (range_with_len 1 m)) (filter left (coordinate_key j n))
     ∙ ap (λ l. filter is_row (filter left (range_with_len 1 m)) ++ l)
     (filter_none is_row (filter left (coordinate_key j n)) (λ k c.
-    le-ltb k 8192 ((coordinate_keys j n).coordinates k (filter_only left (coordinate_key j n) k c).0)))
+    le-ltb k _ ((coordinate_keys j n).coordinates k (filter_only left (coordinate_key j n) k c).0)))
     ∙ append_nil (filter is_row (filter left (range_with_len 1 m)))
 
 pub positive_labels : (m j n k : ℕ) → Contains (labels_of m j n) k → 0 < k
@@ -89,7 +79,7 @@ module _ (left : ℕ → Bool) (m j n : ℕ) where
     left_ascend,
   )
 
-pub fewer : (p : Polyhedron) → length (cone_of p).rows < 8192 → length (file_rows p) < 8192
+pub fewer : (p : Polyhedron) → IsRow (length (cone_of p).rows) → IsRow (length (file_rows p))
 fewer p l = omega (arith, l, length-append (file_rows p) (added_row p.kind p.n (file_rows p)))
 
 main_ascends : (kind : Kind) (p : Polyhedron) (free : List ℕ) →

@@ -1,20 +1,21 @@
 -- A cobasis is the neighbour of each of its neighbours, in the column of the row that took its place: so each child is
 -- a neighbour of its parent.
-use Rattle.std.proofs.Common.{◌≡◌, ℕ, List, ℤ, pos, ◌*ℤ◌, neg_ℤ, refl, sym, ap, subst, ◌∙◌, arith}
+use Rattle.std.proofs.Common.{◌≡◌, ℕ, List, ℤ, pos, ◌*ℤ◌, neg_ℤ, refl, sym, ap, subst, ◌∙◌}
 use Rattle.std.specs.Prelude.{◌<ℤ◌}
-use Rattle.poly_num.proofs.Ring.{lin, neg-mul-neg}
+use Rattle.poly_num.proofs.Ring.{neg-mul-neg}
 use Rattle.poly_num.proofs.Order.{positive_product, positive_factor}
 use Rattle.poly_model.specs.Spaces.{Space}
 use Rattle.poly_model.specs.Dictionaries.{Table}
 use Rattle.poly_model.specs.LexOrder.{IsNonnegative}
 use Rattle.poly_model.specs.Tree.{IsRowOutside, IsLexFeasible, Leaves, IsNeighbour, IsParent, exchanged_key}
+use Rattle.linear_laws.proofs.Signs.{minus_negative, minus_positive}
 use Rattle.dictionary_laws.specs.Keys.{Exchanges}
 use Rattle.tree_laws.proofs.ListSums.{nonnegative_along}
 use Rattle.tree_laws.proofs.Numbers.{key_row}
 use Rattle.tree_laws.proofs.Levels.{level, places}
 use Rattle.tree_laws.proofs.ExchangedKeys.{exchanges, leaving_outside, exchanged_back}
 use Rattle.tree_laws.proofs.Exchange.{gap, ratio_gaps_are, back_entry, exchanged_level}
-use Rattle.tree_laws.proofs.Neighbours.{minus_positive, levels_nonnegative, neighbour_exchanges}
+use Rattle.tree_laws.proofs.Neighbours.{levels_nonnegative, neighbour_exchanges}
 
 module _ (space : Space) (root key new : List ℕ) (t u : Table) (f : IsLexFeasible space root key t)
     (g : IsLexFeasible space root new u) (s : ℕ) (n : IsNeighbour space.labels root key t s new) where
@@ -45,9 +46,6 @@ module _ (space : Space) (root key new : List ℕ) (t u : Table) (f : IsLexFeasi
       g.dictionary.dictionary.writes.positive)
       (back_entry space key new t u f.dictionary g.dictionary s n.r n.column n.leaves.row there)
     where
-      minus_negative : (x : ℤ) → pos 0 <ℤ neg_ℤ x → x <ℤ pos 0
-      minus_negative x h = omega (arith, lin)
-
       other_negative : (x y p : ℤ) → x <ℤ pos 0 → pos 0 <ℤ p → x *ℤ y ≡ p → y <ℤ pos 0
       other_negative x y p h l e =
           minus_negative y (positive_factor (neg_ℤ x) (neg_ℤ y) (minus_positive x h)

@@ -1,10 +1,11 @@
 -- An ascending key of rows with one label in the place of another: ascending, and exchanged back it is the key.
-use Rattle.std.proofs.Common.{◌≡◌, ◌≢◌, ◌<◌, ℕ, Bool, true, false, cond, not, List, [], ◌∷◌, refl, sym, ap, subst, ⊎_elim, arith}
-use Rattle.std.specs.Prelude.{◌==◌, nat_lt}
-use Rattle.std.specs.List.{AllByRecursion, Contains, filter}
-use Rattle.std.proofs.lemmas.Bool.{cases_eq, eqb-false, ltb-true, ltb-false}
+use Rattle.std.proofs.Common.{◌≡◌, ◌≢◌, ◌<◌, ℕ, Bool, true, false, cond, not, List, [], ◌∷◌, refl, sym, ap, subst, ⊎_elim}
+use Rattle.std.specs.Prelude.{◌==◌}
+use Rattle.std.specs.List.{Contains, filter}
+use Rattle.std.proofs.lemmas.Bool.{cases_eq}
 use Rattle.poly_model.specs.Keys.{IsAscending, with_label}
 use Rattle.poly_model.specs.Tree.{exchanged_key}
+use Rattle.poly_model.proofs.KeyLemmas.{ascending_with}
 use Rattle.dictionary_laws.specs.Keys.{Exchanges}
 use Rattle.linear_laws.proofs.Members.{all_at, ascending_is_one}
 use Rattle.dictionary_laws.proofs.Members.{all_from, without, without_only}
@@ -30,34 +31,6 @@ ascending_without s (x ∷ ks) h = by (x == s) (ascending_without s ks h.1)
       all_from (λ y. x < y) (without s ks) (λ k c. all_at (λ y. x < y) ks h.0 k (without_only s ks k c).0),
       a,
     )
-
-all_with : (P : ℕ → Type 0) (r : ℕ) (ks : List ℕ) → P r → AllByRecursion P ks → AllByRecursion P (with_label r ks)
-all_with P r [] p h = (p, tt)
-all_with P r (x ∷ ks) p h = by (all_with P r ks p h.1) (nat_lt r x) (r == x)
-  where
-    by : AllByRecursion P (with_label r ks) → (l e : Bool) →
-        AllByRecursion P (cond l (r ∷ x ∷ ks) (cond e (x ∷ ks) (x ∷ with_label r ks)))
-    by rest true e = (p, h)
-    by rest false true = h
-    by rest false false = (h.0, rest)
-
-pub ascending_with : (r : ℕ) (ks : List ℕ) → IsAscending ks → IsAscending (with_label r ks)
-ascending_with r [] h = (tt, tt)
-ascending_with r (x ∷ ks) h = by (nat_lt r x) refl (r == x) refl (ascending_with r ks h.1)
-  where
-    by : (l : Bool) → nat_lt r x ≡ l → (e : Bool) → (r == x) ≡ e → IsAscending (with_label r ks) →
-        IsAscending (cond l (r ∷ x ∷ ks) (cond e (x ∷ ks) (x ∷ with_label r ks)))
-    by true f e g a =
-        let below : r < x = ltb-true r x f in (
-          (below, all_from (λ y. r < y) ks (λ k c. let m : x < k = all_at (λ y. x < y) ks h.0 k c in omega arith)),
-          h,
-        )
-    by false f true g a = h
-    by false f false g a =
-        let above : x < r = omega (arith, ltb-false r x f, eqb-false r x g) in (
-          all_with (λ y. x < y) r ks above h.0,
-          a,
-        )
 
 pub ascending_exchanged : (key : List ℕ) (s r : ℕ) → IsAscending key → IsAscending (exchanged_key key s r)
 ascending_exchanged key s r a =

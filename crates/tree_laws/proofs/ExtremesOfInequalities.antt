@@ -15,6 +15,7 @@ use Rattle.poly_model.specs.Extreme.{IsOnFace, IsShown, IsExtreme}
 use Rattle.poly_model.specs.Spaces.{Space, IsInside}
 use Rattle.poly_model.specs.LexOrder.{rows_in}
 use Rattle.poly_model.specs.Tree.{IsExtremeIn}
+use Rattle.poly_model.specs.Labels.{IsRow}
 use Rattle.linear_laws.proofs.Entries.{coordinate_reads, zeros, first_reads}
 use Rattle.linear_laws.proofs.Members.{Contains-first, all_at}
 use Rattle.cone_laws.specs.Faces.{fixed_rows}
@@ -30,7 +31,7 @@ zeros-replicate zero = refl
 zeros-replicate (suc n) = ap (λ (v : Vector). pos 0 ∷ v) (zeros-replicate n)
 
 module _ (p : Polyhedron) (kind : p.kind ≡ H) (free : List ℕ) (f : AreFreeColumns (cone_of p) free)
-    (few : length (file_rows p) < 8192) where
+    (few : IsRow (length (file_rows p))) where
   abbrev sys : System
   sys = cone_of p
 

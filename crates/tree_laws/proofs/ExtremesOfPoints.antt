@@ -7,7 +7,7 @@ use Rattle.std.proofs.lemmas.Int.{ints}
 use Rattle.std.proofs.lemmas.Nat.Gcd.{dvd-zero}
 use Rattle.std.proofs.lemmas.List.Elements.{All-from_get_or}
 use Rattle.poly_num.specs.Vectors.{Vector, ◌·◌, IsPrimitive, IsMultipleOf}
-use Rattle.poly_num.proofs.Ring.{lin, zero_mul, mul_zero}
+use Rattle.poly_num.proofs.Ring.{mul_zero}
 use Rattle.poly_model.specs.declared.kind.Kind.TheVariants.{V}
 use Rattle.poly_model.specs.Independence.{Vanish}
 use Rattle.poly_model.specs.Systems.{Row, no_row, System, Polyhedron, cone_of}
@@ -17,28 +17,22 @@ use Rattle.poly_model.specs.Extreme.{IsOnFace, IsShown, IsExtreme}
 use Rattle.poly_model.specs.Spaces.{Space, IsInside, in_front, label_form}
 use Rattle.poly_model.specs.LexOrder.{rows_in}
 use Rattle.poly_model.specs.Tree.{IsExtremeIn}
+use Rattle.poly_model.specs.Labels.{IsRow}
 use Rattle.linear_laws.proofs.Entries.{coordinate_reads}
 use Rattle.linear_laws.proofs.Members.{all_at}
-use Rattle.linear_laws.proofs.AllLemmas.{all_weaker, all_from_map, all_to_map}
+use Rattle.linear_laws.proofs.AllLemmas.{all_weaker, all_from_map}
 use Rattle.cone_laws.specs.Faces.{fixed_rows}
 use Rattle.cone_laws.proofs.RowLemmas.{LinearRowsVanish, fixed_vanish, zero_at_fixed, linear_from_fixed}
 use Rattle.cone_laws.proofs.ColumnLemmas.{zero_from_tight}
 use Rattle.cone_laws.proofs.FaceLemmas.{linear_vanish_in_cone}
 use Rattle.dictionary_laws.specs.Points.{RowsDetermine}
+use Rattle.dictionary_laws.proofs.InFront.{with_front, vanish_in_front}
 use Rattle.tree_laws.proofs.MainLabels.{main_in, meets_linear, meets_other, met_other, same_fixed, rows_from_forms, forms_from_rows}
 
 -- ---- a vector with an entry in front
-front_value : (g : Vector) (x : ℤ) (v : Vector) → in_front g · (x ∷ v) ≡ g · v
-front_value g x v = omega (arith, lin, zero_mul x)
-
-pub front_vanish : (gs : List Vector) (x : ℤ) (v : Vector) → Vanish gs v → Vanish (map in_front gs) (x ∷ v)
-front_vanish gs x v h =
-    all_to_map (λ g. g · (x ∷ v) ≡ pos 0) in_front gs
-    (all_weaker (λ g. g · v ≡ pos 0) (λ g. in_front g · (x ∷ v) ≡ pos 0) (λ g e. front_value g x v ∙ e) gs h)
-
 pub behind_vanish : (gs : List Vector) (x : ℤ) (v : Vector) → Vanish (map in_front gs) (x ∷ v) → Vanish gs v
 behind_vanish gs x v h =
-    all_weaker (λ g. in_front g · (x ∷ v) ≡ pos 0) (λ g. g · v ≡ pos 0) (λ g e. sym (front_value g x v) ∙ e) gs
+    all_weaker (λ g. in_front g · (x ∷ v) ≡ pos 0) (λ g. g · v ≡ pos 0) (λ g e. sym (with_front g x v) ∙ e) gs
     (all_from_map (λ g. g · (x ∷ v) ≡ pos 0) in_front gs h)
 
 front_primitive : (v : Vector) → IsPrimitive v → IsPrimitive (pos 0 ∷ v)
@@ -64,7 +58,7 @@ front_multiple v w x e m = (
 )
 
 module _ (p : Polyhedron) (free : List ℕ) (f : AreFreeColumns (cone_of p) free)
-    (few : length (cone_of p).rows < 8192) where
+    (few : IsRow (length (cone_of p).rows)) where
   abbrev sys : System
   sys = cone_of p
 
@@ -78,7 +72,7 @@ module _ (p : Polyhedron) (free : List ℕ) (f : AreFreeColumns (cone_of p) free
       Vanish space.fixed (x ∷ z)
   is_fixed x z h l =
       subst (λ gs. Vanish (map in_front gs) (x ∷ z)) (same_fixed p free)
-      (front_vanish (fixed_rows free sys) x z (fixed_vanish free sys z h l))
+      (vanish_in_front (fixed_rows free sys) x z (fixed_vanish free sys z h l))
 
   by_fixed : (x : ℤ) (z : Vector) → Vanish space.fixed (x ∷ z) → Vanish (fixed_rows free sys) z
   by_fixed x z v =
@@ -91,13 +85,13 @@ module _ (p : Polyhedron) (free : List ℕ) (f : AreFreeColumns (cone_of p) free
       (m : ℕ) → m < length rows → (get_or rows m no_row).linear ≡ false → P ((get_or rows m no_row).entries · z)
   form_facts P x z h =
       rows_from_forms rows rows (λ m l. refl) few 0 p.n (λ g. P (g · z))
-      (λ i c. subst P (front_value (label_form rows i) x z) (h i c))
+      (λ i c. subst P (with_front (label_form rows i) x z) (h i c))
 
   facts_of_forms : (P : ℤ → Type 0) (x : ℤ) (z : Vector) → ((m : ℕ) → m < length rows →
       (get_or rows m no_row).linear ≡ false → P ((get_or rows m no_row).entries · z)) →
       (i : ℕ) → Contains (rows_in space.labels) i → P (space.form i · (x ∷ z))
   facts_of_forms P x z h i c =
-      subst P (sym (front_value (label_form rows i) x z))
+      subst P (sym (with_front (label_form rows i) x z))
       (forms_from_rows rows rows (λ m l. refl) few 0 p.n (λ g. P (g · z)) h i c)
 
   -- ---- a direction that is 0 on all rows of the space is so on those of the cone: the rows determine a direction
@@ -133,8 +127,8 @@ module _ (p : Polyhedron) (free : List ℕ) (f : AreFreeColumns (cone_of p) free
           linear_from_fixed free sys z (by_fixed x z i.fixed) m no_row l t)
           (λ (n : (get_or rows m no_row).linear ≡ false).
           rows_from_forms rows rows (λ m l. refl) few 0 p.n (λ g. g · y ≡ pos 0 → g · z ≡ pos 0)
-          (λ k c t. sym (front_value (label_form rows k) x z)
-          ∙ others k c (front_value (label_form rows k) (pos 0) y ∙ t)) m l n)
+          (λ k c t. sym (with_front (label_form rows k) x z)
+          ∙ others k c (with_front (label_form rows k) (pos 0) y ∙ t)) m l n)
           (cases_Bool (get_or rows m no_row).linear));
     }
 
@@ -178,9 +172,9 @@ module _ (p : Polyhedron) (free : List ℕ) (f : AreFreeColumns (cone_of p) free
           fixed = is_fixed (pos 0) z (λ j c. h.free j ((f.exactly j).1 c)) h.linear;
         })
         (λ _. first_value (pos 0) z)
-        (λ i c t. front_value (label_form rows i) (pos 0) z
+        (λ i c t. with_front (label_form rows i) (pos 0) z
         ∙ forms_from_rows rows rows (λ m l. refl) few 0 p.n (λ g. g · y ≡ pos 0 → g · z ≡ pos 0)
-        (λ m l _. h.tight m no_row l) i c (sym (front_value (label_form rows i) (pos 0) y) ∙ t)))
+        (λ m l _. h.tight m no_row l) i c (sym (with_front (label_form rows i) (pos 0) y) ∙ t)))
 
     pub extreme_of_space : p.kind ≡ V → IsExtreme sys y
     extreme_of_space kind = record {

@@ -1,6 +1,6 @@
 -- The half line x >= 1 with the row x >= 0 before it: of its two cobases one is feasible. A wrong definition does not
 -- check.
-use Rattle.std.proofs.Common.{◌≡◌, ◌≢◌, inl, inr, ℕ, pos, negsuc, List, [], ◌∷◌, refl, subst, arith}
+use Rattle.std.proofs.Common.{◌≡◌, ◌≢◌, inl, inr, pos, negsuc, List, [], ◌∷◌, refl, subst, arith}
 use Rattle.std.specs.Prelude.{◌≤ℤ◌, Some, None}
 use Rattle.std.proofs.lemmas.Int.{ints}
 use Rattle.poly_num.specs.Vectors.{Vector, ◌·◌}
@@ -14,7 +14,7 @@ use Rattle.poly_model.specs.Tree.{ShowsRay, IsShownAt}
 use Rattle.linear_laws.proofs.Members.{all_at}
 use Rattle.tree_laws.proofs.AnyTable.{same_list}
 use Rattle.tree_laws.proofs.OrderLemmas.{is_row_outside}
-use Rattle.tree_laws.proofs.KnownTables.{space_of, has_points, table_of, IsSolved, solved, one_is_least}
+use Rattle.tree_laws.proofs.KnownTables.{space_of, has_enough_labels, table_of, IsSolved, solved, one_is_least}
 use Rattle.tree_laws.proofs.KnownTests.{is_lex_feasible, shows_point, shows_ray}
 
 -- rows 1: x >= 0, 2: x - 1 >= 0
@@ -27,14 +27,11 @@ rows =
 abbrev half_line : Space
 half_line = space_of 2 rows
 
-abbrev labels : List ℕ
-labels = 1 ∷ 2 ∷ 8193 ∷ []
-
 -- ---- the dictionaries of the points 0 and 1
 -- at 0
 abbrev wrong : Table
 wrong =
-    table_of (pos 1) (1 ∷ []) labels (
+    table_of (pos 1) (1 ∷ []) half_line.labels (
     (pos 0 ∷ pos 1 ∷ [])
     ∷ (negsuc 0 ∷ pos 1 ∷ [])
     ∷ (pos 0 ∷ pos 1 ∷ [])
@@ -44,7 +41,7 @@ wrong =
 -- at 1
 abbrev home : Table
 home =
-    table_of (pos 1) (2 ∷ []) labels (
+    table_of (pos 1) (2 ∷ []) half_line.labels (
     (pos 1 ∷ pos 1 ∷ [])
     ∷ (pos 0 ∷ pos 1 ∷ [])
     ∷ (pos 1 ∷ pos 1 ∷ [])
@@ -53,32 +50,22 @@ home =
 
 wrong_is_solved : IsSolved half_line (1 ∷ []) wrong
 wrong_is_solved = record {
-  points = has_points 2 rows (pos 0 ∷ []) refl;
+  labels = has_enough_labels 2 rows (pos 0 ∷ []) refl;
   ascending = (tt, tt);
   rows = ((0, omega arith, refl), tt);
   directions = (pos 0 ∷ pos 1 ∷ []) ∷ [];
-  flat = ((refl, tt, refl), tt);
-  independent = ((tt, λ e. cc), tt);
-  enough = λ a b e v.
-      let f = v.0 in
-      (omega (arith, ints), (omega (arith, ints), tt));
-  positive = omega (arith, ints);
+  independent = (((refl, tt, refl), tt, λ e. cc), tt);
   lines = (refl, (refl, (refl, tt)));
   least = one_is_least half_line (1 ∷ []) wrong refl;
 }
 
 home_is_solved : IsSolved half_line (2 ∷ []) home
 home_is_solved = record {
-  points = has_points 2 rows (pos 0 ∷ []) refl;
+  labels = has_enough_labels 2 rows (pos 0 ∷ []) refl;
   ascending = (tt, tt);
   rows = ((1, omega arith, refl), tt);
   directions = (pos 0 ∷ pos 1 ∷ []) ∷ [];
-  flat = ((refl, tt, refl), tt);
-  independent = ((tt, λ e. cc), tt);
-  enough = λ a b e v.
-      let f = v.0 in
-      (omega (arith, ints), (omega (arith, ints), tt));
-  positive = omega (arith, ints);
+  independent = (((refl, tt, refl), tt, λ e. cc), tt);
   lines = (refl, (refl, (refl, tt)));
   least = one_is_least half_line (2 ∷ []) home refl;
 }

@@ -14,7 +14,7 @@ use Rattle.poly_model.specs.Tree.{IsFeasibleRoot, IsLexFeasible}
 use Rattle.poly_model.specs.Tree.{ShowsRay, IsAlongColumn, IsShownAt}
 use Rattle.linear_laws.proofs.Members.{all_at}
 use Rattle.tree_laws.proofs.OrderLemmas.{is_row_outside}
-use Rattle.tree_laws.proofs.KnownTables.{space_of, has_points, table_of, IsSolved, solved, one_is_least}
+use Rattle.tree_laws.proofs.KnownTables.{space_of, has_enough_labels, table_of, IsSolved, solved, one_is_least}
 use Rattle.tree_laws.proofs.KnownTests.{is_lex_feasible, shows_ray}
 
 -- rows 1: y >= 0, 2: x >= 0, 3: 1 - y >= 0
@@ -28,9 +28,6 @@ rows =
 abbrev half_strip : Space
 half_strip = space_of 3 rows
 
-abbrev labels : List ℕ
-labels = 1 ∷ 2 ∷ 3 ∷ 8193 ∷ 8194 ∷ []
-
 abbrev root : List ℕ
 root = 1 ∷ 2 ∷ []
 
@@ -38,7 +35,7 @@ root = 1 ∷ 2 ∷ []
 -- at (0, 0)
 abbrev home : Table
 home =
-    table_of (pos 1) (1 ∷ 2 ∷ []) labels (
+    table_of (pos 1) (1 ∷ 2 ∷ []) half_strip.labels (
     (pos 0 ∷ pos 1 ∷ pos 0 ∷ [])
     ∷ (pos 0 ∷ pos 0 ∷ pos 1 ∷ [])
     ∷ (pos 1 ∷ negsuc 0 ∷ pos 0 ∷ [])
@@ -50,7 +47,7 @@ home =
 -- at (0, 1)
 abbrev upper : Table
 upper =
-    table_of (pos 1) (2 ∷ 3 ∷ []) labels (
+    table_of (pos 1) (2 ∷ 3 ∷ []) half_strip.labels (
     (pos 1 ∷ pos 0 ∷ negsuc 0 ∷ [])
     ∷ (pos 0 ∷ pos 1 ∷ pos 0 ∷ [])
     ∷ (pos 0 ∷ pos 0 ∷ pos 1 ∷ [])
@@ -61,32 +58,22 @@ upper =
 
 home_is_solved : IsSolved half_strip (1 ∷ 2 ∷ []) home
 home_is_solved = record {
-  points = has_points 3 rows (pos 0 ∷ pos 0 ∷ []) refl;
+  labels = has_enough_labels 3 rows (pos 0 ∷ pos 0 ∷ []) refl;
   ascending = ((omega arith, tt), (tt, tt));
   rows = ((0, omega arith, refl), ((1, omega arith, refl), tt));
   directions = (pos 0 ∷ pos 0 ∷ pos 1 ∷ []) ∷ (pos 0 ∷ pos 1 ∷ pos 0 ∷ []) ∷ [];
-  flat = ((refl, tt, refl), ((refl, tt, refl), tt));
-  independent = ((tt, λ e. cc), (((refl, tt), λ e. cc), tt));
-  enough = λ a b c e v.
-      let f = v.0 in let g = v.1.0 in
-      (omega (arith, ints), (omega (arith, ints), (omega (arith, ints), tt)));
-  positive = omega (arith, ints);
+  independent = (((refl, tt, refl), tt, λ e. cc), (((refl, tt, refl), (refl, tt), λ e. cc), tt));
   lines = (refl, (refl, (refl, (refl, (refl, tt)))));
   least = one_is_least half_strip (1 ∷ 2 ∷ []) home refl;
 }
 
 upper_is_solved : IsSolved half_strip (2 ∷ 3 ∷ []) upper
 upper_is_solved = record {
-  points = has_points 3 rows (pos 0 ∷ pos 0 ∷ []) refl;
+  labels = has_enough_labels 3 rows (pos 0 ∷ pos 0 ∷ []) refl;
   ascending = ((omega arith, tt), (tt, tt));
   rows = ((1, omega arith, refl), ((2, omega arith, refl), tt));
   directions = (pos 0 ∷ pos 1 ∷ pos 0 ∷ []) ∷ (pos 0 ∷ pos 0 ∷ negsuc 0 ∷ []) ∷ [];
-  flat = ((refl, tt, refl), ((refl, tt, refl), tt));
-  independent = ((tt, λ e. cc), (((refl, tt), λ e. cc), tt));
-  enough = λ a b c e v.
-      let f = v.0 in let g = v.1.0 in
-      (omega (arith, ints), (omega (arith, ints), (omega (arith, ints), tt)));
-  positive = omega (arith, ints);
+  independent = (((refl, tt, refl), tt, λ e. cc), (((refl, tt, refl), (refl, tt), λ e. cc), tt));
   lines = (refl, (refl, (refl, (refl, (refl, tt)))));
   least = one_is_least half_strip (2 ∷ 3 ∷ []) upper refl;
 }

@@ -1,11 +1,10 @@
 -- The pyramid over a square, its root {1, 2, 4} at a corner of the square, and the dictionaries of the four keys at its
 -- apex. A wrong definition of the tree of cobases does not check in KnownPyramidTree.
-use Rattle.std.proofs.Common.{ℕ, ℤ, pos, negsuc, List, [], ◌∷◌, refl, arith}
-use Rattle.std.proofs.lemmas.Int.{ints}
+use Rattle.std.proofs.Common.{ℤ, pos, negsuc, List, [], ◌∷◌, refl, arith}
 use Rattle.poly_num.specs.Vectors.{Vector}
 use Rattle.poly_model.specs.Spaces.{Space}
 use Rattle.poly_model.specs.Dictionaries.{Table}
-use Rattle.tree_laws.proofs.KnownTables.{space_of, inside, has_points, table_of, IsSolved, one_is_least}
+use Rattle.tree_laws.proofs.KnownTables.{space_of, inside, has_enough_labels, table_of, IsSolved, one_is_least, two_is_least}
 
 -- rows 1: z >= 0, 2: 1 - x - z >= 0, 3: 1 + x - z >= 0, 4: 1 - y - z >= 0, 5: 1 + y - z >= 0
 abbrev rows : List Vector
@@ -20,9 +19,6 @@ rows =
 abbrev pub pyramid : Space
 pyramid = space_of 4 rows
 
-abbrev labels : List ℕ
-labels = 1 ∷ 2 ∷ 3 ∷ 4 ∷ 5 ∷ 8193 ∷ 8194 ∷ 8195 ∷ []
-
 -- the direction (x, y, z)
 abbrev to : ℤ → ℤ → ℤ → Vector
 to x y z = pos 0 ∷ x ∷ y ∷ z ∷ []
@@ -31,7 +27,7 @@ to x y z = pos 0 ∷ x ∷ y ∷ z ∷ []
 -- at (1, 1, 0)
 abbrev pub home : Table
 home =
-    table_of (pos 1) (1 ∷ 2 ∷ 4 ∷ []) labels (
+    table_of (pos 1) (1 ∷ 2 ∷ 4 ∷ []) pyramid.labels (
     (pos 0 ∷ pos 1 ∷ pos 0 ∷ pos 0 ∷ [])
     ∷ (pos 0 ∷ pos 0 ∷ pos 1 ∷ pos 0 ∷ [])
     ∷ (pos 2 ∷ negsuc 1 ∷ negsuc 0 ∷ pos 0 ∷ [])
@@ -46,7 +42,7 @@ home =
 -- at (0, 0, 1), without rows 1 and 3, 1 and 2, 1 and 5, 1 and 4
 abbrev pub apex : Table
 apex =
-    table_of (pos 2) (2 ∷ 4 ∷ 5 ∷ []) labels (
+    table_of (pos 2) (2 ∷ 4 ∷ 5 ∷ []) pyramid.labels (
     (pos 2 ∷ pos 0 ∷ negsuc 0 ∷ negsuc 0 ∷ [])
     ∷ (pos 0 ∷ pos 2 ∷ pos 0 ∷ pos 0 ∷ [])
     ∷ (pos 0 ∷ negsuc 1 ∷ pos 2 ∷ pos 2 ∷ [])
@@ -60,7 +56,7 @@ apex =
 
 abbrev pub apex_too : Table
 apex_too =
-    table_of (pos 2) (3 ∷ 4 ∷ 5 ∷ []) labels (
+    table_of (pos 2) (3 ∷ 4 ∷ 5 ∷ []) pyramid.labels (
     (pos 2 ∷ pos 0 ∷ negsuc 0 ∷ negsuc 0 ∷ [])
     ∷ (pos 0 ∷ negsuc 1 ∷ pos 2 ∷ pos 2 ∷ [])
     ∷ (pos 0 ∷ pos 2 ∷ pos 0 ∷ pos 0 ∷ [])
@@ -74,7 +70,7 @@ apex_too =
 
 abbrev pub apex_low : Table
 apex_low =
-    table_of (pos 2) (2 ∷ 3 ∷ 4 ∷ []) labels (
+    table_of (pos 2) (2 ∷ 3 ∷ 4 ∷ []) pyramid.labels (
     (pos 2 ∷ negsuc 0 ∷ negsuc 0 ∷ pos 0 ∷ [])
     ∷ (pos 0 ∷ pos 2 ∷ pos 0 ∷ pos 0 ∷ [])
     ∷ (pos 0 ∷ pos 0 ∷ pos 2 ∷ pos 0 ∷ [])
@@ -88,7 +84,7 @@ apex_low =
 
 abbrev pub apex_lower : Table
 apex_lower =
-    table_of (pos 2) (2 ∷ 3 ∷ 5 ∷ []) labels (
+    table_of (pos 2) (2 ∷ 3 ∷ 5 ∷ []) pyramid.labels (
     (pos 2 ∷ negsuc 0 ∷ negsuc 0 ∷ pos 0 ∷ [])
     ∷ (pos 0 ∷ pos 2 ∷ pos 0 ∷ pos 0 ∷ [])
     ∷ (pos 0 ∷ pos 0 ∷ pos 2 ∷ pos 0 ∷ [])
@@ -102,16 +98,14 @@ apex_lower =
 
 pub home_is_solved : IsSolved pyramid (1 ∷ 2 ∷ 4 ∷ []) home
 home_is_solved = record {
-  points = has_points 4 rows (pos 0 ∷ pos 0 ∷ pos 0 ∷ []) refl;
+  labels = has_enough_labels 4 rows (pos 0 ∷ pos 0 ∷ pos 0 ∷ []) refl;
   ascending = ((omega arith, (omega arith, tt)), ((omega arith, tt), (tt, tt)));
   rows = ((0, omega arith, refl), ((1, omega arith, refl), ((3, omega arith, refl), tt)));
   directions = to (negsuc 0) (negsuc 0) (pos 1) ∷ to (negsuc 0) (pos 0) (pos 0) ∷ to (pos 0) (negsuc 0) (pos 0) ∷ [];
-  flat = ((refl, tt, refl), ((refl, tt, refl), ((refl, tt, refl), tt)));
-  independent = ((tt, λ e. cc), (((refl, tt), λ e. cc), (((refl, (refl, tt)), λ e. cc), tt)));
-  enough = λ a b c d e v.
-      let f = v.0 in let g = v.1.0 in let h = v.1.1.0 in
-      (omega (arith, ints), (omega (arith, ints), (omega (arith, ints), (omega (arith, ints), tt))));
-  positive = omega (arith, ints);
+  independent = (
+    ((refl, tt, refl), tt, λ e. cc),
+    (((refl, tt, refl), (refl, tt), λ e. cc), (((refl, tt, refl), (refl, (refl, tt)), λ e. cc), tt)),
+  );
   lines = (refl, (refl, (refl, (refl, (refl, (refl, (refl, (refl, tt))))))));
   least = one_is_least pyramid (1 ∷ 2 ∷ 4 ∷ []) home refl;
 }
@@ -119,80 +113,60 @@ home_is_solved = record {
 -- at the apex row 1 is half the sum of two: the denominator is even
 pub apex_is_solved : IsSolved pyramid (2 ∷ 4 ∷ 5 ∷ []) apex
 apex_is_solved = record {
-  points = has_points 4 rows (pos 0 ∷ pos 0 ∷ pos 0 ∷ []) refl;
+  labels = has_enough_labels 4 rows (pos 0 ∷ pos 0 ∷ pos 0 ∷ []) refl;
   ascending = ((omega arith, (omega arith, tt)), ((omega arith, tt), (tt, tt)));
   rows = ((1, omega arith, refl), ((3, omega arith, refl), ((4, omega arith, refl), tt)));
   directions = to (negsuc 0) (pos 0) (pos 0) ∷ to (pos 1) (negsuc 0) (negsuc 0) ∷ to (pos 1) (pos 1) (negsuc 0) ∷ [];
-  flat = ((refl, tt, refl), ((refl, tt, refl), ((refl, tt, refl), tt)));
-  independent = ((tt, λ e. cc), (((refl, tt), λ e. cc), (((refl, (refl, tt)), λ e. cc), tt)));
-  enough = λ a b c d e v.
-      let f = v.0 in let g = v.1.0 in let h = v.1.1.0 in
-      (omega (arith, ints), (omega (arith, ints), (omega (arith, ints), (omega (arith, ints), tt))));
-  positive = omega (arith, ints);
+  independent = (
+    ((refl, tt, refl), tt, λ e. cc),
+    (((refl, tt, refl), (refl, tt), λ e. cc), (((refl, tt, refl), (refl, (refl, tt)), λ e. cc), tt)),
+  );
   lines = (refl, (refl, (refl, (refl, (refl, (refl, (refl, (refl, tt))))))));
-  least = λ other w.
-      let z : Vector = to (pos 1) (negsuc 0) (negsuc 0) in
-      let h = w.values 1 (0, omega arith, refl) z (inside 4 rows z refl) in
-      let p = w.positive in
-      omega (arith, ints);
+  least = two_is_least pyramid (2 ∷ 4 ∷ 5 ∷ []) apex refl 1 (0, omega arith, refl) (to (negsuc 0) (pos 1) (pos 1))
+      (inside 4 rows (to (negsuc 0) (pos 1) (pos 1)) refl) refl refl (pos 0 ∷ negsuc 0 ∷ pos 0 ∷ []) refl;
 }
 
 pub apex_too_is_solved : IsSolved pyramid (3 ∷ 4 ∷ 5 ∷ []) apex_too
 apex_too_is_solved = record {
-  points = has_points 4 rows (pos 0 ∷ pos 0 ∷ pos 0 ∷ []) refl;
+  labels = has_enough_labels 4 rows (pos 0 ∷ pos 0 ∷ pos 0 ∷ []) refl;
   ascending = ((omega arith, (omega arith, tt)), ((omega arith, tt), (tt, tt)));
   rows = ((2, omega arith, refl), ((3, omega arith, refl), ((4, omega arith, refl), tt)));
   directions = to (pos 1) (pos 0) (pos 0) ∷ to (negsuc 0) (negsuc 0) (negsuc 0) ∷ to (negsuc 0) (pos 1) (negsuc 0) ∷ [];
-  flat = ((refl, tt, refl), ((refl, tt, refl), ((refl, tt, refl), tt)));
-  independent = ((tt, λ e. cc), (((refl, tt), λ e. cc), (((refl, (refl, tt)), λ e. cc), tt)));
-  enough = λ a b c d e v.
-      let f = v.0 in let g = v.1.0 in let h = v.1.1.0 in
-      (omega (arith, ints), (omega (arith, ints), (omega (arith, ints), (omega (arith, ints), tt))));
-  positive = omega (arith, ints);
+  independent = (
+    ((refl, tt, refl), tt, λ e. cc),
+    (((refl, tt, refl), (refl, tt), λ e. cc), (((refl, tt, refl), (refl, (refl, tt)), λ e. cc), tt)),
+  );
   lines = (refl, (refl, (refl, (refl, (refl, (refl, (refl, (refl, tt))))))));
-  least = λ other w.
-      let z : Vector = to (negsuc 0) (negsuc 0) (negsuc 0) in
-      let h = w.values 1 (0, omega arith, refl) z (inside 4 rows z refl) in
-      let p = w.positive in
-      omega (arith, ints);
+  least = two_is_least pyramid (3 ∷ 4 ∷ 5 ∷ []) apex_too refl 1 (0, omega arith, refl) (to (pos 1) (pos 1) (pos 1))
+      (inside 4 rows (to (pos 1) (pos 1) (pos 1)) refl) refl refl (pos 0 ∷ negsuc 0 ∷ pos 0 ∷ []) refl;
 }
 
 pub apex_low_is_solved : IsSolved pyramid (2 ∷ 3 ∷ 4 ∷ []) apex_low
 apex_low_is_solved = record {
-  points = has_points 4 rows (pos 0 ∷ pos 0 ∷ pos 0 ∷ []) refl;
+  labels = has_enough_labels 4 rows (pos 0 ∷ pos 0 ∷ pos 0 ∷ []) refl;
   ascending = ((omega arith, (omega arith, tt)), ((omega arith, tt), (tt, tt)));
   rows = ((1, omega arith, refl), ((2, omega arith, refl), ((3, omega arith, refl), tt)));
   directions = to (negsuc 0) (pos 1) (negsuc 0) ∷ to (pos 1) (pos 1) (negsuc 0) ∷ to (pos 0) (negsuc 0) (pos 0) ∷ [];
-  flat = ((refl, tt, refl), ((refl, tt, refl), ((refl, tt, refl), tt)));
-  independent = ((tt, λ e. cc), (((refl, tt), λ e. cc), (((refl, (refl, tt)), λ e. cc), tt)));
-  enough = λ a b c d e v.
-      let f = v.0 in let g = v.1.0 in let h = v.1.1.0 in
-      (omega (arith, ints), (omega (arith, ints), (omega (arith, ints), (omega (arith, ints), tt))));
-  positive = omega (arith, ints);
+  independent = (
+    ((refl, tt, refl), tt, λ e. cc),
+    (((refl, tt, refl), (refl, tt), λ e. cc), (((refl, tt, refl), (refl, (refl, tt)), λ e. cc), tt)),
+  );
   lines = (refl, (refl, (refl, (refl, (refl, (refl, (refl, (refl, tt))))))));
-  least = λ other w.
-      let z : Vector = to (negsuc 0) (pos 1) (negsuc 0) in
-      let h = w.values 1 (0, omega arith, refl) z (inside 4 rows z refl) in
-      let p = w.positive in
-      omega (arith, ints);
+  least = two_is_least pyramid (2 ∷ 3 ∷ 4 ∷ []) apex_low refl 1 (0, omega arith, refl) (to (pos 1) (negsuc 0) (pos 1))
+      (inside 4 rows (to (pos 1) (negsuc 0) (pos 1)) refl) refl refl (negsuc 0 ∷ pos 0 ∷ pos 0 ∷ []) refl;
 }
 
 pub apex_lower_is_solved : IsSolved pyramid (2 ∷ 3 ∷ 5 ∷ []) apex_lower
 apex_lower_is_solved = record {
-  points = has_points 4 rows (pos 0 ∷ pos 0 ∷ pos 0 ∷ []) refl;
+  labels = has_enough_labels 4 rows (pos 0 ∷ pos 0 ∷ pos 0 ∷ []) refl;
   ascending = ((omega arith, (omega arith, tt)), ((omega arith, tt), (tt, tt)));
   rows = ((1, omega arith, refl), ((2, omega arith, refl), ((4, omega arith, refl), tt)));
   directions = to (negsuc 0) (negsuc 0) (negsuc 0) ∷ to (pos 1) (negsuc 0) (negsuc 0) ∷ to (pos 0) (pos 1) (pos 0) ∷ [];
-  flat = ((refl, tt, refl), ((refl, tt, refl), ((refl, tt, refl), tt)));
-  independent = ((tt, λ e. cc), (((refl, tt), λ e. cc), (((refl, (refl, tt)), λ e. cc), tt)));
-  enough = λ a b c d e v.
-      let f = v.0 in let g = v.1.0 in let h = v.1.1.0 in
-      (omega (arith, ints), (omega (arith, ints), (omega (arith, ints), (omega (arith, ints), tt))));
-  positive = omega (arith, ints);
+  independent = (
+    ((refl, tt, refl), tt, λ e. cc),
+    (((refl, tt, refl), (refl, tt), λ e. cc), (((refl, tt, refl), (refl, (refl, tt)), λ e. cc), tt)),
+  );
   lines = (refl, (refl, (refl, (refl, (refl, (refl, (refl, (refl, tt))))))));
-  least = λ other w.
-      let z : Vector = to (negsuc 0) (negsuc 0) (negsuc 0) in
-      let h = w.values 1 (0, omega arith, refl) z (inside 4 rows z refl) in
-      let p = w.positive in
-      omega (arith, ints);
+  least = two_is_least pyramid (2 ∷ 3 ∷ 5 ∷ []) apex_lower refl 1 (0, omega arith, refl) (to (pos 1) (pos 1) (pos 1))
+      (inside 4 rows (to (pos 1) (pos 1) (pos 1)) refl) refl refl (negsuc 0 ∷ pos 0 ∷ pos 0 ∷ []) refl;
 }

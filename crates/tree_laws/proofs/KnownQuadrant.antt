@@ -13,7 +13,8 @@ use Rattle.poly_model.specs.LexOrder.{rows_in}
 use Rattle.poly_model.specs.Tree.{IsFeasibleRoot}
 use Rattle.poly_model.specs.Tree.{ShowsRay, IsAlongColumn, IsShownAt, IsExtremeIn}
 use Rattle.linear_laws.proofs.Members.{all_at}
-use Rattle.tree_laws.proofs.KnownTables.{space_of, each_vector, has_points, table_of, IsSolved, solved, one_is_least}
+use Rattle.linear_laws.proofs.Entries.{by_three}
+use Rattle.tree_laws.proofs.KnownTables.{space_of, has_enough_labels, table_of, IsSolved, solved, one_is_least}
 use Rattle.tree_laws.proofs.KnownTests.{shows_ray}
 
 -- rows 1: x >= 0, 2: y >= 0
@@ -26,9 +27,6 @@ rows =
 abbrev quadrant : Space
 quadrant = space_of 3 rows
 
-abbrev labels : List ℕ
-labels = 1 ∷ 2 ∷ 8193 ∷ 8194 ∷ []
-
 abbrev root : List ℕ
 root = 1 ∷ 2 ∷ []
 
@@ -36,7 +34,7 @@ root = 1 ∷ 2 ∷ []
 -- at (0, 0)
 abbrev home : Table
 home =
-    table_of (pos 1) (1 ∷ 2 ∷ []) labels (
+    table_of (pos 1) (1 ∷ 2 ∷ []) quadrant.labels (
     (pos 0 ∷ pos 1 ∷ pos 0 ∷ [])
     ∷ (pos 0 ∷ pos 0 ∷ pos 1 ∷ [])
     ∷ (pos 0 ∷ pos 1 ∷ pos 0 ∷ [])
@@ -44,18 +42,17 @@ home =
     ∷ []
     )
 
+-- the direction of the axis of x
+abbrev axis : Vector
+axis = pos 0 ∷ pos 1 ∷ pos 0 ∷ []
+
 home_is_solved : IsSolved quadrant (1 ∷ 2 ∷ []) home
 home_is_solved = record {
-  points = has_points 3 rows (pos 0 ∷ pos 0 ∷ []) refl;
+  labels = has_enough_labels 3 rows (pos 0 ∷ pos 0 ∷ []) refl;
   ascending = ((omega arith, tt), (tt, tt));
   rows = ((0, omega arith, refl), ((1, omega arith, refl), tt));
-  directions = (pos 0 ∷ pos 1 ∷ pos 0 ∷ []) ∷ (pos 0 ∷ pos 0 ∷ pos 1 ∷ []) ∷ [];
-  flat = ((refl, tt, refl), ((refl, tt, refl), tt));
-  independent = ((tt, λ e. cc), (((refl, tt), λ e. cc), tt));
-  enough = λ a b c e v.
-      let f = v.0 in let g = v.1.0 in
-      (omega (arith, ints), (omega (arith, ints), (omega (arith, ints), tt)));
-  positive = omega (arith, ints);
+  directions = axis ∷ (pos 0 ∷ pos 0 ∷ pos 1 ∷ []) ∷ [];
+  independent = (((refl, tt, refl), tt, λ e. cc), (((refl, tt, refl), (refl, tt), λ e. cc), tt));
   lines = (refl, (refl, (refl, (refl, tt))));
   least = one_is_least quadrant (1 ∷ 2 ∷ []) home refl;
 }
@@ -79,38 +76,38 @@ second_column =
     (λ n. inl (omega (arith, ints)), (λ n. absurd (n refl), tt))
 
 -- the axis of x is shown in the first column, and not in the second
-axis_is_shown : IsShownAt quadrant root root home (Some 1) (pos 0 ∷ pos 1 ∷ pos 0 ∷ [])
+axis_is_shown : IsShownAt quadrant root root home (Some 1) axis
 unfolding gcd_in gcd_of
 axis_is_shown = (
   first_column,
   record {
-    primitive = primitive_from_gcd (pos 0 ∷ pos 1 ∷ pos 0 ∷ []) refl;
+    primitive = primitive_from_gcd axis refl;
     inside = record { width = refl; fixed = tt };
     level = refl;
     here = omega (arith, ints);
-    nothing = all_at (λ k. k ≢ 1 → quadrant.form k · (pos 0 ∷ pos 1 ∷ pos 0 ∷ []) ≡ pos 0) root
+    nothing = all_at (λ k. k ≢ 1 → quadrant.form k · axis ≡ pos 0) root
         (λ n. absurd (n refl), (λ n. refl, tt));
   },
 )
 
-axis_is_not_along_the_other : IsAlongColumn quadrant root 2 (pos 0 ∷ pos 1 ∷ pos 0 ∷ []) → ⊥
+axis_is_not_along_the_other : IsAlongColumn quadrant root 2 axis → ⊥
 axis_is_not_along_the_other h = let p = h.here in omega (arith, ints)
 
 -- ---- extreme vectors
 one_is_not_zero : pos 1 ≢ pos 0
 one_is_not_zero e = cc
 
-axis_is_extreme : IsExtremeIn quadrant (pos 0 ∷ pos 1 ∷ pos 0 ∷ [])
+axis_is_extreme : IsExtremeIn quadrant axis
 unfolding gcd_in gcd_of
 axis_is_extreme = record {
-  primitive = primitive_from_gcd (pos 0 ∷ pos 1 ∷ pos 0 ∷ []) refl;
+  primitive = primitive_from_gcd axis refl;
   inside = record { width = refl; fixed = tt };
   finite = omega (arith, ints);
-  rows = all_at (λ i. pos 0 ≤ℤ (quadrant.form i · (pos 0 ∷ pos 1 ∷ pos 0 ∷ []))) (rows_in quadrant.labels)
+  rows = all_at (λ i. pos 0 ≤ℤ (quadrant.form i · axis)) (rows_in quadrant.labels)
       (omega (arith, ints), (omega (arith, ints), tt));
   alone = λ z i e f.
-      each_vector 3
-      (λ z. quadrant.infinity · z ≡ pos 0 → quadrant.form 2 · z ≡ pos 0 → IsMultipleOf (pos 0 ∷ pos 1 ∷ pos 0 ∷ []) z)
+      by_three
+      (λ z. quadrant.infinity · z ≡ pos 0 → quadrant.form 2 · z ≡ pos 0 → IsMultipleOf axis z)
       by z i.width (e refl) (f 2 (1, omega arith, refl) refl);
 }
   where
@@ -124,19 +121,19 @@ axis_is_extreme = record {
     third a b c e = omega (arith, ints)
 
     by : (a b c : ℤ) → quadrant.infinity · (a ∷ b ∷ c ∷ []) ≡ pos 0 → quadrant.form 2 · (a ∷ b ∷ c ∷ []) ≡ pos 0 →
-        IsMultipleOf (pos 0 ∷ pos 1 ∷ pos 0 ∷ []) (a ∷ b ∷ c ∷ [])
+        IsMultipleOf axis (a ∷ b ∷ c ∷ [])
     by a b c e f =
         let p = first a b c e in let q = second b in let r = third a b c f in (pos 1, b, one_is_not_zero, cc)
 
 -- the diagonal lies inside: nothing is 0 there but infinity, and the axis is no multiple of it
 diagonal_is_not_extreme : IsExtremeIn quadrant (pos 0 ∷ pos 1 ∷ pos 1 ∷ []) → ⊥
 diagonal_is_not_extreme x =
-    by (x.alone (pos 0 ∷ pos 1 ∷ pos 0 ∷ []) (record { width = refl; fixed = tt }) (λ e. refl)
+    by (x.alone axis (record { width = refl; fixed = tt }) (λ e. refl)
     (all_at (λ i. quadrant.form i · (pos 0 ∷ pos 1 ∷ pos 1 ∷ []) ≡ pos 0 →
-    quadrant.form i · (pos 0 ∷ pos 1 ∷ pos 0 ∷ []) ≡ pos 0) (rows_in quadrant.labels) (λ e. cc, (λ e. cc, tt))))
+    quadrant.form i · axis ≡ pos 0) (rows_in quadrant.labels) (λ e. cc, (λ e. cc, tt))))
   where
     apart : (p q : ℤ) → p *ℤ pos 1 ≡ q *ℤ pos 1 → p *ℤ pos 0 ≡ q *ℤ pos 1 → p ≡ pos 0
     apart p q e f = omega (arith, ints)
 
-    by : IsMultipleOf (pos 0 ∷ pos 1 ∷ pos 1 ∷ []) (pos 0 ∷ pos 1 ∷ pos 0 ∷ []) → ⊥
+    by : IsMultipleOf (pos 0 ∷ pos 1 ∷ pos 1 ∷ []) axis → ⊥
     by (p, q, n, e) = n (apart p q (ap (at 1) e) (ap (at 2) e))

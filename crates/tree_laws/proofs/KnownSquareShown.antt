@@ -9,8 +9,8 @@ use Rattle.poly_model.specs.Cones.{at}
 use Rattle.poly_model.specs.LexOrder.{rows_in}
 use Rattle.poly_model.specs.Tree.{ShowsRay, IsAtPoint, IsShownAt, IsExtremeIn}
 use Rattle.linear_laws.proofs.Members.{all_at}
+use Rattle.linear_laws.proofs.Entries.{by_three}
 use Rattle.tree_laws.proofs.OrderLemmas.{is_row_outside}
-use Rattle.tree_laws.proofs.KnownTables.{each_vector}
 use Rattle.tree_laws.proofs.KnownTests.{shows_point}
 use Rattle.tree_laws.proofs.KnownSquare.{square, home, opposite}
 
@@ -76,7 +76,7 @@ corner_is_extreme = record {
   rows = all_at (λ i. pos 0 ≤ℤ (square.form i · corner)) (rows_in square.labels)
       (omega (arith, ints), (omega (arith, ints), (omega (arith, ints), (omega (arith, ints), tt))));
   alone = λ z i e f.
-      each_vector 3 (λ z. square.form 1 · z ≡ pos 0 → square.form 2 · z ≡ pos 0 → IsMultipleOf corner z)
+      by_three (λ z. square.form 1 · z ≡ pos 0 → square.form 2 · z ≡ pos 0 → IsMultipleOf corner z)
       by z i.width (f 1 (0, omega arith, refl) refl) (f 2 (1, omega arith, refl) refl);
 }
   where

@@ -1,21 +1,32 @@
 -- Spaces given by their rows and tables by their lines; a table is the dictionary of its key where that is so for each
 -- label and each vector. For the known values in the files Known*.
-use Rattle.std.proofs.Common.{◌≡◌, ℕ, zero, suc, ℤ, pos, ◌*ℤ◌, ◌+ℤ◌, ◌≤ℤ◌, ◌<ℤ◌}
-use Rattle.std.proofs.Common.{List, [], ◌∷◌, map, length, sym, ap, ◌∙◌, arith}
+use Rattle.std.proofs.Common.{◌≡◌, ℕ, ◌<◌, zero, suc, ℤ, pos, ◌*ℤ◌, ◌+ℤ◌, ◌≤ℤ◌, ◌<ℤ◌}
+use Rattle.std.proofs.Common.{List, [], ◌∷◌, refl, map, length, sym, ap, ◌∙◌, arith}
 use Rattle.std.proofs.lemmas.Int.{ints}
 use Rattle.std.specs.Prelude.{◌≢◌, ◌==◌, if◌then◌else◌}
 use Rattle.std.specs.List.{AllByRecursion, Contains, slice_index_or}
 use Rattle.std.proofs.lemmas.List.Elements.{All-from_recursion}
 use Rattle.poly_num.specs.Vectors.{Vector, ◌·◌, scale, sum_of, IsZero}
 use Rattle.poly_num.proofs.VectorLemmas.{dot-nil, sum-dot, scale-dot}
+use Rattle.poly_num.proofs.Order.{zero_factor, positive_nonzero}
+use Rattle.poly_num.proofs.Ring.{expand, lin, mul_one, add_zero}
 use Rattle.poly_model.specs.Independence.{Vanish}
 use Rattle.poly_model.specs.Keys.{IsAscending}
 use Rattle.poly_model.specs.Spaces.{Space, IsInside, HasPoints, prepare_space}
 use Rattle.poly_model.specs.Dictionaries.{Table, AreIndependent, Writes, sum_over}
 use Rattle.poly_model.specs.LexOrder.{rows_in}
 use Rattle.poly_model.specs.Tree.{IsRowDictionary}
+use Rattle.poly_model.specs.Cones.{at}
+use Rattle.poly_model.specs.Systems.{Row, file_rows}
+use Rattle.poly_model.specs.Labels.{coordinate_label}
 use Rattle.linear_laws.proofs.Members.{all_at}
+use Rattle.linear_laws.proofs.Entries.{coordinate_reads}
 use Rattle.cone_laws.proofs.KnownValues.{inequality, h_file}
+use Rattle.dictionary_laws.proofs.Members.{sum_zero}
+use Rattle.dictionary_laws.proofs.Directions.{times_zero}
+use Rattle.dictionary_laws.proofs.Values.{level_value, terms}
+use Rattle.dictionary_laws.proofs.Filters.{coordinate_is_label}
+use Rattle.dictionary_laws.proofs.CoordinateSpaces.{coordinate_form}
 use Rattle.tree_laws.proofs.Numbers.{row_is_label}
 
 -- ---- spaces
@@ -29,16 +40,34 @@ inside n rows y w = record { width = w; fixed = tt }
 pub has_points : (n : ℕ) (rows : List Vector) (z : Vector) → length (pos 1 ∷ z) ≡ n → HasPoints (space_of n rows)
 has_points n rows z w = record { vector = pos 1 ∷ z; inside = inside n rows (pos 1 ∷ z) w; finite = λ e. cc }
 
--- P of all vectors of n entries, the entries one after the other
-abbrev pub OfEntries : ℕ → (Vector → Type 0) → Type 0
-OfEntries zero P = P []
-OfEntries (suc n) P = (a : ℤ) → OfEntries n (λ y. P (a ∷ y))
+-- the space has a point, and a vector is zero where infinity and the labels are 0 at it
+pub record HasEnoughLabels (space : Space) : Type 0 where
+  pub points : HasPoints space
+  pub enough : (z : Vector) → length z ≡ space.n → space.infinity · z ≡ pos 0 →
+      ((i : ℕ) → Contains space.labels i → space.form i · z ≡ pos 0) → IsZero z
 
-pub each_vector : (n : ℕ) (P : Vector → Type 0) → OfEntries n P → (y : Vector) → length y ≡ n → P y
-each_vector zero P h [] w = h
-each_vector zero P h (a ∷ y) w = absurd (omega arith)
-each_vector (suc n) P h [] w = absurd (omega arith)
-each_vector (suc n) P h (a ∷ y) w = each_vector n (λ y. P (a ∷ y)) (h a) y (omega arith)
+zero_by_entries : (z : Vector) → ((j : ℕ) → j < length z → at j z ≡ pos 0) → IsZero z
+zero_by_entries [] h = tt
+zero_by_entries (x ∷ z) h = (h 0 (omega arith), zero_by_entries z (λ j l. h (suc j) (omega arith)))
+
+pub has_enough_labels : (n : ℕ) (rows : List Vector) (z : Vector) → length (pos 1 ∷ z) ≡ n →
+    HasEnoughLabels (space_of n rows)
+has_enough_labels n rows z w = record {
+  points = has_points n rows z w;
+  enough = λ y l level zero. zero_by_entries y (λ j below. entry y l level zero j below);
+}
+  where
+    all : List Row
+    all = file_rows (h_file n (map inequality rows))
+
+    entry : (y : Vector) → length y ≡ n → (space_of n rows).infinity · y ≡ pos 0 →
+        ((i : ℕ) → Contains (space_of n rows).labels i → (space_of n rows).form i · y ≡ pos 0) →
+        (j : ℕ) → j < length y → at j y ≡ pos 0
+    entry y l level zeros zero below = sym (coordinate_reads 0 y) ∙ level
+    entry y l level zeros (suc j) below =
+        sym (coordinate_reads (suc j) y)
+        ∙ ap (λ g. g · y) (sym (coordinate_form all (suc j)))
+        ∙ zeros (coordinate_label (suc j)) (coordinate_is_label (length all) 1 n (suc j) (omega arith) (omega arith))
 
 -- ---- tables
 -- the number of a line at k, where its numbers stand at these labels
@@ -92,10 +121,7 @@ module _ (space : Space) (key : List ℕ) (t : Table) where
       from_line ks i · y ≡ t.constant i *ℤ (space.infinity · y) +ℤ sum_over ks (λ k. t.entry i k *ℤ (space.form k · y))
   from_line-dot [] i y w =
       times-dot (t.constant i) space.infinity y w
-      ∙ sym (plus_nothing (t.constant i *ℤ (space.infinity · y)))
-    where
-      plus_nothing : (a : ℤ) → a +ℤ pos 0 ≡ a
-      plus_nothing a = omega (arith, ints)
+      ∙ sym (add_zero (t.constant i *ℤ (space.infinity · y)))
   from_line-dot (k ∷ ks) i y w =
       sum-dot (times (t.entry i k) (space.form k)) (from_line ks i) y
       ∙ ap (λ z. z +ℤ from_line ks i · y) (times-dot (t.entry i k) (space.form k) y w)
@@ -110,66 +136,108 @@ module _ (space : Space) (key : List ℕ) (t : Table) where
   abbrev pub IsLineOf : ℕ → Type 0
   IsLineOf i = times t.denominator (space.form i) ≡ from_line key i
 
-  -- z is 0 if it is a direction that is 0 at each label of the key
-  abbrev pub IsNothingAt : Vector → Type 0
-  IsNothingAt z = space.infinity · z ≡ pos 0 → AllByRecursion (λ k. space.form k · z ≡ pos 0) key → IsZero z
+  -- where infinity and the labels of the key are 0, all labels are
+  zero_at_labels : pos 0 <ℤ t.denominator → AllByRecursion IsLineOf space.labels → (z : Vector) → length z ≡ space.n →
+      space.infinity · z ≡ pos 0 → AllByRecursion (λ k. space.form k · z ≡ pos 0) key →
+      (i : ℕ) → Contains space.labels i → space.form i · z ≡ pos 0
+  zero_at_labels p lines z w level v i c =
+      zero_factor t.denominator (space.form i · z)
+      (sym (times-dot t.denominator (space.form i) z w)
+      ∙ ap (λ u. u · z) (all_at IsLineOf space.labels lines i c)
+      ∙ level_value (t.constant i) (space.infinity · z) (sum_over key (terms space t i z)) (from_line key i · z) level
+      (from_line-dot key i z w)
+      ∙ sum_zero key (terms space t i z)
+      (λ k m. times_zero (t.entry i k) (space.form k · z) (all_at (λ k. space.form k · z ≡ pos 0) key v k m)))
+      (positive_nonzero t.denominator p)
 
   -- z is a direction
   abbrev pub IsFlat : Vector → Type 0
   IsFlat z = (length z ≡ space.n) × Vanish space.fixed z × (space.infinity · z ≡ pos 0)
 
-  -- vectors, one for each label: it is not 0 there, and the labels before it are
-  abbrev pub AreApart : List ℕ → List ℕ → List Vector → Type 0
-  AreApart before [] zs = Unit {0}
-  AreApart before (k ∷ ks) [] = ⊥
-  AreApart before (k ∷ ks) (z ∷ zs) =
-      (AllByRecursion (λ i. space.form i · z ≡ pos 0) before × (space.form k · z ≢ pos 0))
-      × AreApart (k ∷ before) ks zs
+  -- directions, one for each label: it is not 0 there, and the labels before it are
+  abbrev pub AreWitnesses : List ℕ → List ℕ → List Vector → Type 0
+  AreWitnesses before [] zs = Unit {0}
+  AreWitnesses before (k ∷ ks) [] = ⊥
+  AreWitnesses before (k ∷ ks) (z ∷ zs) =
+      (IsFlat z × AllByRecursion (λ i. space.form i · z ≡ pos 0) before × (space.form k · z ≢ pos 0))
+      × AreWitnesses (k ∷ before) ks zs
 
-  apart : (before ks : List ℕ) (zs : List Vector) → AllByRecursion IsFlat zs → AreApart before ks zs →
-      AreIndependent space before ks
-  apart before [] zs f h = tt
-  apart before (k ∷ ks) [] f h = absurd h
-  apart before (k ∷ ks) (z ∷ zs) ((w, v, l), f) ((vanish, n), h) = (
+  apart : (before ks : List ℕ) (zs : List Vector) → AreWitnesses before ks zs → AreIndependent space before ks
+  apart before [] zs h = tt
+  apart before (k ∷ ks) [] h = absurd h
+  apart before (k ∷ ks) (z ∷ zs) (((w, v, l), vanish, n), h) = (
     (z, record { inside = record { width = w; fixed = v }; level = l }, vanish, n),
-    apart (k ∷ before) ks zs f h,
+    apart (k ∷ before) ks zs h,
   )
+
+  -- the denominator is positive, and none that writes the labels is less
+  abbrev pub IsLeast : Type 0
+  IsLeast = (pos 0 <ℤ t.denominator) × ((other : Table) → Writes space key other → t.denominator ≤ℤ other.denominator)
 
   -- the dictionary of a key of rows: each label has its line, and the entries of a direction are 0 one after the other
   pub record IsSolved : Type 0 where
-    pub points : HasPoints space
+    pub labels : HasEnoughLabels space
     pub ascending : IsAscending key
     pub rows : AllByRecursion (Contains (rows_in space.labels)) key
     pub directions : List Vector
-    pub flat : AllByRecursion IsFlat directions
-    pub independent : AreApart [] key directions
-    pub enough : OfEntries space.n IsNothingAt
-    pub positive : pos 0 <ℤ t.denominator
+    pub independent : AreWitnesses [] key directions
     pub lines : AllByRecursion IsLineOf space.labels
-    pub least : (other : Table) → Writes space key other → t.denominator ≤ℤ other.denominator
+    pub least : IsLeast
 
   pub solved : IsSolved → IsRowDictionary space key t
   solved h = record {
-    points = h.points;
+    points = h.labels.points;
     ascending = h.ascending;
     rows = All-from_recursion (Contains (rows_in space.labels)) key h.rows;
     dictionary = record {
       cobasis = record {
         labels = λ k d l. row_is_label space (slice_index_or key k d)
             (All-from_recursion (Contains (rows_in space.labels)) key h.rows k d l);
-        independent = apart [] key h.directions h.flat h.independent;
-        enough = λ z d v. each_vector space.n IsNothingAt h.enough z d.inside.width d.level v;
+        independent = apart [] key h.directions h.independent;
+        enough = λ z d v. h.labels.enough z d.inside.width d.level
+            (zero_at_labels h.least.0 h.lines z d.inside.width d.level v);
       };
       writes = record {
-        positive = h.positive;
+        positive = h.least.0;
         values = λ i c y d. sym (times-dot t.denominator (space.form i) y d.width)
             ∙ ap (λ v. v · y) (all_at IsLineOf space.labels h.lines i c)
             ∙ from_line-dot key i y d.width;
       };
-      least = h.least;
+      least = h.least.1;
     };
   }
 
-  pub one_is_least : t.denominator ≡ pos 1 → (other : Table) → Writes space key other →
-      t.denominator ≤ℤ other.denominator
-  one_is_least e other w = let p = w.positive in omega (arith, ints)
+  pub one_is_least : t.denominator ≡ pos 1 → IsLeast
+  one_is_least e = (omega (arith, ints, e), λ other w. let p = w.positive in omega (arith, ints))
+
+  -- a sum of multiples of even numbers
+  sum_is_even : (ks : List ℕ) (halves : List ℤ) (e f : ℕ → ℤ) → map f ks ≡ map (λ (h : ℤ). h +ℤ h) halves →
+      (q : ℤ) × (sum_over ks (λ k. e k *ℤ f k) ≡ q +ℤ q)
+  sum_is_even [] halves e f h = (pos 0, refl)
+  sum_is_even (k ∷ ks) [] e f h = absurd cc
+  sum_is_even (k ∷ ks) (x ∷ halves) e f h =
+      let first : f k ≡ x +ℤ x = cc in
+      let others : map f ks ≡ map (λ (h : ℤ). h +ℤ h) halves = cc in
+      let rest = sum_is_even ks halves e f others in
+      (e k *ℤ x +ℤ rest.0, twice (e k) (f k) x (sum_over ks (λ k. e k *ℤ f k)) rest.0 first rest.1)
+    where
+      twice : (e f x s r : ℤ) → f ≡ x +ℤ x → s ≡ r +ℤ r → e *ℤ f +ℤ s ≡ (e *ℤ x +ℤ r) +ℤ (e *ℤ x +ℤ r)
+      twice e f x s r g h = let a = simp expand at (ap (λ (t : ℤ). e *ℤ t) g) in omega (arith, lin)
+
+  -- at a direction where a label is 1 and those of the key are even: each denominator is even
+  pub two_is_least : t.denominator ≡ pos 2 → (i : ℕ) → Contains space.labels i → (z : Vector) → IsInside space z →
+      space.infinity · z ≡ pos 0 → space.form i · z ≡ pos 1 →
+      (halves : List ℤ) → map (λ k. space.form k · z) key ≡ map (λ (h : ℤ). h +ℤ h) halves → IsLeast
+  two_is_least e i c z inside level one halves even = (
+    omega (arith, ints, e),
+    λ other w.
+        let q = sum_is_even key halves (other.entry i) (λ k. space.form k · z) even in
+        at_least t.denominator other.denominator (space.form i · z) q.0 e one w.positive
+        (level_value (other.constant i) (space.infinity · z) (sum_over key (terms space other i z))
+        (other.denominator *ℤ (space.form i · z)) level (w.values i c z inside)
+        ∙ q.1),
+  )
+    where
+      at_least : (d other v q : ℤ) → d ≡ pos 2 → v ≡ pos 1 → pos 0 <ℤ other → other *ℤ v ≡ q +ℤ q → d ≤ℤ other
+      at_least d other v q e f p h =
+          let g = sym (ap (λ (t : ℤ). other *ℤ t) f ∙ mul_one other) in omega (arith, ints)

@@ -12,7 +12,7 @@ use Rattle.linear_laws.proofs.Members.{all_at}
 use Rattle.dictionary_laws.specs.Keys.{AreDistinct}
 use Rattle.dictionary_laws.proofs.KeyExchange.{ascending_distinct}
 use Rattle.tree_laws.proofs.Entering.{enters_is_one}
-use Rattle.tree_laws.proofs.KnownTables.{space_of, has_points, table_of, IsSolved, solved, one_is_least}
+use Rattle.tree_laws.proofs.KnownTables.{space_of, has_enough_labels, table_of, IsSolved, solved, one_is_least}
 use Rattle.tree_laws.proofs.KnownTests.{is_lex_feasible, leaves, enters}
 
 -- rows 1: x >= 0, 2: 1 - x - y >= 0, 3: y >= 0; the root is the corner (0, 1)
@@ -26,9 +26,6 @@ rows =
 abbrev triangle : Space
 triangle = space_of 3 rows
 
-abbrev labels : List ℕ
-labels = 1 ∷ 2 ∷ 3 ∷ 8193 ∷ 8194 ∷ []
-
 abbrev root : List ℕ
 root = 1 ∷ 2 ∷ []
 
@@ -36,7 +33,7 @@ root = 1 ∷ 2 ∷ []
 -- at (0, 1)
 abbrev home : Table
 home =
-    table_of (pos 1) (1 ∷ 2 ∷ []) labels (
+    table_of (pos 1) (1 ∷ 2 ∷ []) triangle.labels (
     (pos 0 ∷ pos 1 ∷ pos 0 ∷ [])
     ∷ (pos 0 ∷ pos 0 ∷ pos 1 ∷ [])
     ∷ (pos 1 ∷ negsuc 0 ∷ negsuc 0 ∷ [])
@@ -48,7 +45,7 @@ home =
 -- at (0, 0)
 abbrev foot : Table
 foot =
-    table_of (pos 1) (1 ∷ 3 ∷ []) labels (
+    table_of (pos 1) (1 ∷ 3 ∷ []) triangle.labels (
     (pos 0 ∷ pos 1 ∷ pos 0 ∷ [])
     ∷ (pos 1 ∷ negsuc 0 ∷ negsuc 0 ∷ [])
     ∷ (pos 0 ∷ pos 0 ∷ pos 1 ∷ [])
@@ -59,32 +56,22 @@ foot =
 
 home_is_solved : IsSolved triangle (1 ∷ 2 ∷ []) home
 home_is_solved = record {
-  points = has_points 3 rows (pos 0 ∷ pos 0 ∷ []) refl;
+  labels = has_enough_labels 3 rows (pos 0 ∷ pos 0 ∷ []) refl;
   ascending = ((omega arith, tt), (tt, tt));
   rows = ((0, omega arith, refl), ((1, omega arith, refl), tt));
   directions = (pos 0 ∷ pos 1 ∷ negsuc 0 ∷ []) ∷ (pos 0 ∷ pos 0 ∷ negsuc 0 ∷ []) ∷ [];
-  flat = ((refl, tt, refl), ((refl, tt, refl), tt));
-  independent = ((tt, λ e. cc), (((refl, tt), λ e. cc), tt));
-  enough = λ a b c e v.
-      let f = v.0 in let g = v.1.0 in
-      (omega (arith, ints), (omega (arith, ints), (omega (arith, ints), tt)));
-  positive = omega (arith, ints);
+  independent = (((refl, tt, refl), tt, λ e. cc), (((refl, tt, refl), (refl, tt), λ e. cc), tt));
   lines = (refl, (refl, (refl, (refl, (refl, tt)))));
   least = one_is_least triangle (1 ∷ 2 ∷ []) home refl;
 }
 
 foot_is_solved : IsSolved triangle (1 ∷ 3 ∷ []) foot
 foot_is_solved = record {
-  points = has_points 3 rows (pos 0 ∷ pos 0 ∷ []) refl;
+  labels = has_enough_labels 3 rows (pos 0 ∷ pos 0 ∷ []) refl;
   ascending = ((omega arith, tt), (tt, tt));
   rows = ((0, omega arith, refl), ((2, omega arith, refl), tt));
   directions = (pos 0 ∷ pos 1 ∷ pos 0 ∷ []) ∷ (pos 0 ∷ pos 0 ∷ pos 1 ∷ []) ∷ [];
-  flat = ((refl, tt, refl), ((refl, tt, refl), tt));
-  independent = ((tt, λ e. cc), (((refl, tt), λ e. cc), tt));
-  enough = λ a b c e v.
-      let f = v.0 in let g = v.1.0 in
-      (omega (arith, ints), (omega (arith, ints), (omega (arith, ints), tt)));
-  positive = omega (arith, ints);
+  independent = (((refl, tt, refl), tt, λ e. cc), (((refl, tt, refl), (refl, tt), λ e. cc), tt));
   lines = (refl, (refl, (refl, (refl, (refl, tt)))));
   least = one_is_least triangle (1 ∷ 3 ∷ []) foot refl;
 }

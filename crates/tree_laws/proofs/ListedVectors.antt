@@ -1,5 +1,5 @@
 -- Reverse search in the words of a polyhedron's listing, from that of its main space.
-use Rattle.std.proofs.Common.{◌≡◌, ℕ, ◌<◌, List, length, subst}
+use Rattle.std.proofs.Common.{◌≡◌, ℕ, List, length, subst}
 use Rattle.std.specs.Prelude.{Option}
 use Rattle.poly_num.specs.Vectors.{Vector}
 use Rattle.poly_model.specs.Systems.{Polyhedron, cone_of}
@@ -9,6 +9,7 @@ use Rattle.poly_model.specs.Spaces.{Space, main_space, in_main}
 use Rattle.poly_model.specs.Dictionaries.{Table}
 use Rattle.poly_model.specs.Tree.{IsLexFeasible, IsAbove, IsShownAt}
 use Rattle.poly_model.specs.Subtrees.{IsSubtreeRoot, IsSubtreeKey, IsSubtreeDepth, IsShownAtKey}
+use Rattle.poly_model.specs.Labels.{IsRow}
 use Rattle.tree_laws.specs.Shown.{IsShownOnce}
 use Rattle.tree_laws.specs.ReverseSearch.{IsSearched}
 use Rattle.tree_laws.specs.ListedVectors.{IsShownAtOneKey, SearchesListing}
@@ -61,7 +62,8 @@ module _ (p : Polyhedron) (root free : List ℕ) (columns : AreFreeColumns (cone
       record { free = free; columns = columns; table = t; feasible = f; shown = s; touched = touched }
 
 -- ---- the search
-module _ (p : Polyhedron) (root : List ℕ) (few : length (cone_of p).rows < 8192) (h : IsSubtreeRoot p root) where
+module _ (p : Polyhedron) (root : List ℕ) (few : IsRow (length (cone_of p).rows))
+    (h : IsSubtreeRoot p root) where
   searched : IsSearched (main_space p h.free) root h.home
   searched = reverse_search (main_space p h.free) root h.home (main_rows_ascend p h.free).distinct h.feasible
 

@@ -10,7 +10,7 @@ use Rattle.poly_model.specs.declared.kind.Kind.TheVariants.{H, V}
 use Rattle.poly_model.specs.Systems.{Row, no_row, row_of, first_unit, Polyhedron, file_rows, cone_of, added_row, is_point_row}
 use Rattle.poly_model.specs.Cones.{coordinate, Meets, IsTight}
 use Rattle.poly_model.specs.Spaces.{Space, is_left, label_form, labels_of, linear_rows, cut_space}
-use Rattle.poly_model.specs.Labels.{coordinate_label, is_row}
+use Rattle.poly_model.specs.Labels.{coordinate_label, is_row, coordinate_index, IsRow}
 use Rattle.cone_laws.specs.Faces.{fixed_rows}
 use Rattle.poly_model.proofs.RowLemmas.{row_from_one}
 use Rattle.dictionary_laws.proofs.Filters.{filter_only, filter_kept, range_only, range_has, map_only}
@@ -62,7 +62,7 @@ left_rows cone m j n = filter is_row (filter (is_left cone) (labels_of m j n))
 -- all rows of the list stand in the cone at their places
 module _ (rows cone : List Row)
     (same : (m : ℕ) → m < length rows → get_or cone m no_row ≡ get_or rows m no_row)
-    (few : length rows < 8192) (j n : ℕ) where
+    (few : IsRow (length rows)) (j n : ℕ) where
   same_row : (i : ℕ) → 1 ≤ i → i < 1 + length rows → row_of cone i ≡ row_of rows i
   same_row i l h = row_from_one cone i l ∙ same (i - 1) (omega arith) ∙ sym (row_from_one rows i l)
 
@@ -73,8 +73,8 @@ module _ (rows cone : List Row)
       (λ (d : Contains (range_with_len 1 (length rows)) i). range_only 1 (length rows) i d)
       (λ (d : Contains (map coordinate_label (range_with_len j (n - j))) i).
       let h = map_only coordinate_label (range_with_len j (n - j)) i d in
-      let f : i ≡ 8192 + h.0 = h.2 in
-      let l = ltb-true i 8192 e in
+      let f : i ≡ coordinate_label h.0 = h.2 in
+      let l = ltb-true i _ e in
       absurd (omega arith))
       (Contains-append_cases (range_with_len 1 (length rows)) (map coordinate_label (range_with_len j (n - j))) i c)
 
@@ -102,12 +102,13 @@ module _ (rows cone : List Row)
       row
     where
       row : is_row i ≡ true
-      row = let l = o.some in let h = o.within in lt-ltb i 8192 (omega arith)
+      row = let l = o.some in let h = o.within in lt-ltb i _ (omega arith)
 
   pub other_form : (i : ℕ) → IsOther rows i → label_form rows i ≡ (row_of rows i).entries
   other_form i o =
       let l = o.within in
-      cond-true (is_row i) (row_of rows i).entries (coordinate (i - 8192)) (lt-ltb i 8192 (omega arith))
+      cond-true (is_row i) (row_of rows i).entries (coordinate (coordinate_index i))
+      (lt-ltb i _ (omega arith))
 
   -- a fact of the forms of these labels is one of the entries of the rows that are not linear
   module _ (P : Vector → Type 0) where

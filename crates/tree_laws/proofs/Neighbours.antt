@@ -1,5 +1,5 @@
 -- The neighbours of a lexicographically feasible cobasis: they are feasible, and there is one at most in each column.
-use Rattle.std.proofs.Common.{◌≡◌, ◌≢◌, ⊎_elim, ℕ, List, ℤ, pos, ◌+ℤ◌, ◌-ℤ◌, ◌*ℤ◌, neg_ℤ, map, sym, ap, subst, ◌∙◌, arith}
+use Rattle.std.proofs.Common.{◌≡◌, ⊎_elim, ℕ, List, ℤ, pos, ◌+ℤ◌, ◌-ℤ◌, ◌*ℤ◌, neg_ℤ, map, sym, ap, subst, ◌∙◌, arith}
 use Rattle.std.specs.Prelude.{◌<ℤ◌}
 use Rattle.std.specs.List.{Contains}
 use Rattle.std.proofs.lemmas.Bool.{cases_eq}
@@ -10,6 +10,7 @@ use Rattle.poly_model.specs.Spaces.{Space}
 use Rattle.poly_model.specs.Dictionaries.{Table}
 use Rattle.poly_model.specs.LexOrder.{IsNonnegative, rows_in, list_of}
 use Rattle.poly_model.specs.Tree.{IsRowDictionary, IsLexFeasible, Leaves, IsNeighbour, exchanged_key}
+use Rattle.linear_laws.proofs.Signs.{minus_positive, negative_nonzero}
 use Rattle.dictionary_laws.specs.Keys.{Exchanges}
 use Rattle.dictionary_laws.specs.Numbers.{IsOwnRow}
 use Rattle.dictionary_laws.proofs.Members.{contains_or}
@@ -23,9 +24,6 @@ use Rattle.tree_laws.proofs.NotZero.{list_is_nonzero}
 use Rattle.tree_laws.proofs.Ties.{no_ties}
 use Rattle.tree_laws.proofs.ExchangedKeys.{exchanges}
 use Rattle.tree_laws.proofs.Exchange.{gap, ratio_gaps_are, exchanged_dictionary, exchanged_level}
-
-pub minus_positive : (x : ℤ) → x <ℤ pos 0 → pos 0 <ℤ neg_ℤ x
-minus_positive x h = omega (arith, lin)
 
 -- ---- the lists of all rows
 module _ (space : Space) (root key : List ℕ) (t : Table) (f : IsLexFeasible space root key t) where
@@ -126,10 +124,7 @@ module _ (space : Space) (root key : List ℕ) (t : Table) where
       (u : Table) × IsRowDictionary space new u
   neighbour_dictionary s new d n =
       subst (λ l. (u : Table) × IsRowDictionary space l u) (sym n.exchange)
-      (exchanged_dictionary space key t d s n.r n.column n.leaves.row (less_nonzero (t.entry n.r s) n.leaves.negative))
-    where
-      less_nonzero : (y : ℤ) → y <ℤ pos 0 → y ≢ pos 0
-      less_nonzero y h z = omega (arith, lin)
+      (exchanged_dictionary space key t d s n.r n.column n.leaves.row (negative_nonzero (t.entry n.r s) n.leaves.negative))
 
   pub neighbour_feasible : (s : ℕ) (new : List ℕ) (home u : Table) → IsRowDictionary space root home →
       IsLexFeasible space root key t → IsNeighbour space.labels root key t s new → IsRowDictionary space new u →

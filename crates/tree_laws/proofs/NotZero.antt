@@ -1,14 +1,14 @@
 -- The list of a row outside the key is not 0.
-use Rattle.std.proofs.Common.{◌≡◌, ℕ, List, ℤ, pos, ◌*ℤ◌, neg_ℤ, sym, ap, subst, ◌∙◌, ⊎_elim, arith}
+use Rattle.std.proofs.Common.{◌≡◌, ℕ, List, ℤ, pos, ◌*ℤ◌, sym, ap, subst, ◌∙◌, ⊎_elim}
 use Rattle.std.specs.Prelude.{Option, Some}
 use Rattle.std.specs.List.{Contains}
 use Rattle.poly_num.specs.Vectors.{IsZero}
-use Rattle.poly_num.proofs.Ring.{lin}
 use Rattle.poly_num.proofs.Order.{mul_nonzero, positive_nonzero}
 use Rattle.poly_model.specs.Spaces.{Space}
 use Rattle.poly_model.specs.Dictionaries.{Table, sum_over}
 use Rattle.poly_model.specs.LexOrder.{list_of}
 use Rattle.poly_model.specs.Tree.{IsRowDictionary, IsRowOutside}
+use Rattle.linear_laws.proofs.Signs.{minus_zero}
 use Rattle.dictionary_laws.specs.Numbers.{IsOwnRow}
 use Rattle.dictionary_laws.proofs.Members.{contains_or, sum_zero}
 use Rattle.dictionary_laws.proofs.Directions.{times_zero, zero_times}
@@ -17,9 +17,6 @@ use Rattle.tree_laws.proofs.ListSums.{zero_at}
 use Rattle.tree_laws.proofs.OrderLemmas.{outside_has}
 use Rattle.tree_laws.proofs.Numbers.{row_is_label, key_row, composed_entry}
 use Rattle.tree_laws.proofs.Levels.{level, places, row_place, list_is_levels, level_itself, level_inside}
-
-minus_zero : (x : ℤ) → neg_ℤ x ≡ pos 0 → x ≡ pos 0
-minus_zero x e = omega (arith, lin)
 
 module _ (space : Space) (root key : List ℕ) (home t : Table) (h : IsRowDictionary space root home)
     (d : IsRowDictionary space key t) where

@@ -1,17 +1,16 @@
 -- The rows of a space in their order relative to a root: members, which of two is earlier; the column that enters.
-use Rattle.std.proofs.Common.{◌≡◌, ◌≢◌, ◌⊎◌, ⊎_elim, ℕ, ◌<◌, Bool, true, not, List, [], ◌∷◌, sym, ap, ◌∙◌}
-use Rattle.std.specs.List.{Contains, filter}
-use Rattle.std.proofs.lemmas.Bool.{not_from_false, false_from_ne_true, cond_both, true≢false}
+use Rattle.std.proofs.Common.{◌≡◌, ◌≢◌, ◌⊎◌, ⊎_elim, ℕ, ◌<◌, true, not, List, sym, ap, ◌∙◌}
+use Rattle.std.specs.List.{Contains}
+use Rattle.std.proofs.lemmas.Bool.{not_from_false, false_from_ne_true, true≢false}
 use Rattle.std.proofs.lemmas.List.Elements.{Contains-append_left, Contains-append_right, Contains-append_cases}
 use Rattle.poly_model.specs.Keys.{IsAscending}
 use Rattle.poly_model.specs.Spaces.{Space, is_member}
 use Rattle.poly_model.specs.Labels.{is_row}
 use Rattle.poly_model.specs.LexOrder.{rows_in, outside, within, order, backwards, Precedes, IsEarlier}
 use Rattle.poly_model.specs.Tree.{IsRowOutside}
-use Rattle.linear_laws.proofs.Members.{all_at}
 use Rattle.dictionary_laws.specs.Keys.{AreDistinct}
-use Rattle.dictionary_laws.proofs.Members.{all_from, contains_or}
-use Rattle.dictionary_laws.proofs.Filters.{filter_only, filter_kept, distinct_filter, member_only, member_has}
+use Rattle.dictionary_laws.proofs.Members.{contains_or}
+use Rattle.dictionary_laws.proofs.Filters.{filter_only, filter_kept, distinct_filter, member_only, member_has, ascending_filter}
 use Rattle.tree_laws.proofs.ListOrder.{precedes_members, one_before_other, not_before_and_behind, not_before_itself, before_is_other, before_transitive, before_across, before_in_front, before_behind, before_cases, smaller_is_before, before_is_smaller, distinct_append, backwards_has, backwards_only}
 use Rattle.tree_laws.proofs.FirstMembers.{IsFirst, IsLast, first_with, last_with}
 
@@ -20,16 +19,6 @@ no_member k ks h c = true≢false (sym h ∙ ap not (member_has k ks c))
 
 pub not_member : (k : ℕ) (ks : List ℕ) → (Contains ks k → ⊥) → not (is_member k ks) ≡ true
 not_member k ks n = not_from_false (is_member k ks) (false_from_ne_true (is_member k ks) (λ e. n (member_only k ks e)))
-
-pub ascending_filter : (test : ℕ → Bool) (ks : List ℕ) → IsAscending ks → IsAscending (filter test ks)
-ascending_filter test [] h = tt
-ascending_filter test (x ∷ ks) h =
-    cond_both (test x) (x ∷ filter test ks) (filter test ks) IsAscending
-    (λ e. (
-      all_from (λ y. x < y) (filter test ks) (λ k c. all_at (λ y. x < y) ks h.0 k (filter_only test ks k c).0),
-      ascending_filter test ks h.1,
-    ))
-    (λ e. ascending_filter test ks h.1)
 
 module _ (space : Space) where
   pub row_has : (k : ℕ) → Contains space.labels k → is_row k ≡ true → Contains (rows_in space.labels) k

@@ -1,15 +1,15 @@
 -- The root has no parent, and each other lexicographically feasible cobasis has one, and no other.
-use Rattle.std.proofs.Common.{◌≡◌, inl, inr, ⊎_elim, ℕ, List, [], ◌∷◌, ℤ, pos, ◌+ℤ◌, ◌*ℤ◌, neg_ℤ, map, refl, sym, ap, subst, ◌∙◌, arith}
+use Rattle.std.proofs.Common.{◌≡◌, inl, inr, ⊎_elim, ℕ, List, [], ◌∷◌, ℤ, pos, ◌+ℤ◌, ◌*ℤ◌, neg_ℤ, map, refl, sym, ap, subst, ◌∙◌}
 use Rattle.std.specs.Prelude.{Option, None, Some, ◌<ℤ◌}
 use Rattle.std.specs.List.{Contains}
 use Rattle.poly_num.specs.Vectors.{◌·◌, IsZero}
-use Rattle.poly_num.proofs.Ring.{lin}
 use Rattle.poly_num.proofs.VectorLemmas.{dot-zero}
 use Rattle.poly_model.specs.Spaces.{Space}
 use Rattle.poly_model.specs.Dictionaries.{Table, sum_over}
 use Rattle.poly_model.specs.LexOrder.{IsNonnegative, rows_in, outside, within, backwards}
 use Rattle.poly_model.specs.Tree.{IsRowDictionary, IsFeasibleRoot, IsLexFeasible, IsNeighbour, MayEnter, Enters, IsParent, exchanged_key}
 use Rattle.linear_laws.proofs.Members.{ascending_is_one}
+use Rattle.linear_laws.proofs.Signs.{minus_negative}
 use Rattle.dictionary_laws.specs.Keys.{AreDistinct}
 use Rattle.dictionary_laws.proofs.Members.{all_from, contains_or}
 use Rattle.dictionary_laws.proofs.Directions.{times_zero}
@@ -29,9 +29,6 @@ use Rattle.tree_laws.proofs.Neighbours.{levels_nonnegative, key_entry, one_neigh
 use Rattle.tree_laws.proofs.AnyTable.{parent_too}
 use Rattle.tree_laws.proofs.Roots.{root_is_feasible}
 
-pub negative_of : (x : ℤ) → pos 0 <ℤ neg_ℤ x → x <ℤ pos 0
-negative_of x h = omega (arith, lin)
-
 module _ (space : Space) (root key : List ℕ) (t : Table) (d : IsRowDictionary space key t) where
   -- a column that may enter is negative at a row of the root, and that row is outside the key
   pub negative_row : (s : ℕ) → Contains key s → MayEnter space.labels root t s →
@@ -39,7 +36,7 @@ module _ (space : Space) (root key : List ℕ) (t : Table) (d : IsRowDictionary 
   negative_row s c m =
       let w = positive_value (λ q. neg_ℤ (t.entry q s)) (backwards (within space.labels root)) m in
       let q = backwards_within_only space root w.0 w.1 in
-      let l = negative_of (t.entry w.0 s) w.2 in
+      let l = minus_negative (t.entry w.0 s) w.2 in
       (w.0, q.0, q.1, l, λ i. key_entry space key t d w.0 s i c l)
 
   -- where the key has all rows of the root, it has no parent

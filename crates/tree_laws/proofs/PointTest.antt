@@ -11,6 +11,7 @@ use Rattle.poly_model.specs.Dictionaries.{Table}
 use Rattle.poly_model.specs.LexOrder.{IsPositive, outside, Precedes, listed_at, list_of}
 use Rattle.poly_model.specs.Tree.{IsRowDictionary, IsRowOutside, IsFeasibleRoot, IsLexFeasible, ShowsPoint}
 use Rattle.linear_laws.proofs.Members.{Contains-nil, Contains-first, Contains-later}
+use Rattle.linear_laws.proofs.Signs.{not_both, nonnegative_zero}
 use Rattle.dictionary_laws.proofs.Members.{contains_or, contains_other}
 use Rattle.tree_laws.proofs.LexLemmas.{by_sign}
 use Rattle.tree_laws.proofs.Levels.{level, own_level, list_is_levels, level_itself, level_inside, level_elsewhere}
@@ -76,11 +77,8 @@ module _ (space : Space) (root key : List ℕ) (home t : Table) (h : IsRowDictio
   shown_point_is_feasible = record {
     dictionary = f.dictionary;
     lists = λ i o. by_sign (IsPositive (list_of space.labels root key t i)) (t.constant i)
-        (λ p. inl p) (list_at_zero i o) (λ l. absurd (below (t.constant i) l (f.constants i o.row)));
+        (λ p. inl p) (list_at_zero i o) (λ l. absurd (not_both (t.constant i) l (f.constants i o.row)));
   }
-    where
-      below : (x : ℤ) → x <ℤ pos 0 → pos 0 ≤ℤ x → ⊥
-      below x l g = omega (arith, lin)
 
 -- ---- the constants of positive lists
 module _ (space : Space) (root key : List ℕ) (t : Table) (f : IsLexFeasible space root key t) where
@@ -88,15 +86,12 @@ module _ (space : Space) (root key : List ℕ) (t : Table) (f : IsLexFeasible sp
   first_number x xs (inl h) = omega (arith, lin)
   first_number x xs (inr h) = let e : x ≡ pos 0 = h.0 in omega (arith, lin)
 
-  no_less : (x : ℤ) → x ≡ pos 0 → pos 0 ≤ℤ x
-  no_less x e = omega (arith, lin)
-
   pub constants_are_not_negative : IsFeasibleRoot space key t
   constants_are_not_negative = record {
     dictionary = f.dictionary;
     constants = λ i l.
         ⊎_elim
-        (λ (c : Contains key i). no_less (t.constant i) (own_level space key t f.dictionary i c None))
+        (λ (c : Contains key i). nonnegative_zero (t.constant i) (own_level space key t f.dictionary i c None))
         (λ (n : Contains key i → ⊥).
         first_number (t.constant i) (map (listed_at key t i) (outside space.labels root))
         (f.lists i (record { row = l; outside = n })))

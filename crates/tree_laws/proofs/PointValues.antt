@@ -10,12 +10,13 @@ use Rattle.poly_model.specs.Spaces.{Space, IsInside, IsDirection}
 use Rattle.poly_model.specs.Dictionaries.{Table, sum_over}
 use Rattle.poly_model.specs.LexOrder.{rows_in}
 use Rattle.poly_model.specs.Tree.{IsRowDictionary, IsFeasibleRoot, IsAtPoint, IsExtremeIn}
-use Rattle.linear_laws.proofs.Combinations.{combination, dot-combination}
+use Rattle.linear_laws.proofs.Combinations.{combination, dot-combination, cancels}
 use Rattle.linear_laws.proofs.Nearest.{nonnegative_product, nonnegative_factor}
 use Rattle.linear_laws.proofs.Proportions.{multiples_from_values}
+use Rattle.linear_laws.proofs.Signs.{nonnegative_positive}
 use Rattle.dictionary_laws.proofs.Members.{all_from, sum_zero}
-use Rattle.dictionary_laws.proofs.Directions.{inside_combination, times_zero, zero_times, zero_at, cancels}
-use Rattle.dictionary_laws.proofs.Values.{terms, level_value}
+use Rattle.dictionary_laws.proofs.Directions.{inside_combination, times_zero, zero_times, zero_at}
+use Rattle.dictionary_laws.proofs.Values.{terms, level_value, no_sum}
 use Rattle.tree_laws.proofs.Numbers.{row_is_label, key_row}
 
 -- u x + (-x) u
@@ -24,9 +25,6 @@ meets u x s h = h ∙ cancels u x
 
 pub apart : (a b x y : ℤ) → a *ℤ x +ℤ neg_ℤ b *ℤ y ≡ pos 0 → a *ℤ x ≡ b *ℤ y
 apart a b x y h = let f = simp expand at h in omega (arith, lin)
-
-only_level : (v b s : ℤ) → v ≡ b +ℤ s → s ≡ pos 0 → v ≡ b
-only_level v b s h z = omega (arith, lin)
 
 -- a vector that is positive at infinity, where the labels of the key are 0
 pub record IsKeyPoint (space : Space) (key : List ℕ) (y : Vector) : Type 0 where
@@ -58,7 +56,7 @@ module _ (space : Space) (key : List ℕ) (t : Table) (d : IsRowDictionary space
       ((c : ℕ) → Contains key c → space.form c · y ≡ pos 0) →
       t.denominator *ℤ (space.form i · y) ≡ t.constant i *ℤ (space.infinity · y)
   row_at_point i l y inside h =
-      only_level (t.denominator *ℤ (space.form i · y)) (t.constant i *ℤ (space.infinity · y))
+      no_sum (t.denominator *ℤ (space.form i · y)) (t.constant i *ℤ (space.infinity · y))
       (sum_over key (terms space t i y))
       (d.dictionary.writes.values i (row_is_label space i l) y inside)
       (sum_zero key (terms space t i y) (λ c m. times_zero (t.entry i c) (space.form c · y) (h c m)))
@@ -124,7 +122,7 @@ pub point_is_extreme : (space : Space) (key : List ℕ) (t : Table) (y : Vector)
 point_is_extreme space key t y f at = record {
   primitive = at.primitive;
   inside = at.inside;
-  finite = at_least (space.infinity · y) at.finite;
+  finite = nonnegative_positive (space.infinity · y) at.finite;
   rows = λ i l. nonnegative_value space key t f.dictionary y (is_key_point space key y at) i l (f.constants i l);
   alone = λ z inside _ h. (
     space.infinity · y,
@@ -134,6 +132,3 @@ point_is_extreme space key t y f at = record {
         (λ c m. h c (key_row space key t f.dictionary c m) (at.nothing c m)),
   );
 }
-  where
-    at_least : (x : ℤ) → pos 0 <ℤ x → pos 0 ≤ℤ x
-    at_least x h = omega (arith, lin)

@@ -1,10 +1,10 @@
 -- The values of labels along a column of a cobasis, and that what is shown along it is extreme.
-use Rattle.std.proofs.Common.{◌≡◌, ◌≢◌, ⊎_elim, ℕ, List, ℤ, pos, ◌*ℤ◌, neg_ℤ, sym, subst, ◌∙◌, arith}
+use Rattle.std.proofs.Common.{◌≡◌, ◌≢◌, ⊎_elim, ℕ, List, ℤ, pos, ◌*ℤ◌, neg_ℤ, sym, subst, ◌∙◌}
 use Rattle.std.specs.Prelude.{◌<ℤ◌, ◌≤ℤ◌}
 use Rattle.std.specs.List.{Contains}
 use Rattle.std.proofs.lemmas.Bool.{cases_eq}
 use Rattle.poly_num.specs.Vectors.{Vector, ◌·◌, scale, IsZero}
-use Rattle.poly_num.proofs.Ring.{lin, mul_comm}
+use Rattle.poly_num.proofs.Ring.{mul_comm}
 use Rattle.poly_num.proofs.Order.{zero_factor, positive_nonzero, positive_product, positive_factor}
 use Rattle.poly_num.proofs.VectorLemmas.{dot-zero}
 use Rattle.poly_model.specs.Spaces.{Space, IsDirection}
@@ -14,17 +14,12 @@ use Rattle.poly_model.specs.Tree.{IsRowDictionary, ShowsRay, IsAlongColumn, IsEx
 use Rattle.linear_laws.proofs.Combinations.{combination, dot-combination}
 use Rattle.linear_laws.proofs.Nearest.{nonnegative_product, nonnegative_factor}
 use Rattle.linear_laws.proofs.Proportions.{multiples_from_values}
+use Rattle.linear_laws.proofs.Signs.{nonnegative_zero, nonnegative_positive}
 use Rattle.dictionary_laws.proofs.Members.{all_from, contains_or}
 use Rattle.dictionary_laws.proofs.Directions.{direction_combination, times_zero, zero_times, zero_at}
 use Rattle.dictionary_laws.proofs.Values.{value_along}
 use Rattle.tree_laws.proofs.Numbers.{row_is_label, key_row}
 use Rattle.tree_laws.proofs.PointValues.{meets, apart}
-
-at_least : (x : ℤ) → pos 0 <ℤ x → pos 0 ≤ℤ x
-at_least x h = omega (arith, lin)
-
-no_less : (x : ℤ) → x ≡ pos 0 → pos 0 ≤ℤ x
-no_less x e = omega (arith, lin)
 
 module _ (space : Space) (key : List ℕ) (t : Table) (d : IsRowDictionary space key t) (s : ℕ) (m : Contains key s)
     (y : Vector) (along : IsAlongColumn space key s y) where
@@ -109,11 +104,11 @@ pub ray_is_extreme : (space : Space) (root key : List ℕ) (t : Table) (s : ℕ)
 ray_is_extreme space root key t s y d shown along = record {
   primitive = along.primitive;
   inside = along.inside;
-  finite = no_less (space.infinity · y) along.level;
+  finite = nonnegative_zero (space.infinity · y) along.level;
   rows = λ i l. ⊎_elim
       (λ (c : Contains key i). ⊎_elim
-      (λ (e : i ≡ s). subst (λ k. pos 0 ≤ℤ (space.form k · y)) (sym e) (at_least (space.form s · y) along.here))
-      (λ (n : i ≡ s → ⊥). no_less (space.form i · y) (along.nothing i c n))
+      (λ (e : i ≡ s). subst (λ k. pos 0 ≤ℤ (space.form k · y)) (sym e) (nonnegative_positive (space.form s · y) along.here))
+      (λ (n : i ≡ s → ⊥). nonnegative_zero (space.form i · y) (along.nothing i c n))
       (cases_eq i s))
       (λ (o : Contains key i → ⊥).
       nonnegative_along space key t d s shown.column y along i l

@@ -1,33 +1,23 @@
 -- Each column of a cobasis has one ray: the primitive vector along any direction at which the other labels are 0 and
 -- that of the column is positive.
-use Rattle.std.proofs.Common.{◌≡◌, ◌≢◌, ℕ, List, [], ℤ, pos, ◌*ℤ◌, neg_ℤ, sym, subst, ◌∙◌, arith}
+use Rattle.std.proofs.Common.{◌≡◌, ◌≢◌, ℕ, List, [], ℤ, pos, ◌*ℤ◌, sym, subst, ◌∙◌, arith}
 use Rattle.std.specs.Prelude.{◌<ℤ◌, ◌<◌}
 use Rattle.std.specs.List.{Contains}
 use Rattle.std.proofs.lemmas.Int.{ints}
 use Rattle.poly_num.specs.Vectors.{Vector, ◌·◌, scale, IsZero}
-use Rattle.poly_num.proofs.Ring.{expand, lin, one_mul}
-use Rattle.poly_num.proofs.Order.{zero_factor, positive_product, positive_factor, positive_nonzero}
+use Rattle.poly_num.proofs.Ring.{one_mul}
+use Rattle.poly_num.proofs.Order.{zero_factor, positive_factor, positive_nonzero}
 use Rattle.poly_num.proofs.VectorLemmas.{dot-zero, dot-scale, scale-one}
 use Rattle.poly_model.specs.Spaces.{Space, IsDirection}
 use Rattle.poly_model.specs.Dictionaries.{Table}
 use Rattle.poly_model.specs.Tree.{IsRowDictionary, IsAlongColumn}
 use Rattle.linear_laws.proofs.Proportions.{vanish_from_multiple, same_width, values_from_multiples}
 use Rattle.linear_laws.proofs.PrimitiveAlong.{PrimitiveOf, primitive_of, primitive_same}
-use Rattle.dictionary_laws.proofs.Directions.{direction_scale, zero_at_scale}
+use Rattle.linear_laws.proofs.Combinations.{zero_at_scale}
+use Rattle.linear_laws.proofs.Signs.{square_positive}
+use Rattle.dictionary_laws.proofs.Directions.{direction_scale}
 use Rattle.dictionary_laws.proofs.Duals.{Dual, dual_of}
-use Rattle.tree_laws.proofs.LexLemmas.{by_sign}
 use Rattle.tree_laws.proofs.RayValues.{along_column}
-
-positive_square : (x : ℤ) → x ≢ pos 0 → pos 0 <ℤ (x *ℤ x)
-positive_square x n =
-    by_sign (pos 0 <ℤ (x *ℤ x)) x (λ h. positive_product x x h h) (λ e. absurd (n e))
-    (λ h. subst (λ (v : ℤ). pos 0 <ℤ v) (turned x) (positive_product (neg_ℤ x) (neg_ℤ x) (up x h) (up x h)))
-  where
-    up : (x : ℤ) → x <ℤ pos 0 → pos 0 <ℤ neg_ℤ x
-    up x h = omega (arith, lin)
-
-    turned : (x : ℤ) → neg_ℤ x *ℤ neg_ℤ x ≡ x *ℤ x
-    turned x = simp expand (omega (arith, lin))
 
 module _ (space : Space) (key : List ℕ) (t : Table) (d : IsRowDictionary space key t) (s : ℕ) (m : Contains key s) where
   -- some ray
@@ -74,7 +64,7 @@ module _ (space : Space) (key : List ℕ) (t : Table) (d : IsRowDictionary space
       of_direction (scale (space.form s · z.vector) z.vector)
       (direction_scale space (space.form s · z.vector) z.vector z.direction)
       (subst (λ (v : ℤ). pos 0 <ℤ v) (sym (dot-scale (space.form s) (space.form s · z.vector) z.vector))
-      (positive_square (space.form s · z.vector) z.here))
+      (square_positive (space.form s · z.vector) z.here))
       (λ k c n. zero_at_scale (space.form k) (space.form s · z.vector) z.vector (z.elsewhere k c n))
 
   pub some_ray : (y : Vector) × IsAlongColumn space key s y

@@ -2,31 +2,21 @@
 -- a list. It is made from the key of the root: row by row from the end of the list on, each takes the place of a label
 -- in whose column it is not 0, if there is one that is not among those after it which are 0 at y. Rows that are not 0
 -- at y may come in so; of the whole order none is left in the key (SomePoint).
-use Rattle.std.proofs.Common.{◌≡◌, ◌≢◌, ◌⊎◌, inl, inr, ⊎_elim, ℕ, List, [], ◌∷◌, ℤ, pos, subst, arith}
-use Rattle.std.specs.Prelude.{◌<ℤ◌}
+use Rattle.std.proofs.Common.{◌≡◌, ◌≢◌, ◌⊎◌, inl, inr, ⊎_elim, ℕ, List, [], ◌∷◌, pos, subst}
 use Rattle.std.specs.List.{Contains}
 use Rattle.poly_num.specs.Vectors.{Vector, ◌·◌}
-use Rattle.poly_num.proofs.Ring.{lin}
-use Rattle.poly_num.proofs.Order.{positive_nonzero}
 use Rattle.poly_model.specs.Spaces.{Space, IsDirection}
 use Rattle.poly_model.specs.Dictionaries.{Table}
 use Rattle.poly_model.specs.LexOrder.{rows_in}
 use Rattle.poly_model.specs.Tree.{IsRowDictionary, exchanged_key}
 use Rattle.linear_laws.proofs.Members.{Contains-first, Contains-later}
+use Rattle.linear_laws.proofs.Signs.{zero_or}
 use Rattle.dictionary_laws.specs.Keys.{Exchanges}
 use Rattle.dictionary_laws.proofs.Members.{contains_or}
 use Rattle.tree_laws.proofs.ExchangedKeys.{exchanges}
 use Rattle.tree_laws.proofs.Exchange.{exchanged_dictionary}
 use Rattle.tree_laws.proofs.FirstMembers.{IsFirst, first_with}
-use Rattle.tree_laws.proofs.LexLemmas.{by_sign}
 use Rattle.tree_laws.proofs.PointValues.{row_at_direction}
-
-pub zero_or : (x : ℤ) → (x ≡ pos 0) ⊎ (x ≢ pos 0)
-zero_or x =
-    by_sign ((x ≡ pos 0) ⊎ (x ≢ pos 0)) x (λ h. inr (positive_nonzero x h)) (λ e. inl e) (λ h. inr (below x h))
-  where
-    below : (x : ℤ) → x <ℤ pos 0 → x ≢ pos 0
-    below x h e = omega (arith, lin)
 
 module _ (space : Space) (y : Vector) where
   abbrev pub IsTight : ℕ → Type 0

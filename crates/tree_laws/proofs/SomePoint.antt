@@ -12,6 +12,7 @@ use Rattle.poly_model.specs.LexOrder.{rows_in, order, Precedes}
 use Rattle.poly_model.specs.Tree.{IsRowDictionary, IsRowOutside, IsFeasibleRoot, ShowsPoint, IsAtPoint, IsExtremeIn}
 use Rattle.linear_laws.proofs.Members.{Contains-nil, Contains-later}
 use Rattle.linear_laws.proofs.Proportions.{values_from_multiples}
+use Rattle.linear_laws.proofs.Signs.{zero_or}
 use Rattle.dictionary_laws.specs.Keys.{AreDistinct}
 use Rattle.dictionary_laws.proofs.Members.{contains_cases}
 use Rattle.dictionary_laws.proofs.Directions.{times_zero, zero_times}
@@ -20,7 +21,7 @@ use Rattle.dictionary_laws.proofs.Values.{value_at}
 use Rattle.tree_laws.proofs.Numbers.{row_is_label}
 use Rattle.tree_laws.proofs.OrderLemmas.{order_has, order_only, order_distinct}
 use Rattle.tree_laws.proofs.PointValues.{is_key_point, zero_value, nonnegative_constant}
-use Rattle.tree_laws.proofs.SettledRows.{zero_or, IsTight, FollowsIn, Settled, Settles, settle}
+use Rattle.tree_laws.proofs.SettledRows.{IsTight, FollowsIn, Settled, Settles, settle}
 
 module _ (space : Space) (y : Vector) (key : List ℕ) (t : Table) (d : IsRowDictionary space key t) where
   -- at a direction at which the rows of the key that are 0 at y are 0, all rows that are 0 at y are

@@ -12,6 +12,7 @@ use Rattle.poly_model.specs.LexOrder.{IsNonnegative, IsPositive, rows_in}
 use Rattle.poly_model.specs.Tree.{IsFeasibleRoot, IsLexFeasible, ShowsRay, IsAlongColumn, IsShownAt, IsExtremeIn}
 use Rattle.linear_laws.proofs.Members.{Contains-nil}
 use Rattle.linear_laws.proofs.Proportions.{values_from_multiples}
+use Rattle.linear_laws.proofs.Signs.{zero_or}
 use Rattle.dictionary_laws.specs.Numbers.{IsOwnRow}
 use Rattle.dictionary_laws.proofs.Members.{all_from}
 use Rattle.dictionary_laws.proofs.Directions.{times_zero, zero_times}
@@ -22,7 +23,6 @@ use Rattle.tree_laws.proofs.LexLemmas.{by_sign, positive_unless_zero}
 use Rattle.tree_laws.proofs.FirstMembers.{IsFirst, first_with}
 use Rattle.tree_laws.proofs.Numbers.{row_is_label, key_row}
 use Rattle.tree_laws.proofs.Ends.{ends_of_lists}
-use Rattle.tree_laws.proofs.SettledRows.{zero_or}
 use Rattle.tree_laws.proofs.SharedRows.{beside_none}
 use Rattle.tree_laws.proofs.RayValues.{nonnegative_entry}
 use Rattle.tree_laws.proofs.ZeroRows.{zero_rows, zero_rows_only, zero_rows_has, zeros_in_column}

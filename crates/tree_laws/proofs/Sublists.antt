@@ -1,13 +1,13 @@
 -- The parts of an ascending list: each ascending list of some of its members is one.
-use Rattle.std.proofs.Common.{◌≡◌, ◌⊎◌, inl, inr, ⊎_elim, ℕ, ◌<◌, Bool, true, false, cond, List, [], ◌∷◌, ◌++◌, map, refl, sym, subst, ◌∙◌, arith}
+use Rattle.std.proofs.Common.{◌≡◌, ◌⊎◌, inl, inr, ⊎_elim, ℕ, Bool, true, false, cond, List, [], ◌∷◌, ◌++◌, map, refl, sym, subst, ◌∙◌, arith}
 use Rattle.std.specs.Prelude.{◌==◌, nat_lt}
 use Rattle.std.specs.List.{Contains}
 use Rattle.std.proofs.lemmas.Bool.{eqb-true}
 use Rattle.std.proofs.lemmas.List.Elements.{Contains-append_left, Contains-append_right}
 use Rattle.poly_model.specs.Keys.{IsAscending, with_label}
-use Rattle.linear_laws.proofs.Members.{Contains-nil, Contains-first, Contains-later, Contains-cons_cases, all_at}
+use Rattle.poly_model.proofs.KeyLemmas.{ascending_with}
+use Rattle.linear_laws.proofs.Members.{Contains-nil, Contains-first, Contains-later, Contains-cons_cases, above_first}
 use Rattle.dictionary_laws.proofs.Members.{contains_cases, contains_other}
-use Rattle.tree_laws.proofs.ExchangedKeys.{ascending_with}
 
 abbrev pub sublists : List ℕ → List (List ℕ)
 sublists [] = [] ∷ []
@@ -24,9 +24,6 @@ contains_longer x (p ∷ parts) part c =
     (contains_longer x parts part d))
     (Contains-cons_cases part p parts c)
 
-above : (x : ℕ) (xs : List ℕ) → IsAscending (x ∷ xs) → (k : ℕ) → Contains xs k → x < k
-above x xs h k c = all_at (λ y. x < y) xs h.0 k c
-
 pub contains_part : (xs ks : List ℕ) → IsAscending xs → IsAscending ks →
     ((k : ℕ) → Contains ks k → Contains xs k) → Contains (sublists xs) ks
 contains_part [] [] a b h = Contains-first [] []
@@ -40,11 +37,11 @@ contains_part (x ∷ xs) (k ∷ ks) a b h =
     (Contains-append_left (map (λ part. x ∷ part) (sublists xs)) (sublists xs) (x ∷ ks)
     (contains_longer x (sublists xs) ks (contains_part xs ks a.1 b.1
     (λ j c. contains_other x xs j (h j (Contains-later j k ks c))
-    (λ f. let l = above k ks b j c in omega arith))))))
+    (λ f. let l = above_first k ks b j c in omega arith))))))
     (λ (c : Contains xs k). Contains-append_right (map (λ part. x ∷ part) (sublists xs)) (sublists xs) (k ∷ ks)
     (contains_part xs (k ∷ ks) a.1 b
-    (λ j d. contains_other x xs j (h j d) (λ f. let l = above x xs a k c in
-    ⊎_elim (λ (g : j ≡ k). omega arith) (λ (i : Contains ks j). let m = above k ks b j i in omega arith)
+    (λ j d. contains_other x xs j (h j d) (λ f. let l = above_first x xs a k c in
+    ⊎_elim (λ (g : j ≡ k). omega arith) (λ (i : Contains ks j). let m = above_first k ks b j i in omega arith)
     (contains_cases k ks j d)))))
     (contains_cases x xs k (h k (Contains-first k ks)))
 

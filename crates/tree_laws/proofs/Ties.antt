@@ -9,6 +9,7 @@ use Rattle.poly_model.specs.Spaces.{Space}
 use Rattle.poly_model.specs.Dictionaries.{Table, sum_over}
 use Rattle.poly_model.specs.LexOrder.{gaps, list_of}
 use Rattle.poly_model.specs.Tree.{IsRowDictionary, IsRowOutside}
+use Rattle.linear_laws.proofs.Signs.{minus_zero}
 use Rattle.dictionary_laws.specs.Numbers.{IsOwnRow}
 use Rattle.dictionary_laws.proofs.Members.{contains_or, sum_same, sum-scale, sum-add}
 use Rattle.dictionary_laws.proofs.Directions.{times_zero, zero_times}
@@ -124,12 +125,9 @@ module _ (space : Space) (root key : List ℕ) (home t : Table) (h : IsRowDictio
   unfolding AreOpposite
   no_ties i j o r n p q z = (
     no_combination p (neg_ℤ q) i j o r n opposite,
-    minus_none q (no_combination (neg_ℤ q) p j i r o (λ e. n (sym e)) (turned p (neg_ℤ q) i j opposite)),
+    minus_zero q (no_combination (neg_ℤ q) p j i r o (λ e. n (sym e)) (turned p (neg_ℤ q) i j opposite)),
   )
     where
-      minus_none : (x : ℤ) → neg_ℤ x ≡ pos 0 → x ≡ pos 0
-      minus_none x e = omega (arith, lin)
-
       plus_minus : (p q x y : ℤ) → p *ℤ x -ℤ q *ℤ y ≡ pos 0 → p *ℤ x +ℤ neg_ℤ q *ℤ y ≡ pos 0
       plus_minus p q x y e = simp expand (omega (arith, lin))
 

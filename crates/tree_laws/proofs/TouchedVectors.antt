@@ -5,6 +5,7 @@ use Rattle.std.specs.List.{AllByRecursion, list_any}
 use Rattle.std.proofs.lemmas.Int.{ints}
 use Rattle.poly_num.specs.Vectors.{Vector}
 use Rattle.poly_num.proofs.VectorLemmas.{dot_comm}
+use Rattle.poly_num.proofs.Order.{positive_nonzero}
 use Rattle.poly_model.specs.declared.kind.Kind.{Kind}
 use Rattle.poly_model.specs.declared.kind.Kind.TheVariants.{H, V}
 use Rattle.poly_model.specs.Systems.{FileRow, Row, Polyhedron, first_unit, starts_positive, cone_row, is_point_row, added_row, cone_of}
@@ -50,12 +51,9 @@ cone_is_marked V n rows e =
 module _ (p : Polyhedron) where
   not_touched : p.kind ≡ V → TouchesPoint (cone_of p) (first_unit p.n) → ⊥
   not_touched e t =
-      not_zero (at 0 t.row.entries)
+      positive_nonzero (at 0 t.row.entries)
       (all_at IsMarked (cone_of p).rows (cone_is_marked p.kind p.n p.rows e) t.row t.within t.point)
       (sym (first_unit_reads p.n t.row.entries) ∙ dot_comm (first_unit p.n) t.row.entries ∙ t.tight)
-    where
-      not_zero : (x : ℤ) → pos 0 <ℤ x → x ≡ pos 0 → ⊥
-      not_zero x l z = omega (arith, ints)
 
   pub first_unit_is_not_shown : p.kind ≡ V → IsShown p.kind (cone_of p) (first_unit p.n) → ⊥
   first_unit_is_not_shown e s = not_touched e (subst (λ kind. IsShown kind (cone_of p) (first_unit p.n)) e s)

@@ -1,10 +1,11 @@
 -- Reverse search in the words of a polyhedron's listing: its keys, and at which of them each extreme vector is shown.
-use Rattle.std.specs.Prelude.{◌≡◌, ℕ, ◌<◌, List, length, Option}
+use Rattle.std.specs.Prelude.{◌≡◌, ℕ, List, length, Option}
 use Rattle.poly_num.specs.Vectors.{Vector}
 use Rattle.poly_model.specs.declared.kind.Kind.TheVariants.{V}
 use Rattle.poly_model.specs.Systems.{first_unit, Polyhedron, cone_of}
 use Rattle.poly_model.specs.Extreme.{IsExtreme}
 use Rattle.poly_model.specs.Subtrees.{IsSubtreeRoot, IsSubtreeKey, IsSubtreeDepth, IsShownAtKey}
+use Rattle.poly_model.specs.Labels.{IsRow}
 
 -- y is shown at one place of one key, and nowhere else
 pub record IsShownAtOneKey (p : Polyhedron) (root : List ℕ) (y : Vector) : Type 0 where
@@ -32,4 +33,5 @@ pub record SearchesListing (p : Polyhedron) (root : List ℕ) : Type 0 where
 -- so it is under each root from which a search may begin. No label of a row may be that of a coordinate
 abbrev pub ReverseSearchOfListings : Type 0
 ReverseSearchOfListings =
-    (p : Polyhedron) (root : List ℕ) → length (cone_of p).rows < 8192 → IsSubtreeRoot p root → SearchesListing p root
+    (p : Polyhedron) (root : List ℕ) → IsRow (length (cone_of p).rows) → IsSubtreeRoot p root →
+    SearchesListing p root

@@ -30,16 +30,19 @@ OneParent =
     IsRowDictionary space root home → IsRowDictionary space key t → IsRowDictionary space key u →
     IsParent space.labels root key t parent → IsParent space.labels root key u other → parent ≡ other
 
--- the lists of these rows, one after the other
-abbrev pub lists_of : Space → List ℕ → List ℕ → Table → List ℕ → List ℤ
-lists_of space root key t [] = []
-lists_of space root key t (q ∷ qs) = list_of space.labels root key t q ++ lists_of space root key t qs
+module _ (space : Space) (root : List ℕ) where
+  -- the lists of these rows, one after the other
+  abbrev pub lists_of : List ℕ → Table → List ℕ → List ℤ
+  lists_of key t [] = []
+  lists_of key t (q ∷ qs) = list_of space.labels root key t q ++ lists_of key t qs
 
--- the lists of the rows of the root, the greatest first, over the denominator: less at u than at t
-abbrev pub IsBelow : Space → List ℕ → List ℕ → Table → List ℕ → Table → Type 0
-IsBelow space root key t new u =
-    IsPositive (gaps u.denominator (lists_of space root key t (backwards (within space.labels root)))
-    t.denominator (lists_of space root new u (backwards (within space.labels root))))
+  -- those of the rows of the root, the greatest first
+  abbrev pub root_lists : List ℕ → Table → List ℤ
+  root_lists key t = lists_of key t (backwards (within space.labels root))
+
+  -- they are less, over the denominator, at u than at t
+  abbrev pub IsBelow : List ℕ → Table → List ℕ → Table → Type 0
+  IsBelow key t new u = IsPositive (gaps u.denominator (root_lists key t) t.denominator (root_lists new u))
 
 -- a parent is below its child
 abbrev pub ParentIsBelow : Type 0

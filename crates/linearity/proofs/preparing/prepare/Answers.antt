@@ -1,8 +1,9 @@
 use Rattle.std.proofs.Common.{Err, refl, sym, ap, ◌∙◌}
 use Rattle.std.proofs.lemmas.Result.{err_from_is_err_and}
 use Rattle.linearity.specs.declared.preparing.PrepareStop.TheVariants.{Inconsistent, Overflow}
-use Rattle.linearity.proofs.Consistency.{begins_elimination, one_error}
+use Rattle.linearity.proofs.Consistency.{begins_elimination}
 use Rattle.linearity.proofs.preparing.prepare.Goals as goal
+use Rattle.linearity.proofs.Errors.{one_error}
 
 pub returns-in_err-eliminate_rows-clause-inconsistent : goal.returns-in_err-eliminate_rows-clause-inconsistent
 returns-in_err-eliminate_rows-clause-inconsistent c h p file =

@@ -1,7 +1,7 @@
 use Rattle.std.proofs.Common.{◌≡◌, Err, ap, subst, sym, ◌∙◌}
 use Rattle.std.proofs.lemmas.Result.{err_from_is_err_and}
+use Rattle.linearity.proofs.Errors.{one_error}
 use Rattle.plain_enum.specs.declared.answers.FeasibleStop.TheVariants as FeasibleStop
-use Rattle.plain_enum.proofs.LoopUnder.{err_of}
 use Rattle.plain_enum.specs.Begin.{IsBegun}
 use Rattle.plain_enum.proofs.Begun.{same_overflow}
 use Rattle.plain_enum.proofs.feasible.has_point.Goals as goal
@@ -20,5 +20,5 @@ pub returns-in_err-at-clause-overflow : goal.returns-in_err-at-clause-overflow
 returns-in_err-at-clause-overflow c o h p file =
     let q = err_from_is_err_and c.from_residual.result c.from_residual.ensures.1 in
     let same : c.in_err-at.field-0.0 ≡ FeasibleStop.Overflow o =
-    sym q.2 ∙ err_of c.from_residual.result (FeasibleStop.Overflow o) q.0 h q.1 in
+    sym q.2 ∙ one_error c.from_residual.result (FeasibleStop.Overflow o) q.0 h q.1 in
     c.in_err-at.ensures.overflow o (ap (λ v. Err v) same) p file

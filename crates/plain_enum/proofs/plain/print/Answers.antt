@@ -8,10 +8,10 @@ use Rattle.poly_io.specs.Written.{AppendsPart}
 use Rattle.poly_model.specs.declared.kind.Kind.{Kind}
 use Rattle.poly_model.specs.ListingText.{head_text, vector_text}
 use Rattle.poly_model.specs.Systems.{System}
+use Rattle.linearity.proofs.Errors.{one_error}
 use Rattle.plain_enum.specs.declared.prefix.Ended.TheVariants as Ended
 use Rattle.plain_enum.specs.Begin.{begun_cone}
 use Rattle.plain_enum.proofs.BeginAt.{begun_lines, is_cone_of}
-use Rattle.plain_enum.proofs.LoopUnder.{err_of}
 use Rattle.plain_enum.proofs.ListingParts.{stops_in_head, stops_in_rows, stops_in_end, ends_whole}
 use Rattle.plain_enum.proofs.RowsShown.{stopped, not_stopped, cause_after}
 use Rattle.plain_enum.proofs.plain.print.Goals as goal
@@ -56,7 +56,7 @@ pub returns-in_err-listing-clause-passes : goal.returns-in_err-listing-clause-pa
 returns-in_err-listing-clause-passes g c o e p last file b =
     let q = err_from_is_err_and c.from_residual.result c.from_residual.ensures.1 in
     let far : c.in_err-listing.field-0.0 ≡ Ended.Overflow o =
-    sym q.2 ∙ err_of c.from_residual.result (Ended.Overflow o) q.0 e q.1 in
+    sym q.2 ∙ one_error c.from_residual.result (Ended.Overflow o) q.0 e q.1 in
     c.in_err-listing.ensures.passes o (ap (λ v. Err v) far) p last file b
 
 pub returns-in-Ok-finish-clause-written : goal.returns-in-Ok-finish-clause-written

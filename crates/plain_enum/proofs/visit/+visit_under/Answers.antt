@@ -4,12 +4,13 @@ use Rattle.poly_num.specs.Vectors.{Vector}
 use Rattle.poly_model.specs.declared.overflow.Overflow.{Overflow}
 use Rattle.dictionary.specs.Views.{Dictionary, CanPivot, IsPivot, IsOverflow}
 use Rattle.listing_laws.specs.Prefixes.{IsCornerUnder}
+use Rattle.linearity.proofs.Errors.{one_error}
 use Rattle.plain_enum.specs.declared.prefix.Ended.TheVariants as Ended
 use Rattle.plain_enum.specs.Columns.{IsColumnOf, HasNoColumn}
 use Rattle.plain_enum.specs.Listed.{HasRoomFor, IsAt}
 use Rattle.plain_enum.specs.Visits.{HasVisited, VisitsEach, VisitsSome}
 use Rattle.plain_enum.proofs.VisitLemmas.{some_none, some_all, some_stopped, some_then, some_broke}
-use Rattle.plain_enum.proofs.LoopUnder.{IsInLoop, err_of, loop_start, skipped, goes_on, breaks, stops, ends_loop, overflows, deeper, shape_first, room_with, room_below, room_back}
+use Rattle.plain_enum.proofs.LoopUnder.{IsInLoop, loop_start, skipped, goes_on, breaks, stops, ends_loop, overflows, deeper, shape_first, room_with, room_below, room_back}
 use Rattle.plain_enum.proofs.visit.+visit_under.Goals.{in-Some-column_of+in_default-take_row+in_ok-visitor-in-Some, in_default}
 use Rattle.plain_enum.proofs.visit.+visit_under.Goals as goal
 
@@ -95,7 +96,7 @@ returns-in_err-visitor-in-Some-clause-passes g t c o e p cone fixed left marks a
     let prefix = c.args.prefix.now in
     let q = err_from_is_err_and c.from_residual.result c.from_residual.ensures.1 in
     let far : c.in_err-visitor-in-Some.field-0.0 ≡ Ended.Overflow o =
-    sym q.2 ∙ err_of c.from_residual.result (Ended.Overflow o) q.0 e q.1 in
+    sym q.2 ∙ one_error c.from_residual.result (Ended.Overflow o) q.0 e q.1 in
     c.in_err-visitor-in-Some.ensures.passes o (ap (λ v. Err v) far) p cone fixed _ _
     (deeper g.V.Visit.visits g.V.Visit.ends prefix.sys.now prefix.free.now prefix.at.now (length c.args.deeper.now)
     c.args.visitor c.args.out.now c.rows.visitor c.rows.out c.rows.i p cone fixed left marks
