@@ -15,7 +15,7 @@ pivot_cell x cells = cell x.width cells x.row x.column
 
 -- the exchange can be carried out: its row and column are there, the cell at the two is not 0, and the denominator is
 -- positive
-pub record CanExchange (x : Exchange) (cells : List ℤ) : Type 0 where
+pub record HasPivot (x : Exchange) (cells : List ℤ) : Type 0 where
   pub row : x.row < x.height
   pub column : x.column < x.width
   pub denominator : pos 0 <ℤ x.denominator

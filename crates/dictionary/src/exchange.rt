@@ -3,7 +3,7 @@ ghost use Rattle.std.specs.Prelude.{◌≡◌, ◌≢◌, ◌<◌, ◌*◌, ◌*
 ghost use Rattle.std.specs.List.{slice_index_or, All};
 ghost use Rattle.poly_num.specs.Numbers.{IsNum, IsWord, Crosses};
 ghost use Rattle.dictionary.specs.WordExchange.{HasUnitRow};
-ghost use Rattle.dictionary.specs.Cells.{AreNarrow, cell, Fits, CanExchange, IsPivotRow, AreExchangedCells, IsMadePrimitive, IsExchanged};
+ghost use Rattle.dictionary.specs.Cells.{AreNarrow, cell, Fits, HasPivot, IsPivotRow, AreExchangedCells, IsMadePrimitive, IsExchanged};
 
 use crate::cells::{at_place, cell_at};
 use crate::words::exchange_words;
@@ -102,7 +102,7 @@ fn make_primitive(cells: &mut [Num], place: usize)
 pub fn exchange_in_place(cells: &mut [Num], pivot_row: &mut [Num], x: &Exchange)
     requires size { length cells.old ≡ x.now.height * x.now.width }
     requires room { length pivot_row.old ≡ x.now.width }
-    requires can { CanExchange x.now cells.old }
+    requires can { HasPivot x.now cells.old }
     requires fits { Fits x.now cells.old }
     ensures exchanged { IsExchanged x.now cells.old cells.new }
     ensures room { length pivot_row.new ≡ x.now.width }
@@ -117,7 +117,7 @@ pub fn exchange_in_place(cells: &mut [Num], pivot_row: &mut [Num], x: &Exchange)
 pub fn exchange_cells(cells: &mut [Num], pivot_row: &mut [Num], x: &Exchange, narrow: bool) -> bool
     requires size { length cells.old ≡ x.now.height * x.now.width }
     requires room { length pivot_row.old ≡ x.now.width }
-    requires can { CanExchange x.now cells.old }
+    requires can { HasPivot x.now cells.old }
     requires fits { Fits x.now cells.old }
     requires unit { HasUnitRow x.now cells.old }
     requires narrow { IsTrue narrow → AreNarrow cells.old x.now.denominator }

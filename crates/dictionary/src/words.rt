@@ -7,7 +7,7 @@ ghost use Prim.Native.Nat.{◌∣◌};
 ghost use Rattle.poly_num.specs.Numbers.{IsNum, IsWord};
 ghost use Rattle.poly_num.specs.Divisors.{IsGcdOf};
 ghost use Rattle.poly_num.specs.Halves.{IsHalf};
-ghost use Rattle.dictionary.specs.Cells.{cell, pivot_cell, AreNarrow, CanExchange, IsExchanged};
+ghost use Rattle.dictionary.specs.Cells.{cell, pivot_cell, AreNarrow, HasPivot, IsExchanged};
 ghost use Rattle.dictionary.specs.WordExchange.{HasUnitRow, IsCommonTo, IsSignOf, IsShiftedRow, IsLeftOf, IsScaled, IsRescaled, IsRowOver};
 
 use crate::cells::{at_place, cell_at};
@@ -288,7 +288,7 @@ fn row_fits_half(others: bool, c: Num) -> bool
 fn exchange_over(cells: &mut [Num], pivot_row: &mut [Num], x: &Exchange, shift: Num) -> bool
     requires size { length cells.old ≡ x.now.height * x.now.width }
     requires room { length pivot_row.old ≡ x.now.width }
-    requires can { CanExchange x.now cells.old }
+    requires can { HasPivot x.now cells.old }
     requires narrow { AreNarrow cells.old x.now.denominator }
     requires unit { HasUnitRow x.now cells.old }
     requires shift { (shift ≡ pivot_cell x.now cells.old -ℤ x.now.denominator) × IsWord shift }
@@ -332,7 +332,7 @@ fn exchange_over(cells: &mut [Num], pivot_row: &mut [Num], x: &Exchange, shift: 
 pub fn exchange_words(cells: &mut [Num], pivot_row: &mut [Num], x: &Exchange) -> bool
     requires size { length cells.old ≡ x.now.height * x.now.width }
     requires room { length pivot_row.old ≡ x.now.width }
-    requires can { CanExchange x.now cells.old }
+    requires can { HasPivot x.now cells.old }
     requires narrow { AreNarrow cells.old x.now.denominator }
     requires unit { HasUnitRow x.now cells.old }
     ensures exchanged { IsExchanged x.now cells.old cells.new }

@@ -17,6 +17,7 @@ use Rattle.dictionary_laws.proofs.PhasePoints.{phase_points}
 use Rattle.dictionary_laws.proofs.Values.{own_row}
 use Rattle.dictionary.specs.New.{first_label, has_constants, row_count, IsCoordinateDictionary}
 use Rattle.dictionary.specs.Views.{Dictionary, IsDictionaryIn, table_of}
+use Rattle.linearity.specs.declared.eliminate.Pass.TheVariants.{Linear, Others}
 use Rattle.linearity.specs.Elimination.{IsDictionaryOf, IsEliminated}
 
 -- ---- labels of rows
@@ -102,7 +103,7 @@ module _ (sys : System) (phase : Phase) (d : Dictionary) (p : Polyhedron) (early
       let row = own_row space d.key is.dictionary.cobasis (table_of d) is.dictionary.writes j own in
       row.elsewhere k c (λ e. omega arith)
 
-  is_eliminated : IsEliminated sys.rows false 1 d
+  is_eliminated : IsEliminated sys.rows Linear 1 d
   is_eliminated = record {
     settled = λ i l low h. absurd (
         let from_one = (label_is_row p d is_dictionary i l low).0 in let none = h.1 in omega arith);
@@ -111,12 +112,12 @@ module _ (sys : System) (phase : Phase) (d : Dictionary) (p : Polyhedron) (early
         own_zero is_dictionary.space is_dictionary.dictionary j k (in_key j l (omega arith)) c less;
   }
 
-  pub begins_new : IsDictionaryOf p d × IsEliminated sys.rows false 1 d
+  pub begins_new : IsDictionaryOf p d × IsEliminated sys.rows Linear 1 d
   begins_new = (is_dictionary, is_eliminated)
 
 -- ---- where the linear rows have been tried
 pub second_pass : (p : Polyhedron) (d : Dictionary) → IsDictionaryOf p d →
-    IsEliminated (cone_of p).rows false (length (cone_of p).rows + 1) d → IsEliminated (cone_of p).rows true 1 d
+    IsEliminated (cone_of p).rows Linear (length (cone_of p).rows + 1) d → IsEliminated (cone_of p).rows Others 1 d
 second_pass p d h e = record {
   settled = λ i l few t.
       let row = label_is_row p d h i l few in

@@ -20,6 +20,7 @@ use Rattle.dictionary_laws.proofs.Origins.{some_origin}
 use Rattle.dictionary.specs.New.{IsCoordinateDictionary}
 use Rattle.dictionary.specs.MainPhase.{EntersMainPhase}
 use Rattle.dictionary.specs.Views.{Dictionary, IsDictionaryIn, table_of}
+use Rattle.linearity.specs.declared.eliminate.Pass.TheVariants.{Linear}
 use Rattle.linearity.specs.Columns.{columns_in, coordinate_vectors}
 use Rattle.linearity.specs.Elimination.{IsDictionaryOf, IsEliminated}
 use Rattle.linearity.specs.Prepared.{HasNoConstants, BeginsElimination, EndsElimination, IsPrepared}
@@ -39,7 +40,7 @@ prepare_points p d of e = subst HasPoints (subst (λ f. IsSpaceOf p f of.space) 
 
 module _ (p : Polyhedron) (d : Dictionary) (of : IsDictionaryOf p d) (e : d.phase ≡ Prepare) where
   -- ---- once the linear rows have been tried
-  module _ (tried : IsEliminated (cone_of p).rows false (length (cone_of p).rows + 1) d) where
+  module _ (tried : IsEliminated (cone_of p).rows Linear (length (cone_of p).rows + 1) d) where
     is : IsDictionaryIn (prepare_space p) d
     is = in_prepare p d of e
 
@@ -71,9 +72,9 @@ module _ (p : Polyhedron) (d : Dictionary) (of : IsDictionaryOf p d) (e : d.phas
 
 -- the equations have a common point exactly where all their constants are 0
 pub consistent_exactly : (p : Polyhedron) (sys : System) (d : Dictionary) → sys ≡ cone_of p → IsDictionaryOf p d →
-    d.phase ≡ Prepare → IsEliminated sys.rows false (length sys.rows + 1) d → AreConsistent p ↔ HasNoConstants sys d
+    d.phase ≡ Prepare → IsEliminated sys.rows Linear (length sys.rows + 1) d → AreConsistent p ↔ HasNoConstants sys d
 consistent_exactly p sys d file of e tried =
-    let there = subst (λ (s : System). IsEliminated s.rows false (length s.rows + 1) d) file tried in (
+    let there = subst (λ (s : System). IsEliminated s.rows Linear (length s.rows + 1) d) file tried in (
       λ point. subst (λ s. HasNoConstants s d) (sym file) (constants_are_zero p d of e there point),
       λ zero. consistent_by_constants p d of e there (subst (λ s. HasNoConstants s d) file zero),
     )
@@ -115,5 +116,5 @@ begins_elimination sys d p file same some narrow count few new =
     record {
       phase = new.phase_is;
       of = begun.0;
-      untried = subst (λ (s : System). IsEliminated s.rows false 1 d) file begun.1;
+      untried = subst (λ (s : System). IsEliminated s.rows Linear 1 d) file begun.1;
     }

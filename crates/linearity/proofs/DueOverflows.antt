@@ -13,6 +13,7 @@ use Rattle.poly_model.specs.Due.{IsDue, IsEntering, IsAskedBefore}
 use Rattle.cone_laws.proofs.ColumnLemmas.{one_list_of_columns}
 use Rattle.dictionary_laws.proofs.Starts.{start_exists}
 use Rattle.dictionary.specs.Views.{Dictionary}
+use Rattle.linearity.specs.declared.eliminate.Pass.TheVariants.{Linear, Others}
 use Rattle.linearity.specs.Elimination.{IsDictionaryOf, IsEliminated}
 use Rattle.linearity.specs.Turns.{OverflowsFor, StopsAt}
 use Rattle.linearity.proofs.Tries.{overflows_at}
@@ -62,11 +63,11 @@ module _ (p : Polyhedron) where
         }
 
     -- the linear rows enter
-    due_among_linear : IsEliminated rows false i d → (row_of rows i).linear ≡ true → IsDue p o (IsAskedBefore p o)
+    due_among_linear : IsEliminated rows Linear i d → (row_of rows i).linear ≡ true → IsDue p o (IsAskedBefore p o)
     due_among_linear tried e = due (inl e) (λ l c low. inl (tried.taken l c low).0)
 
     -- the others enter, and the equations have a common point
-    due_among_others : AreConsistent p → IsEliminated rows true i d → (row_of rows i).linear ≡ false → IsRow i →
+    due_among_others : AreConsistent p → IsEliminated rows Others i d → (row_of rows i).linear ≡ false → IsRow i →
         IsDue p o (IsAskedBefore p o)
     due_among_others point tried e low =
         let is = in_prepare p d of phase in
@@ -89,24 +90,24 @@ module _ (p : Polyhedron) where
   module _ (sys : System) (i : ℕ) (old new : Dictionary) (o : Overflow) (file : sys ≡ cone_of p)
       (of : IsDictionaryOf p old)
       (phase : new.phase ≡ Prepare) where
-    pub due_in_first : IsEliminated rows false 1 old → StopsAt sys false i old new o → IsDue p o (IsAskedBefore p o)
+    pub due_in_first : IsEliminated rows Linear 1 old → StopsAt sys Linear i old new o → IsDue p o (IsAskedBefore p o)
     due_in_first untried stops =
         due_among_linear i stops.overflows.0 new o (stops.before.dictionary p file of) phase stops.overflows.1
-        (subst (λ (s : System). IsEliminated s.rows false i new) file
+        (subst (λ (s : System). IsEliminated s.rows Linear i new) file
         (stops.before.eliminated p file of
-        (subst (λ (s : System). IsEliminated s.rows false 1 old) (sym file) untried)))
+        (subst (λ (s : System). IsEliminated s.rows Linear 1 old) (sym file) untried)))
         (subst (λ (s : System). (row_of s.rows i).linear ≡ true) file
         (true_from_ne_false (row_of sys.rows i).linear stops.tried))
 
-    pub due_in_second : AreConsistent p → IsEliminated rows true 1 old → StopsAt sys true i old new o →
+    pub due_in_second : AreConsistent p → IsEliminated rows Others 1 old → StopsAt sys Others i old new o →
         IsDue p o (IsAskedBefore p o)
     due_in_second point untried stops =
         let within = stops.within in
         let count : length sys.rows < coordinates_from = subst (λ (s : System). length s.rows < coordinates_from) (sym file) of.few in
         due_among_others i stops.overflows.0 new o (stops.before.dictionary p file of) phase stops.overflows.1 point
-        (subst (λ (s : System). IsEliminated s.rows true i new) file
+        (subst (λ (s : System). IsEliminated s.rows Others i new) file
         (stops.before.eliminated p file of
-        (subst (λ (s : System). IsEliminated s.rows true 1 old) (sym file) untried)))
+        (subst (λ (s : System). IsEliminated s.rows Others 1 old) (sym file) untried)))
         (subst (λ (s : System). (row_of s.rows i).linear ≡ false) file
         (false_from_ne_true (row_of sys.rows i).linear stops.tried))
         (omega arith)

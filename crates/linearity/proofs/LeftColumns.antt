@@ -16,6 +16,7 @@ use Rattle.cone_laws.proofs.FeasibleLemmas.{first_unit_reads}
 use Rattle.dictionary_laws.proofs.Members.{contains_or}
 use Rattle.dictionary.specs.Views.{Dictionary, table_of}
 use Rattle.hull_lift.specs.Facets.{column_of}
+use Rattle.linearity.specs.declared.eliminate.Pass.TheVariants.{Others}
 use Rattle.linearity.specs.Elimination.{IsDictionaryOf, IsEliminated}
 use Rattle.linearity.proofs.ConeLabels.{HasNoFirst}
 use Rattle.linearity.proofs.RowValues.{past_end, combined, row_form, coordinate_value, tight_rows}
@@ -26,7 +27,7 @@ module _ (p : Polyhedron) (d : Dictionary) (is : IsDictionaryOf p d) where
   abbrev reads : ReadsCone p d
   reads = cone_readings p d is
 
-  module _ (e : IsEliminated (cone_of p).rows true (length (cone_of p).rows + 1) d) where
+  module _ (e : IsEliminated (cone_of p).rows Others (length (cone_of p).rows + 1) d) where
     -- ---- the column of a coordinate that is left
     module _ (j : ℕ) (c : Contains d.key (coordinate_label j)) where
       abbrev pub left_column : Vector

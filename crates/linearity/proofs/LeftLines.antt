@@ -17,6 +17,7 @@ use Rattle.linear_laws.proofs.Members.{Contains-first, Contains-later}
 use Rattle.dictionary_laws.proofs.Filters.{filter_only}
 use Rattle.dictionary.specs.Views.{Dictionary}
 use Rattle.hull_lift.specs.Facets.{column_of, primitive_column}
+use Rattle.linearity.specs.declared.eliminate.Pass.TheVariants.{Others}
 use Rattle.linearity.specs.Columns.{coordinates_in, columns_in, coordinate_vectors}
 use Rattle.linearity.specs.Elimination.{IsDictionaryOf, IsEliminated}
 use Rattle.linearity.specs.Laws.{EliminationLeavesLines}
@@ -32,7 +33,7 @@ lines_of p f [] h = tt
 lines_of p f (x ∷ ks) h = (h x (Contains-first x ks), lines_of p f ks (λ k c. h k (Contains-later k x ks c)))
 
 module _ (p : Polyhedron) (d : Dictionary) (is : IsDictionaryOf p d)
-    (e : IsEliminated (cone_of p).rows true (length (cone_of p).rows + 1) d) where
+    (e : IsEliminated (cone_of p).rows Others (length (cone_of p).rows + 1) d) where
   -- the primitive vector along the column of a coordinate that is left is the line of its column
   module _ (j : ℕ) (c : Contains d.key (coordinate_label j)) where
     abbrev z : Vector

@@ -28,6 +28,7 @@ use Rattle.dictionary_laws.proofs.MainRows.{count_of_rows, linear_in_file, equat
 use Rattle.dictionary_laws.proofs.MainSpace.{equation_in, main_dictionary}
 use Rattle.dictionary.specs.Views.{Dictionary, IsDictionaryIn, table_of}
 use Rattle.dictionary.proofs.Beginnings.{ascending_joined}
+use Rattle.linearity.specs.declared.eliminate.Pass.TheVariants.{Others}
 use Rattle.linearity.specs.Columns.{columns_in}
 use Rattle.linearity.specs.Elimination.{IsBehind, IsSettled, IsEliminated}
 use Rattle.linearity.proofs.KeyColumns.{column_of_label, column_only}
@@ -145,7 +146,7 @@ module _ (p : Polyhedron) (few : length (cone_of p).rows < coordinates_from) (d 
   -- ---- rows before one of them have been tried, and the free columns are left
   module _ (free : List ℕ) (columns : AreFreeColumns (cone_of p) free)
       (inside : (j : ℕ) → Contains free j → Contains d.key (coordinate_label j))
-      (point : HasPointOn (prepare_space p) (equation_labels p)) (from : ℕ) (tried : IsEliminated rows true from d)
+      (point : HasPointOn (prepare_space p) (equation_labels p)) (from : ℕ) (tried : IsEliminated rows Others from d)
     where
       pub can_enter : CanEnterMain p free d.key (table_of d)
       can_enter = record {
@@ -214,7 +215,7 @@ module _ (p : Polyhedron) (few : length (cone_of p).rows < coordinates_from) (d 
   -- ---- all rows have been tried
   module _ (ascending : IsAscending d.key) (free : AreFreeColumns (cone_of p) (columns_in d.key))
       (point : HasPointOn (prepare_space p) (equation_labels p))
-      (done : IsEliminated rows true (length rows + 1) d) where
+      (done : IsEliminated rows Others (length rows + 1) d) where
     abbrev columns : List ℕ
     columns = columns_in d.key
 

@@ -16,6 +16,7 @@ use Rattle.dictionary_laws.proofs.Directions.{times_zero, zero_times}
 use Rattle.dictionary_laws.proofs.Duals.{Dual, dual_of}
 use Rattle.dictionary_laws.proofs.Values.{value_at}
 use Rattle.dictionary.specs.Views.{Dictionary, IsDictionaryIn, table_of}
+use Rattle.linearity.specs.declared.eliminate.Pass.TheVariants.{Others}
 use Rattle.linearity.specs.Columns.{IsLeastColumn}
 use Rattle.linearity.specs.Elimination.{IsBehind, IsEliminated}
 use Rattle.linearity.proofs.StartCobasis.{start_has}
@@ -25,7 +26,7 @@ module _ (p : Polyhedron) (few : length (cone_of p).rows < coordinates_from) (d 
     (is : IsDictionaryIn (prepare_space p) d) (free : List ℕ) (columns : AreFreeColumns (cone_of p) free)
     (inside : (j : ℕ) → Contains free j → Contains d.key (coordinate_label j))
     (point : HasPointOn (prepare_space p) (equation_labels p)) (from : ℕ)
-    (tried : IsEliminated (cone_of p).rows true from d)
+    (tried : IsEliminated (cone_of p).rows Others from d)
     (start : List ℕ) (is_start : IsStartCobasis (main_space p free) start) where
   abbrev rows : List Row
   rows = (cone_of p).rows

@@ -10,8 +10,9 @@ use Rattle.poly_model.specs.Overflows.{Passes, IsPassing}
 use Rattle.poly_model.specs.Spaces.{IsSpaceOf}
 use Rattle.poly_model.specs.Dictionaries.{IsDictionary}
 use Rattle.dictionary.specs.Views.{Dictionary, CanPivot, IsPivot, IsOverflow, table_of}
+use Rattle.linearity.specs.declared.eliminate.Pass.{Pass}
 use Rattle.linearity.specs.Columns.{IsZeroAtCoordinates}
-use Rattle.linearity.specs.Elimination.{IsDictionaryOf}
+use Rattle.linearity.specs.Elimination.{IsDictionaryOf, tries_others}
 use Rattle.linearity.specs.Turns.{KeepsShape, EntersFor, OverflowsFor, IsEntered, Eliminates, StopsAt}
 use Rattle.linearity.proofs.Turns.{passed_over, no_column, enters}
 
@@ -91,56 +92,56 @@ unfolding overflows
 overflows_at p d i k o h can over = (overflows p d i k o h can over, refl, refl)
 
 -- ---- the rows that have been tried
-module _ (sys : System) (others : Bool) where
+module _ (sys : System) (pass : Pass) where
   -- the pivot of the next row overflows, and nothing has changed
   pub stops : (i : ℕ) (old now new : Dictionary) (o : Overflow) → 0 < i → i ≤ length sys.rows →
-      (row_of sys.rows i).linear ≢ others → Eliminates sys others 1 i old now → new ≡ now →
-      (k : ℕ) × OverflowsFor now i k o → StopsAt sys others i old new o
+      (row_of sys.rows i).linear ≢ tries_others pass → Eliminates sys pass 1 i old now → new ≡ now →
+      (k : ℕ) × OverflowsFor now i k o → StopsAt sys pass i old new o
   stops i old now new o first last n tried same h = record {
     from_one = first;
     within = last;
     tried = n;
-    before = subst (Eliminates sys others 1 i old) (sym same) tried;
+    before = subst (Eliminates sys pass 1 i old) (sym same) tried;
     overflows = subst (λ d. (k : ℕ) × OverflowsFor d i k o) (sym same) h;
   }
 
-  pub none_tried : (i : ℕ) (d : Dictionary) → Eliminates sys others i i d d
+  pub none_tried : (i : ℕ) (d : Dictionary) → Eliminates sys pass i i d d
   none_tried i d = record { dictionary = λ p file h. h; eliminated = λ p file h e. e }
 
-  pub tried_then : (i j k : ℕ) (a b c : Dictionary) → Eliminates sys others i j a b → Eliminates sys others j k b c →
-      Eliminates sys others i k a c
+  pub tried_then : (i j k : ℕ) (a b c : Dictionary) → Eliminates sys pass i j a b → Eliminates sys pass j k b c →
+      Eliminates sys pass i k a c
   tried_then i j k a b c s t = record {
     dictionary = λ p file h. t.dictionary p file (s.dictionary p file h);
     eliminated = λ p file h e. t.eliminated p file (s.dictionary p file h) (s.eliminated p file h e);
   }
 
   -- a row that is passed over
-  pub tries_none : (i : ℕ) (d : Dictionary) → (Contains d.labels i → (row_of sys.rows i).linear ≡ others) →
-      Eliminates sys others i (i + 1) d d
+  pub tries_none : (i : ℕ) (d : Dictionary) → (Contains d.labels i → (row_of sys.rows i).linear ≡ tries_others pass) →
+      Eliminates sys pass i (i + 1) d d
   tries_none i d is = record {
     dictionary = λ p file h. h;
-    eliminated = λ p file h e. passed_over sys.rows others i d e is;
+    eliminated = λ p file h e. passed_over sys.rows pass i d e is;
   }
 
-  module _ (i : ℕ) (few : IsRow i) (n : (row_of sys.rows i).linear ≢ others) (old : Dictionary) where
-    stays : IsZeroAtCoordinates old i → Eliminates sys others i (i + 1) old old
+  module _ (i : ℕ) (few : IsRow i) (n : (row_of sys.rows i).linear ≢ tries_others pass) (old : Dictionary) where
+    stays : IsZeroAtCoordinates old i → Eliminates sys pass i (i + 1) old old
     stays none = record {
       dictionary = λ p file h. h;
-      eliminated = λ p file h e. no_column sys.rows others i old e n none;
+      eliminated = λ p file h e. no_column sys.rows pass i old e n none;
     }
 
-    enters_for : (new : Dictionary) (k : ℕ) → EntersFor old i k new → Eliminates sys others i (i + 1) old new
+    enters_for : (new : Dictionary) (k : ℕ) → EntersFor old i k new → Eliminates sys pass i (i + 1) old new
     enters_for new k e = record {
       dictionary = λ p file h. pivoted p old new i k e.pivot h;
       eliminated = λ p file h before.
-          enters sys.rows others i few old new k before h.space h.points h.dictionary e.column e.can e.pivot n;
+          enters sys.rows pass i few old new k before h.space h.points h.dictionary e.column e.can e.pivot n;
     }
 
     -- a row that is tried
-    pub tries_one : (new : Dictionary) → IsEntered old i new → Eliminates sys others i (i + 1) old new
+    pub tries_one : (new : Dictionary) → IsEntered old i new → Eliminates sys pass i (i + 1) old new
     tries_one new h =
         ⊎_elim
         (λ (e : (k : ℕ) × EntersFor old i k new). enters_for new e.0 e.1)
         (λ (e : IsZeroAtCoordinates old i × (new ≡ old)).
-        subst (Eliminates sys others i (i + 1) old) (sym e.1) (stays e.0))
+        subst (Eliminates sys pass i (i + 1) old) (sym e.1) (stays e.0))
         h

@@ -41,13 +41,13 @@ tries_others Others = true
 
 -- row i has been tried: of the first pass, which tries the linear rows, it is one before `from`; of the second, which
 -- tries the others, it is any linear row, or one before `from`
-abbrev pub IsTried : List Row → Bool → ℕ → ℕ → Type 0
-IsTried rows false from i = ((row_of rows i).linear ≡ true) × (i < from)
-IsTried rows true from i = ((row_of rows i).linear ≡ true) ⊎ (i < from)
+abbrev pub IsTried : List Row → Pass → ℕ → ℕ → Type 0
+IsTried rows Linear from i = ((row_of rows i).linear ≡ true) × (i < from)
+IsTried rows Others from i = ((row_of rows i).linear ≡ true) ⊎ (i < from)
 
 -- the rows before `from` have been tried in a pass. Each coordinate is 0 at those before it that are left
-pub record IsEliminated (rows : List Row) (others : Bool) (from : ℕ) (d : Dictionary) : Type 0 where
-  pub settled : (i : ℕ) → Contains d.labels i → IsRow i → IsTried rows others from i → IsSettled rows d i
-  pub taken : (k : ℕ) → Contains d.key k → IsRow k → IsTried rows others from k
+pub record IsEliminated (rows : List Row) (pass : Pass) (from : ℕ) (d : Dictionary) : Type 0 where
+  pub settled : (i : ℕ) → Contains d.labels i → IsRow i → IsTried rows pass from i → IsSettled rows d i
+  pub taken : (k : ℕ) → Contains d.key k → IsRow k → IsTried rows pass from k
   pub leftmost : (j k : ℕ) → Contains d.labels j → Contains d.key k → IsCoordinate k → k < j →
       Table.entry (table_of d) j k ≡ pos 0

@@ -4,6 +4,7 @@ use Rattle.poly_model.specs.Keys.{IsAscending}
 use Rattle.poly_model.specs.Systems.{Polyhedron, cone_of}
 use Rattle.poly_model.specs.FreeColumns.{AreFreeColumns, AreLinesOf}
 use Rattle.dictionary.specs.Views.{Dictionary}
+use Rattle.linearity.specs.declared.eliminate.Pass.TheVariants.{Others}
 use Rattle.linearity.specs.Columns.{columns_in, coordinate_vectors}
 use Rattle.linearity.specs.Elimination.{IsDictionaryOf, IsEliminated}
 
@@ -15,4 +16,4 @@ pub record LeavesLines (p : Polyhedron) (d : Dictionary) : Type 0 where
 -- of every dictionary whose key ascends
 abbrev pub EliminationLeavesLines : Type 0
 EliminationLeavesLines = (p : Polyhedron) (d : Dictionary) → IsDictionaryOf p d → IsAscending d.key →
-    IsEliminated (cone_of p).rows true (length (cone_of p).rows + 1) d → LeavesLines p d
+    IsEliminated (cone_of p).rows Others (length (cone_of p).rows + 1) d → LeavesLines p d

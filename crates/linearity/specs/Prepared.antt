@@ -9,6 +9,7 @@ use Rattle.poly_model.specs.Spaces.{IsStartCobasis, main_space}
 use Rattle.poly_model.specs.Dictionaries.{Table}
 use Rattle.poly_model.specs.Equations.{AreConsistent}
 use Rattle.dictionary.specs.Views.{Dictionary, IsDictionaryIn, table_of}
+use Rattle.linearity.specs.declared.eliminate.Pass.TheVariants.{Linear, Others}
 use Rattle.linearity.specs.Elimination.{IsDictionaryOf, IsEliminated}
 
 -- the lines, by ascending free column, and the dictionary of the start cobasis in the main space
@@ -37,10 +38,10 @@ pub record EndsElimination (p : Polyhedron) (d : Dictionary) : Type 0 where
   pub consistent : AreConsistent p
   pub phase : d.phase ≡ Prepare
   pub of : IsDictionaryOf p d
-  pub tried : IsEliminated (cone_of p).rows true (length (cone_of p).rows + 1) d
+  pub tried : IsEliminated (cone_of p).rows Others (length (cone_of p).rows + 1) d
 
 -- a dictionary of the file's rows at which no row has been tried
 pub record BeginsElimination (p : Polyhedron) (d : Dictionary) : Type 0 where
   pub phase : d.phase ≡ Prepare
   pub of : IsDictionaryOf p d
-  pub untried : IsEliminated (cone_of p).rows false 1 d
+  pub untried : IsEliminated (cone_of p).rows Linear 1 d

@@ -5,8 +5,9 @@ use Rattle.poly_model.specs.Labels.{IsCoordinate}
 use Rattle.poly_model.specs.declared.overflow.Overflow.{Overflow}
 use Rattle.poly_model.specs.Systems.{System, Polyhedron, row_of, cone_of}
 use Rattle.dictionary.specs.Views.{Dictionary, CanPivot, IsPivot, IsOverflow}
+use Rattle.linearity.specs.declared.eliminate.Pass.{Pass}
 use Rattle.linearity.specs.Columns.{IsLeastColumn, IsZeroAtCoordinates}
-use Rattle.linearity.specs.Elimination.{IsDictionaryOf, IsEliminated}
+use Rattle.linearity.specs.Elimination.{IsDictionaryOf, IsEliminated, tries_others}
 
 -- the phase, the labels and the count of columns stay, and no coordinate enters the cobasis
 pub record KeepsShape (old new : Dictionary) : Type 0 where
@@ -33,15 +34,15 @@ IsEntered old i new = ((k : ℕ) × EntersFor old i k new) ⊎ (IsZeroAtCoordina
 
 -- where the rows before `from` had been tried in a pass, those before `to` have been, at a dictionary of the same
 -- polyhedron
-pub record Eliminates (sys : System) (others : Bool) (from to : ℕ) (old new : Dictionary) : Type 0 where
+pub record Eliminates (sys : System) (pass : Pass) (from to : ℕ) (old new : Dictionary) : Type 0 where
   pub dictionary : (p : Polyhedron) → sys ≡ cone_of p → IsDictionaryOf p old → IsDictionaryOf p new
   pub eliminated : (p : Polyhedron) → sys ≡ cone_of p → IsDictionaryOf p old →
-      IsEliminated sys.rows others from old → IsEliminated sys.rows others to new
+      IsEliminated sys.rows pass from old → IsEliminated sys.rows pass to new
 
 -- the rows before i have been tried in a pass, and the pivot of row i overflows
-pub record StopsAt (sys : System) (others : Bool) (i : ℕ) (old new : Dictionary) (o : Overflow) : Type 0 where
+pub record StopsAt (sys : System) (pass : Pass) (i : ℕ) (old new : Dictionary) (o : Overflow) : Type 0 where
   pub from_one : 0 < i
   pub within : i ≤ length sys.rows
-  pub tried : (row_of sys.rows i).linear ≢ others
-  pub before : Eliminates sys others 1 i old new
+  pub tried : (row_of sys.rows i).linear ≢ tries_others pass
+  pub before : Eliminates sys pass 1 i old new
   pub overflows : (k : ℕ) × OverflowsFor new i k o

@@ -95,7 +95,7 @@ fn try_row(at: &mut Dict, sys: &System, i: u32, pass: Pass) -> Result<(), Overfl
     requires from_one { 0 < i }
     requires within { i ≤ length sys.now.rows }
     requires few { IsRow i }
-    ensures tried { IfOk result (λ _. Eliminates sys.now (tries_others pass) i (i + 1) at.old at.new) }
+    ensures tried { IfOk result (λ _. Eliminates sys.now pass i (i + 1) at.old at.new) }
     ensures shape { KeepsShape at.old at.new }
     ensures unchanged { IfErr result (λ _. at.new ≡ at.old) }
     ensures kind { IfErr result (λ _. (row_of sys.now.rows i).linear ≢ tries_others pass) }
@@ -117,9 +117,9 @@ fn try_row(at: &mut Dict, sys: &System, i: u32, pass: Pass) -> Result<(), Overfl
 /// overflows, the rows before it have been tried. Takes no memory.
 pub fn enter_rows(at: &mut Dict, sys: &System, pass: Pass) -> Result<(), Overflow>
     ensures entered { IfOk result (λ _. (p : Polyhedron) → sys.now ≡ cone_of p → IsDictionaryOf p at.old →
-        IsEliminated sys.now.rows (tries_others pass) 1 at.old →
-        IsDictionaryOf p at.new × IsEliminated sys.now.rows (tries_others pass) (length sys.now.rows + 1) at.new) }
-    ensures stopped { IfErr result (λ o. (i : ℕ) × StopsAt sys.now (tries_others pass) i at.old at.new o) }
+        IsEliminated sys.now.rows pass 1 at.old →
+        IsDictionaryOf p at.new × IsEliminated sys.now.rows pass (length sys.now.rows + 1) at.new) }
+    ensures stopped { IfErr result (λ o. (i : ℕ) × StopsAt sys.now pass i at.old at.new o) }
     ensures fewer { (k : ℕ) → Contains at.new.key k → IsCoordinate k → Contains at.old.key k }
     ensures phase { at.new.phase ≡ at.old.phase }
     ensures labels { at.new.labels ≡ at.old.labels }

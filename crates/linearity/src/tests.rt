@@ -1,6 +1,5 @@
 //! Elimination worked out by hand.
-ghost use Rattle.std.specs.Prelude.{◌≡◌, ◌<◌, length};
-ghost use Rattle.poly_model.specs.Labels.{coordinates_from};
+ghost use Rattle.std.specs.Prelude.{◌≡◌, length};
 
 use crate::{Pass, enter_rows};
 use dictionary::Dict;
@@ -34,28 +33,32 @@ fn cases() -> [Case; 4] {
             name: "the equation enters before the row above it",
             entries: &[0, 0, 1, 0, 1, 1, 1, 0, 0],
             linear: &[false, true, false],
-            first: Some([row(2), x(0), x(2)]),
-            both: Some([row(1), row(2), row(3)]),
+            first: Some([Label::row(2), Label::coordinate(0), Label::coordinate(2)]),
+            both: Some([Label::row(1), Label::row(2), Label::row(3)]),
         },
         Case {
             name: "an equation twice, and a free column",
             entries: &[0, 1, 1, 0, 2, 2, 1, 0, 0],
             linear: &[true, true, false],
-            first: Some([row(1), x(0), x(2)]),
-            both: Some([row(1), row(3), x(2)]),
+            first: Some([Label::row(1), Label::coordinate(0), Label::coordinate(2)]),
+            both: Some([Label::row(1), Label::row(3), Label::coordinate(2)]),
         },
         Case {
             name: "an equation of 0, and a row that is 0 where the other has entered",
             entries: &[0, 0, 0, 0, -3, 2, 0, 6, -4],
             linear: &[true, false, false],
-            first: Some([x(0), x(1), x(2)]),
-            both: Some([row(2), x(0), x(2)]),
+            first: Some([
+                Label::coordinate(0),
+                Label::coordinate(1),
+                Label::coordinate(2),
+            ]),
+            both: Some([Label::row(2), Label::coordinate(0), Label::coordinate(2)]),
         },
         Case {
             name: "rows of 200 bits",
             entries: &[1, 0, 0, 0, LARGE, 1, 0, 1, LARGE],
             linear: &[true, false, false],
-            first: Some([row(1), x(1), x(2)]),
+            first: Some([Label::row(1), Label::coordinate(1), Label::coordinate(2)]),
             both: None,
         },
     ]
@@ -77,19 +80,6 @@ fn rows_enter_the_cobasis(rt: HostRuntime) -> Result<(), Fail> {
         assert_eq!(rt; Passes { first, both }, want, "{}", case.name);
     }
     Ok(())
-}
-
-fn row(i: u32) -> Label
-    requires positive { 0 < i }
-    requires within { i < coordinates_from }
-{
-    Label::row(i)
-}
-
-fn x(j: u32) -> Label
-    requires { j < coordinates_from }
-{
-    Label::coordinate(j)
 }
 
 fn pass(at: &mut Dict, cone: &System, which: Pass) -> Option<Key> {

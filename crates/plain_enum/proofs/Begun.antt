@@ -12,6 +12,8 @@ use Rattle.poly_model.specs.Systems.{System, Polyhedron, cone_of}
 use Rattle.dictionary_laws.proofs.Filters.{range_has}
 use Rattle.dictionary.specs.New.{IsCoordinateDictionary}
 use Rattle.dictionary.specs.Views.{Dictionary}
+use Rattle.linearity.specs.declared.eliminate.Pass.{Pass}
+use Rattle.linearity.specs.declared.eliminate.Pass.TheVariants.{Linear, Others}
 use Rattle.linearity.specs.Columns.{columns_in}
 use Rattle.linearity.specs.Elimination.{IsDictionaryOf, IsEliminated}
 use Rattle.linearity.proofs.Beginnings.{begins_new, second_pass}
@@ -26,10 +28,10 @@ pub same_overflow : {T : Type 0} (x o : Passed) → IsErrOf {T = T} {E = Feasibl
 same_overflow x o h = cc
 
 -- a pass over all rows: what it finds and what it leaves
-abbrev pub TriesAll : System → Polyhedron → (others : Bool) → Dictionary → Dictionary → Type 0
-TriesAll sys p others old new =
-    IsDictionaryOf p old → IsEliminated sys.rows others 1 old →
-    IsDictionaryOf p new × IsEliminated sys.rows others (length sys.rows + 1) new
+abbrev pub TriesAll : System → Polyhedron → (pass : Pass) → Dictionary → Dictionary → Type 0
+TriesAll sys p pass old new =
+    IsDictionaryOf p old → IsEliminated sys.rows pass 1 old →
+    IsDictionaryOf p new × IsEliminated sys.rows pass (length sys.rows + 1) new
 
 -- the dictionary of the coordinates has a row for each row of the system
 pub new_rows : (sys : System) (d : Dictionary) → IsCoordinateDictionary sys Cone d → HasRows (length sys.rows) d
@@ -42,7 +44,7 @@ new_rows sys d new i a b =
 module _ (sys : System) (new : Dictionary) (is_new : IsCoordinateDictionary sys Cone new) {n rows : ℕ} (width : n ≡ sys.n) (some : 0 < n)
     (narrow : n ≤ most_columns) (count : rows ≡ length sys.rows) (few : rows ≤ most_cone_rows) (p : Polyhedron)
     (file : sys ≡ cone_of p) where
-  begun : IsDictionaryOf p new × IsEliminated sys.rows false 1 new
+  begun : IsDictionaryOf p new × IsEliminated sys.rows Linear 1 new
   begun =
       let same = width ∙ ap (λ (s : System). s.n) file in
       begins_new sys Cone new p (inl refl) file (omega arith) (omega arith) (omega arith) is_new
@@ -60,15 +62,15 @@ module _ (sys : System) (new : Dictionary) (is_new : IsCoordinateDictionary sys 
       free ≡ columns_in last.key → IsBegun p at last free
   is_begun at last free first second phase later ascending columns =
       let linear = first begun.0 begun.1 in
-      let there = subst (λ (s : System). IsEliminated s.rows false (length s.rows + 1) at) file linear.1 in
-      let next = subst (λ (s : System). IsEliminated s.rows true 1 at) (sym file) (second_pass p at linear.0 there) in
+      let there = subst (λ (s : System). IsEliminated s.rows Linear (length s.rows + 1) at) file linear.1 in
+      let next = subst (λ (s : System). IsEliminated s.rows Others 1 at) (sym file) (second_pass p at linear.0 there) in
       let all = second linear.0 next in
       record {
         phase = phase ∙ is_new.phase_is;
         at_of = linear.0;
         linear = there;
         last_of = all.0;
-        all = subst (λ (s : System). IsEliminated s.rows true (length s.rows + 1) last) file all.1;
+        all = subst (λ (s : System). IsEliminated s.rows Others (length s.rows + 1) last) file all.1;
         later = later;
         ascending = ascending;
         columns = columns;

@@ -9,6 +9,7 @@ use Rattle.poly_model.specs.Spaces.{is_member}
 use Rattle.poly_model.specs.Labels.{IsCoordinate, is_row, coordinate_index}
 use Rattle.dictionary.specs.MainPhase.{stays_in}
 use Rattle.dictionary.specs.Views.{Dictionary}
+use Rattle.linearity.specs.declared.eliminate.Pass.TheVariants.{Linear, Others}
 use Rattle.linearity.specs.Columns.{columns_in}
 use Rattle.linearity.specs.Elimination.{IsDictionaryOf, IsEliminated}
 use Rattle.listing_laws.specs.ListedCone.{ListedCone, cone_over}
@@ -20,9 +21,9 @@ use Rattle.plain_enum.specs.Standing.{form_of}
 pub record IsBegun (p : Polyhedron) (at last : Dictionary) (free : List ℕ) : Type 0 where
   pub phase : at.phase ≡ Cone
   pub at_of : IsDictionaryOf p at
-  pub linear : IsEliminated (cone_of p).rows false (length (cone_of p).rows + 1) at
+  pub linear : IsEliminated (cone_of p).rows Linear (length (cone_of p).rows + 1) at
   pub last_of : IsDictionaryOf p last
-  pub all : IsEliminated (cone_of p).rows true (length (cone_of p).rows + 1) last
+  pub all : IsEliminated (cone_of p).rows Others (length (cone_of p).rows + 1) last
   pub later : (k : ℕ) → Contains last.key k → IsCoordinate k → Contains at.key k
   pub ascending : IsAscending last.key
   pub columns : free ≡ columns_in last.key

@@ -27,7 +27,7 @@ abbrev pub IsShown : Kind → System → Vector → Type 0
 IsShown H sys y = Unit {0}
 IsShown V sys y = TouchesPoint sys y
 
--- y is primitive, 0 at the free columns and in the cone, and all of its face is multiples of y
+-- y is primitive, 0 at the free columns and in the cone, all of its face is multiples of y, and it is shown
 pub record IsExtreme (sys : System) (y : Vector) : Type 0 where
   pub primitive : IsPrimitive y
   pub free : IsZeroAtFree sys y

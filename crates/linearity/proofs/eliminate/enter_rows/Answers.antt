@@ -10,10 +10,10 @@ pub returns-in_err-try_row-clause-stopped : goal.returns-in_err-try_row-clause-s
 returns-in_err-try_row-clause-stopped c =
     let q = err_from_is_err_and c.from_residual.result c.from_residual.ensures.1 in
     subst
-    (λ r. IfErr r (λ o. (i : ℕ) × StopsAt c.args.sys.now (tries_others c.args.pass) i c.args.at.now c.try_row.new.at o))
+    (λ r. IfErr r (λ o. (i : ℕ) × StopsAt c.args.sys.now c.args.pass i c.args.at.now c.try_row.new.at o))
     (sym (q.1 ∙ ap (λ v. Err v) q.2)) (
       c.rows.i,
-      stops c.args.sys.now (tries_others c.args.pass) c.rows.i c.args.at.now c.rows.at c.try_row.new.at
+      stops c.args.sys.now c.args.pass c.rows.i c.args.at.now c.rows.at c.try_row.new.at
           c.in_err-try_row.field-0.0
           (omega arith) (omega arith) c.in_err-try_row.ensures.kind c.rows.invariant.tried
           c.in_err-try_row.ensures.unchanged c.in_err-try_row.ensures.overflows,
@@ -33,7 +33,7 @@ pub rows-preserved : goal.rows-preserved
 rows-preserved c =
     record {
       shape = shape_then c.args.at.now c.rows.at c.try_row.new.at c.rows.invariant.shape c.in_ok-try_row.ensures.shape;
-      tried = tried_then c.args.sys.now (tries_others c.args.pass) 1 c.rows.i (c.rows.i + 1) c.args.at.now
+      tried = tried_then c.args.sys.now c.args.pass 1 c.rows.i (c.rows.i + 1) c.args.at.now
           c.rows.at c.try_row.new.at
           c.rows.invariant.tried c.in_ok-try_row.ensures.tried;
     }

@@ -7,5 +7,5 @@ abbrev pub invariant-rows : goal.invariant-rows
 invariant-rows l =
     record {
       shape : KeepsShape l.fn.at l.at;
-      tried : Eliminates l.sys (tries_others l.pass) 1 l.i l.fn.at l.at;
+      tried : Eliminates l.sys l.pass 1 l.i l.fn.at l.at;
     }

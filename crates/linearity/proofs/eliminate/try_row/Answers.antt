@@ -8,7 +8,7 @@ use Rattle.linearity.proofs.eliminate.try_row.Goals as goal
 pub returns-then-is_tried-clause-tried : goal.returns-then-is_tried-clause-tried
 returns-then-is_tried-clause-tried c =
     IfOk-weaker c.enter.result _ _
-    (λ _ h. tries_one c.args.sys.now (tries_others c.args.pass) c.args.i c.requires.few
+    (λ _ h. tries_one c.args.sys.now c.args.pass c.args.i c.requires.few
     (c.is_tried.ensures.kind c.if-is_tried.true)
     c.args.at.now c.enter.new.at h)
     (subst (λ k. IfOk c.enter.result (λ _. IsEntered c.args.at.now k c.enter.new.at)) c.row.ensures
@@ -23,7 +23,7 @@ returns-then-is_tried-clause-shape c =
 
 pub returns-else-is_tried-clause-tried : goal.returns-else-is_tried-clause-tried
 returns-else-is_tried-clause-tried c =
-    tries_none c.args.sys.now (tries_others c.args.pass) c.args.i c.args.at.now
+    tries_none c.args.sys.now c.args.pass c.args.i c.args.at.now
     (c.is_tried.ensures.otherwise c.if-is_tried.false)
 
 pub returns-then-is_tried-clause-overflows : goal.returns-then-is_tried-clause-overflows

@@ -3,6 +3,7 @@ use Rattle.std.specs.Result.{IsErrOf}
 use Rattle.std.proofs.lemmas.Bool.{true≢false}
 use Rattle.poly_model.specs.declared.overflow.Overflow.{Overflow as Passed}
 use Rattle.poly_model.specs.Systems.{System}
+use Rattle.linearity.specs.declared.eliminate.Pass.TheVariants.{Linear, Others}
 use Rattle.linearity.specs.declared.preparing.PrepareStop.{PrepareStop}
 use Rattle.linearity.specs.declared.preparing.PrepareStop.TheVariants.{Overflow}
 use Rattle.linearity.specs.Elimination.{IsEliminated}
@@ -25,11 +26,11 @@ returns-in-Err-clause-overflow c o h p file begun =
 pub returns-in-Err-enter_rows-clause-overflow : goal.returns-in-Err-enter_rows-clause-overflow
 returns-in-Err-enter_rows-clause-overflow c o h p file begun =
     let first = c.in_default.ensures.entered p file begun.of
-    (subst (λ (s : System). IsEliminated s.rows false 1 c.args.at.now) (sym file) begun.untried) in
+    (subst (λ (s : System). IsEliminated s.rows Linear 1 c.args.at.now) (sym file) begun.untried) in
     let phase = c.enter_rows.ensures.phase ∙ begun.phase in
     let same = consistent_exactly p c.args.sys.now c.enter_rows.new.at file first.0 phase first.1 in
     let next = second_pass p c.enter_rows.new.at first.0
-    (subst (λ (s : System). IsEliminated s.rows false (length s.rows + 1) c.enter_rows.new.at) file first.1) in
+    (subst (λ (s : System). IsEliminated s.rows Linear (length s.rows + 1) c.enter_rows.new.at) file first.1) in
     subst (λ x. IsDue p x (IsAskedBefore p x)) (same_overflow c.in-Err-enter_rows.overflow o h)
     (due_in_second p c.args.sys.now c.in-Err-enter_rows.ensures.stopped.0 c.enter_rows.new.at c.enter_rows-2.new.at
     c.in-Err-enter_rows.overflow file first.0 (c.enter_rows-2.ensures.phase ∙ phase)
@@ -39,7 +40,7 @@ pub returns-then-not-are_consistent-clause-inconsistent :
     goal.returns-then-not-are_consistent-clause-inconsistent
 returns-then-not-are_consistent-clause-inconsistent c h p file begun point =
     let first = c.in_default.ensures.entered p file begun.of
-    (subst (λ (s : System). IsEliminated s.rows false 1 c.args.at.now) (sym file) begun.untried) in
+    (subst (λ (s : System). IsEliminated s.rows Linear 1 c.args.at.now) (sym file) begun.untried) in
     let same = consistent_exactly p c.args.sys.now c.enter_rows.new.at file first.0
     (c.enter_rows.ensures.phase ∙ begun.phase) first.1 in
     true≢false (sym ((c.are_consistent.ensures).1 (same.0 point)) ∙ c.if-not-are_consistent.true)
@@ -47,16 +48,16 @@ returns-then-not-are_consistent-clause-inconsistent c h p file begun point =
 pub returns-in-Ok-clause-ended : goal.returns-in-Ok-clause-ended
 returns-in-Ok-clause-ended c p file begun =
     let first = c.in_default.ensures.entered p file begun.of
-    (subst (λ (s : System). IsEliminated s.rows false 1 c.args.at.now) (sym file) begun.untried) in
+    (subst (λ (s : System). IsEliminated s.rows Linear 1 c.args.at.now) (sym file) begun.untried) in
     let phase = c.enter_rows.ensures.phase ∙ begun.phase in
     let same = consistent_exactly p c.args.sys.now c.enter_rows.new.at file first.0 phase first.1 in
     let next = second_pass p c.enter_rows.new.at first.0
-    (subst (λ (s : System). IsEliminated s.rows false (length s.rows + 1) c.enter_rows.new.at) file first.1) in
+    (subst (λ (s : System). IsEliminated s.rows Linear (length s.rows + 1) c.enter_rows.new.at) file first.1) in
     let last = c.in-Ok.ensures.entered p file first.0
-    (subst (λ (s : System). IsEliminated s.rows true 1 c.enter_rows.new.at) (sym file) next) in
+    (subst (λ (s : System). IsEliminated s.rows Others 1 c.enter_rows.new.at) (sym file) next) in
     record {
       consistent = same.1 ((c.are_consistent.ensures).0 c.if-not-are_consistent.false);
       phase = c.enter_rows-2.ensures.phase ∙ phase;
       of = last.0;
-      tried = subst (λ (s : System). IsEliminated s.rows true (length s.rows + 1) c.enter_rows-2.new.at) file last.1;
+      tried = subst (λ (s : System). IsEliminated s.rows Others (length s.rows + 1) c.enter_rows-2.new.at) file last.1;
     }

@@ -6,7 +6,7 @@ use Rattle.std.proofs.lemmas.List.{with_items_is}
 use Rattle.poly_model.specs.Keys.{with_label}
 use Rattle.dictionary_laws.specs.Keys.{place_in}
 use Rattle.dictionary.specs.declared.exchange.Exchange.{Exchange}
-use Rattle.dictionary.specs.Cells.{Fits, CanExchange}
+use Rattle.dictionary.specs.Cells.{Fits, HasPivot}
 use Rattle.dictionary.specs.WordExchange.{HasUnitRow}
 use Rattle.dictionary.proofs.NarrowCells.{has_unit_row, narrow_at}
 use Rattle.dictionary.specs.Views.{Dictionary, exchange_at, CanPivot, IsPivot, IsWhole}
@@ -17,9 +17,9 @@ use Rattle.dictionary.proofs.dict.Dict.carry_out.Goals.{After-self-6-1}
 pub exchange_cells-self-inside-requires-clause-can : goal.exchange_cells-self-inside-requires-clause-can
 exchange_cells-self-inside-requires-clause-can c =
     let now = c.args.self.now in
-    subst (λ (v : List ℤ). CanExchange c.args.x.now v)
+    subst (λ (v : List ℤ). HasPivot c.args.x.now v)
     (sym (c.deref_mut.ensures.value ∙ ap (λ (d : Dictionary). d.cells) c.self.view_is))
-    (subst (λ (x : Exchange). CanExchange x now.cells) (sym c.requires.exchange)
+    (subst (λ (x : Exchange). HasPivot x now.cells) (sym c.requires.exchange)
     (can_exchange now c.args.row c.args.col
     (subst (λ (d : Dictionary). IsWhole d) c.self.view_is c.self.invariant.1) c.requires.can))
 
