@@ -6,7 +6,7 @@ use Rattle.clap.specs.Simple.{built, entered, names_of}
 use Rattle.clap.specs.Walk.{Held, Names, finished, nothing_held, settled, stop_after, walk, walk_from}
 use Rattle.clap.specs.Faults.{check_fault, defaults_fault, entered_fault, level_fault, settle_fault, walk_fault}
 use Rattle.clap.specs.Kinds.{or_else}
-use Rattle.command_line.specs.Lines.{IsAccepted, IsLine, lrs_app}
+use Rattle.command_line.specs.Lines.{IsAccepted, AskFor, lrs_app}
 use Rattle.command_line.specs.declared.lines.Line.TheVariants.{Convert}
 
 -- where no step fails, each of two does not
@@ -72,7 +72,7 @@ command_is_convert : (stop : Option (Text × List Text)) → is_some (entered pr
 command_is_convert None met = absurd (true≢false (sym met))
 command_is_convert (Some p) met = grind arith
 
-pub accepted_is_convert : (words : List Text) → IsAccepted words → IsLine words Convert
+pub accepted_is_convert : (words : List Text) → IsAccepted words → AskFor words Convert
 accepted_is_convert words accepted =
     let met = command_is_required (finished program.top.rules (end_of words)) (is_met words)
     (accepted_passes words accepted).checked in

@@ -10,7 +10,7 @@ use Rattle.clap.specs.Faults.{entered_fault}
 use Rattle.clap.proofs.WalkLemmas.{walk_stopped}
 use Rattle.clap.proofs.OnLiterals.{clap_on_literals}
 use Rattle.command_line.specs.Laws.{IsConvert}
-use Rattle.command_line.specs.Lines.{IsAccepted, IsLine, plain_app}
+use Rattle.command_line.specs.Lines.{IsAccepted, AskFor, plain_app}
 use Rattle.command_line.specs.declared.lines.Line.TheVariants.{Convert}
 use Rattle.command_line.proofs.AcceptedLines.{accepted_passes, level_passes, program, stop_of}
 use Rattle.command_line.proofs.WordlessCommands.{dashes, words_are_dashes}
@@ -74,9 +74,9 @@ accepted_words (word ∷ rest) accepted =
     subst (λ w. IsAccepted (w ∷ rest) → IsConvert (w ∷ rest)) is_convert (behind_convert rest) accepted
 
 -- and these ask for the line `Convert`
-pub convert_is_line : (words : List Text) → IsConvert words → IsLine words Convert
+pub convert_is_line : (words : List Text) → IsConvert words → AskFor words Convert
 unfolding clap_on_literals
 convert_is_line words (inl alone) =
-    subst (λ ws. IsLine ws Convert) (sym alone) (record { accepted = refl; command = refl })
+    subst (λ ws. AskFor ws Convert) (sym alone) (record { accepted = refl; command = refl })
 convert_is_line words (inr marked) =
-    subst (λ ws. IsLine ws Convert) (sym marked) (record { accepted = refl; command = refl })
+    subst (λ ws. AskFor ws Convert) (sym marked) (record { accepted = refl; command = refl })

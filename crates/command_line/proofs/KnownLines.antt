@@ -3,17 +3,17 @@ use Rattle.std.proofs.Common.{◌≡◌, ◌∷◌, [], codes, refl}
 use Rattle.clap.specs.Words.{Kinds, fault_of}
 use Rattle.clap.specs.declared.error.kind.ErrorKind.TheVariants.{InvalidSubcommand, MissingSubcommand, UnknownArgument}
 use Rattle.clap.proofs.OnLiterals.{clap_on_literals}
-use Rattle.command_line.specs.Lines.{IsLine, lrs_app}
+use Rattle.command_line.specs.Lines.{AskFor, lrs_app}
 use Rattle.command_line.specs.declared.lines.Line.TheVariants.{Convert}
 
 -- ---- lines that are taken
 
-convert : IsLine (codes "convert" ∷ []) Convert
+convert : AskFor (codes "convert" ∷ []) Convert
 unfolding clap_on_literals
 convert = record { accepted = refl; command = refl }
 
 -- clap takes `--` where flags may stand, and here nothing follows it
-convert_dashes : IsLine (codes "convert" ∷ codes "--" ∷ []) Convert
+convert_dashes : AskFor (codes "convert" ∷ codes "--" ∷ []) Convert
 unfolding clap_on_literals
 convert_dashes = record { accepted = refl; command = refl }
 

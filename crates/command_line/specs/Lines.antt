@@ -37,6 +37,6 @@ abbrev pub name_of : Line → Text
 name_of Convert = codes "convert"
 
 -- the words ask for this line: they are accepted, and the command that they name is its command
-pub record IsLine (words : List Text) (line : Line) : Type 0 where
+pub record AskFor (words : List Text) (line : Line) : Type 0 where
   pub accepted : IsAccepted words
   pub command : option_map (λ p. p.0) (subcommand_of lrs_app words) ≡ Some (name_of line)

@@ -1,7 +1,7 @@
 //! What the words of a call ask for.
 ghost use Rattle.std.specs.Prelude.{◌≡◌, ◌↔◌, map, IfOk, OnOk, IsErrOf, IfSome, IsNone};
 ghost use Rattle.clap.specs.Words.{kind_of, subcommand_of, subcommand_rows_of};
-ghost use Rattle.command_line.specs.Lines.{IsAccepted, IsLine, lrs_app, name_of};
+ghost use Rattle.command_line.specs.Lines.{IsAccepted, AskFor, lrs_app, name_of};
 
 use crate::commands::lrs_command;
 use clap::error::ErrorKind;
@@ -28,7 +28,7 @@ pub enum LineStop {
 /// definition of the commands takes it, so one that asks for help or a version is not. Prints nothing. Takes
 /// memory for clap's tables, which is given back.
 pub fn read_line(alloc: Global, words: &[&str]) -> Result<Line, LineStop>
-    ensures line { IfOk result (IsLine (map (λ w. w.now) words.now)) }
+    ensures line { IfOk result (AskFor (map (λ w. w.now) words.now)) }
     ensures usage { IsErrOf result LineStop.Usage → ¬ (IsAccepted (map (λ w. w.now) words.now)) }
 {
     let matches = matches_in(alloc, words)?;

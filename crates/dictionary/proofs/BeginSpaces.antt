@@ -17,7 +17,7 @@ use Rattle.dictionary_laws.specs.Coordinates.{coordinate_key, first_coordinate, 
 use Rattle.dictionary_laws.proofs.CoordinateSpaces.{phase_coordinates}
 use Rattle.dictionary_laws.proofs.MainRows.{row_in_cone}
 use Rattle.dictionary.specs.Views.{Dictionary, IsDictionaryIn, IsWhole}
-use Rattle.dictionary.specs.New.{first_label, unit_row, has_constants, row_count, HasWidths, IsNew}
+use Rattle.dictionary.specs.New.{first_label, unit_row, has_constants, row_count, HasWidths, IsCoordinateDictionary}
 use Rattle.dictionary.proofs.Beginnings.{first, first_whole, cells_of, first_is_dictionary}
 
 -- the form of a row's label is the row
@@ -114,7 +114,7 @@ module _ (sys : System) (phase : Phase) (early : (phase ≡ Cone) ⊎ (phase ≡
   pub new_whole : IsWhole new_dictionary
   new_whole = first_whole phase sys.rows (has_constants phase sys.kind) sys.n m some narrow few widths
 
-  pub new_is : IsNew sys phase new_dictionary
+  pub new_is : IsCoordinateDictionary sys phase new_dictionary
   new_is = record {
     phase_is = refl;
     denominator = refl;

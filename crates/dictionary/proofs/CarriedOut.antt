@@ -6,7 +6,7 @@ use Rattle.dictionary_laws.specs.Keys.{place_in}
 use Rattle.dictionary_laws.specs.Laws.{IsExchangedKey}
 use Rattle.dictionary_laws.proofs.KeyExchange.{exchanged_key}
 use Rattle.dictionary.specs.declared.exchange.Exchange.{Exchange}
-use Rattle.dictionary.specs.Cells.{pivot_cell, IsExchanged}
+use Rattle.dictionary.specs.Cells.{pivot_cell, CanExchange, IsExchanged}
 use Rattle.dictionary.specs.Views.{Dictionary, exchange_at, CanPivot, IsPivot, IsWhole}
 use Rattle.dictionary.proofs.PlaceLemmas.{place_within, at_place}
 use Rattle.dictionary.proofs.Pivots.{pivot_is, whole_new}
@@ -14,6 +14,14 @@ use Rattle.dictionary.proofs.Pivots.{pivot_is, whole_new}
 pub column_bound : (d : Dictionary) (r s : ℕ) → IsWhole d → CanPivot d r s → (x : Exchange) → x ≡ exchange_at d r s →
     x.column < x.width
 column_bound d r s whole can x e = rw e (let l = place_within d.columns s (whole.same.there s can.inside) in omega arith)
+
+pub can_exchange : (d : Dictionary) (r s : ℕ) → IsWhole d → CanPivot d r s → CanExchange (exchange_at d r s) d.cells
+can_exchange d r s whole can = record {
+  row = place_within d.labels r can.label;
+  column = column_bound d r s whole can (exchange_at d r s) refl;
+  denominator = whole.positive;
+  nonzero = can.nonzero;
+}
 
 pub place_bound : (d : Dictionary) (r s : ℕ) → IsWhole d → CanPivot d r s → (x : Exchange) → x ≡ exchange_at d r s →
     (n : ℕ) → length d.columns ≡ n → x.column - 1 < n

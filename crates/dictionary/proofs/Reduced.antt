@@ -8,7 +8,7 @@ use Rattle.poly_num.proofs.Order.{zero_factor}
 use Rattle.poly_num.proofs.VectorLemmas.{length-scale}
 use Rattle.poly_num.proofs.PrimitiveLemmas.{primitive-neg}
 use Rattle.dictionary.specs.declared.exchange.Exchange.{Exchange}
-use Rattle.dictionary.specs.Cells.{pivot_cell, IsExchangedCell, AreExchangedCells, IsReduced, IsExchanged}
+use Rattle.dictionary.specs.Cells.{pivot_cell, IsExchangedCell, AreExchangedCells, IsMadePrimitive, IsExchanged}
 
 pub get_or-scale : (g : ℤ) (v : List ℤ) (k : ℕ) → get_or (scale g v) k (pos 0) ≡ g *ℤ get_or v k (pos 0)
 get_or-scale g [] k = sym (mul_zero g)
@@ -39,7 +39,7 @@ turned_sign (negsuc k) n p = omega (arith, lin)
 
 module _ (place : ℕ) (old mid : List ℤ) (nonzero : get_or old place (pos 0) ≢ pos 0) (h : MakesPrimitive old mid) where
   -- the place is positive
-  pub kept : pos 0 <ℤ get_or mid place (pos 0) → IsReduced place old mid
+  pub kept : pos 0 <ℤ get_or mid place (pos 0) → IsMadePrimitive place old mid
   kept p = record {
     multiple = (pos h.factor.0, h.factor.2);
     positive = p;
@@ -47,7 +47,7 @@ module _ (place : ℕ) (old mid : List ℤ) (nonzero : get_or old place (pos 0) 
   }
 
   -- the place is negative, and all signs are turned
-  pub turned : (pos 0 <ℤ get_or mid place (pos 0) → ⊥) → IsReduced place old (map neg_ℤ mid)
+  pub turned : (pos 0 <ℤ get_or mid place (pos 0) → ⊥) → IsMadePrimitive place old (map neg_ℤ mid)
   turned p =
       let g = pos h.factor.0 in
       let same : get_or old place (pos 0) ≡ g *ℤ get_or mid place (pos 0) =
@@ -61,7 +61,7 @@ module _ (place : ℕ) (old mid : List ℤ) (nonzero : get_or old place (pos 0) 
       }
 
 module _ (x : Exchange) (old mid : List ℤ) (cells : AreExchangedCells x old mid) where
-  pub exchanged : (new : List ℤ) → IsReduced (x.row * x.width + x.column) mid new → IsExchanged x old new
+  pub exchanged : (new : List ℤ) → IsMadePrimitive (x.row * x.width + x.column) mid new → IsExchanged x old new
   exchanged new h =
       let g = h.multiple.0 in
       record {

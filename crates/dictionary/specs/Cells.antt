@@ -13,6 +13,14 @@ cell width cells i j = slice_index_or cells (i * width + j) (pos 0)
 abbrev pub pivot_cell : Exchange → List ℤ → ℤ
 pivot_cell x cells = cell x.width cells x.row x.column
 
+-- the exchange can be carried out: its row and column are there, the cell at the two is not 0, and the denominator is
+-- positive
+pub record CanExchange (x : Exchange) (cells : List ℤ) : Type 0 where
+  pub row : x.row < x.height
+  pub column : x.column < x.width
+  pub denominator : pos 0 <ℤ x.denominator
+  pub nonzero : pivot_cell x cells ≢ pos 0
+
 -- z stands in row i and column j after the exchange, over the denominator times the pivot's cell
 pub record IsExchangedCell (x : Exchange) (cells : List ℤ) (i j : ℕ) (z : ℤ) : Type 0 where
   pub column : j ≡ x.column → z ≡ cell x.width cells i x.column *ℤ x.denominator
@@ -53,7 +61,7 @@ pub record AreExchangedCells (x : Exchange) (old new : List ℤ) : Type 0 where
   pub cells : (i j : ℕ) → i < x.height → j < x.width → IsExchangedCell x old i j (cell x.width new i j)
 
 -- the common divisor is divided out, and the cell at the place is positive
-pub record IsReduced (place : ℕ) (old new : List ℤ) : Type 0 where
+pub record IsMadePrimitive (place : ℕ) (old new : List ℤ) : Type 0 where
   pub multiple : (g : ℤ) × (old ≡ scale g new)
   pub positive : pos 0 <ℤ slice_index_or new place (pos 0)
   pub least : IsPrimitive new

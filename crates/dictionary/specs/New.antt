@@ -41,7 +41,7 @@ HasWidths sys m = (i : ℕ) → 0 < i → i ≤ m → length (row_of sys.rows i)
 
 -- the dictionary of the coordinates, over the denominator 1, with the labels of the rows and of the coordinates; in
 -- each space of this phase of a polyhedron with this cone
-pub record IsNew (sys : System) (phase : Phase) (d : Dictionary) : Type 0 where
+pub record IsCoordinateDictionary (sys : System) (phase : Phase) (d : Dictionary) : Type 0 where
   pub phase_is : d.phase ≡ phase
   pub denominator : d.denominator ≡ pos 1
   pub key : d.key ≡ coordinate_key (first_label (has_constants phase sys.kind)) sys.n

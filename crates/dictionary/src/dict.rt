@@ -89,7 +89,7 @@ impl Dict {
         requires { Contains self.now.labels row }
         ensures { result ≡ Table.constant (table_of self.now) row }
     {
-        self.number(self.row_of(row), 0)
+        self.constant_at(self.row_of(row))
     }
 
     /// The entry of a label in the column of a label of the cobasis. That of such a label itself is the
@@ -155,12 +155,20 @@ impl Dict {
         place_of(&self.columns, col) + 1
     }
 
-    // The number in row i and column j of the cells.
-    fn number(&self, i: usize, j: usize) -> Num
-        requires row { i < length self.now.labels }
-        requires column { j < suc (length self.now.columns) }
-        ensures { result ≡ cell (suc (length self.now.columns)) self.now.cells i j }
+    // The constant in row i of the cells.
+    pub(crate) fn constant_at(&self, i: usize) -> Num
+        requires { i < length self.now.labels }
+        ensures { result ≡ cell (suc (length self.now.columns)) self.now.cells i 0 }
     {
-        cell_at(&self.cells, self.labels.len(), self.pivot_row.len(), i, j)
+        cell_at(&self.cells, self.labels.len(), self.pivot_row.len(), i, 0)
+    }
+
+    // The entry in row i of the cells, in column j of those behind the constants.
+    pub(crate) fn entry_at(&self, i: usize, j: usize) -> Num
+        requires row { i < length self.now.labels }
+        requires column { j < length self.now.columns }
+        ensures { result ≡ cell (suc (length self.now.columns)) self.now.cells i (suc j) }
+    {
+        cell_at(&self.cells, self.labels.len(), self.pivot_row.len(), i, j + 1)
     }
 }

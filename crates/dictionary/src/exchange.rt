@@ -3,7 +3,7 @@ ghost use Rattle.std.specs.Prelude.{◌≡◌, ◌≢◌, ◌<◌, ◌*◌, ◌*
 ghost use Rattle.std.specs.List.{slice_index_or, All};
 ghost use Rattle.poly_num.specs.Numbers.{IsNum, IsWord, Crosses};
 ghost use Rattle.dictionary.specs.WordExchange.{HasUnitRow};
-ghost use Rattle.dictionary.specs.Cells.{AreNarrow, cell, pivot_cell, Fits, IsPivotRow, AreExchangedCells, IsReduced, IsExchanged};
+ghost use Rattle.dictionary.specs.Cells.{AreNarrow, cell, Fits, CanExchange, IsPivotRow, AreExchangedCells, IsMadePrimitive, IsExchanged};
 
 use crate::cells::{at_place, cell_at};
 use crate::words::exchange_words;
@@ -20,27 +20,37 @@ pub struct Exchange {
     pub denominator: Num,
 }
 
-// The new cell in row i and column j. `c` is the old one in the row and the exchange's column.
-fn exchanged_cell(cells: &[Num], pivot_row: &[Num], x: &Exchange, i: usize, j: usize, c: Num) -> Num
+/// A place of a table: a row and a column, both counted from 0.
+#[derive(Clone, Copy, PartialEq, Eq, Debug)]
+pub struct Spot {
+    pub row: usize,
+    pub column: usize,
+}
+
+// The new cell at a spot. `c` is the old one in its row and the exchange's column.
+fn exchanged_cell(cells: &[Num], pivot_row: &[Num], x: &Exchange, at: Spot, c: Num) -> Num
     requires size { length cells.now ≡ x.now.height * x.now.width }
     requires width { length pivot_row.now ≡ x.now.width }
     requires column { x.now.column < x.now.width }
-    requires i { i < x.now.height }
-    requires j { j < x.now.width }
+    requires at { (at.row < x.now.height) × (at.column < x.now.width) }
     requires column_fits { IsNum (c *ℤ x.now.denominator) }
-    requires inside_fits { j ≢ x.now.column → i ≢ x.now.row →
-        Crosses (cell x.now.width cells.now i j) (slice_index_or pivot_row.now x.now.column (pos 0)) c (slice_index_or pivot_row.now j (pos 0)) }
-    ensures column { j ≡ x.now.column → result ≡ c *ℤ x.now.denominator }
-    ensures row { j ≢ x.now.column → i ≡ x.now.row → result ≡ pos 0 }
-    ensures inside { j ≢ x.now.column → i ≢ x.now.row →
-        result ≡ cell x.now.width cells.now i j *ℤ slice_index_or pivot_row.now x.now.column (pos 0) -ℤ c *ℤ slice_index_or pivot_row.now j (pos 0) }
+    requires inside_fits { at.column ≢ x.now.column → at.row ≢ x.now.row →
+        Crosses (cell x.now.width cells.now at.row at.column) (slice_index_or pivot_row.now x.now.column (pos 0)) c
+        (slice_index_or pivot_row.now at.column (pos 0)) }
+    ensures column { at.column ≡ x.now.column → result ≡ c *ℤ x.now.denominator }
+    ensures row { at.column ≢ x.now.column → at.row ≡ x.now.row → result ≡ pos 0 }
+    ensures inside { at.column ≢ x.now.column → at.row ≢ x.now.row →
+        result ≡ cell x.now.width cells.now at.row at.column *ℤ slice_index_or pivot_row.now x.now.column (pos 0)
+        -ℤ c *ℤ slice_index_or pivot_row.now at.column (pos 0) }
 {
-    if j == x.column {
+    if at.column == x.column {
         known_product(c, x.denominator)
-    } else if i == x.row {
+    } else if at.row == x.row {
         Num::ZERO
     } else {
-        known_cross(cells[i * x.width + j], pivot_row[x.column], c, pivot_row[j])
+        // cell * pivot - c * the pivot row's cell
+        let cell = cells[at.row * x.width + at.column];
+        known_cross(cell, pivot_row[x.column], c, pivot_row[at.column])
     }
 }
 
@@ -69,17 +79,18 @@ fn write(cells: &mut [Num], pivot_row: &[Num], x: &Exchange)
     'rows: for i in 0..x.height {
         let c = cell_at(cells, x.height, x.width, i, x.column);
         'columns: for j in 0..x.width {
-            let z = exchanged_cell(cells, pivot_row, x, i, j, c);
+            let at = Spot { row: i, column: j };
+            let z = exchanged_cell(cells, pivot_row, x, at, c);
             cells[i * x.width + j] = z;
         }
     }
 }
 
 // Divides out what is common, and makes the cell at the place positive.
-fn reduce(cells: &mut [Num], place: usize)
+fn make_primitive(cells: &mut [Num], place: usize)
     requires place { place < length cells.old }
     requires nonzero { slice_index_or cells.old place (pos 0) ≢ pos 0 }
-    ensures { IsReduced place cells.old cells.new }
+    ensures { IsMadePrimitive place cells.old cells.new }
 {
     primitive(cells);
     if !at_place(cells, place).is_positive() {
@@ -91,17 +102,14 @@ fn reduce(cells: &mut [Num], place: usize)
 pub fn exchange_in_place(cells: &mut [Num], pivot_row: &mut [Num], x: &Exchange)
     requires size { length cells.old ≡ x.now.height * x.now.width }
     requires room { length pivot_row.old ≡ x.now.width }
-    requires row { x.now.row < x.now.height }
-    requires column { x.now.column < x.now.width }
-    requires denominator { pos 0 <ℤ x.now.denominator }
-    requires nonzero { pivot_cell x.now cells.old ≢ pos 0 }
+    requires can { CanExchange x.now cells.old }
     requires fits { Fits x.now cells.old }
     ensures exchanged { IsExchanged x.now cells.old cells.new }
     ensures room { length pivot_row.new ≡ x.now.width }
 {
     copy_row(cells, x, pivot_row);
     write(cells, pivot_row, x);
-    reduce(cells, x.row * x.width + x.column);
+    make_primitive(cells, x.row * x.width + x.column);
 }
 
 /// Exchanges the row and the column, where no product passes: in one pass over the table where the cells
@@ -109,10 +117,7 @@ pub fn exchange_in_place(cells: &mut [Num], pivot_row: &mut [Num], x: &Exchange)
 pub fn exchange_cells(cells: &mut [Num], pivot_row: &mut [Num], x: &Exchange, narrow: bool) -> bool
     requires size { length cells.old ≡ x.now.height * x.now.width }
     requires room { length pivot_row.old ≡ x.now.width }
-    requires row { x.now.row < x.now.height }
-    requires column { x.now.column < x.now.width }
-    requires denominator { pos 0 <ℤ x.now.denominator }
-    requires nonzero { pivot_cell x.now cells.old ≢ pos 0 }
+    requires can { CanExchange x.now cells.old }
     requires fits { Fits x.now cells.old }
     requires unit { HasUnitRow x.now cells.old }
     requires narrow { IsTrue narrow → AreNarrow cells.old x.now.denominator }

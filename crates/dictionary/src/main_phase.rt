@@ -5,7 +5,7 @@ ghost use Rattle.std.specs.List.{All, filter};
 ghost use Rattle.dictionary.specs.MainPhase.{stays_in, places_from, kept_row, kept_cells, IsDividedOut, EntersMainPhase};
 
 use crate::Dict;
-use crate::cells::{at_place, cell_at};
+use crate::cells::at_place;
 use crate::places::key_of;
 use poly_model::{FreeColumns, Label, OutOfMemory, Phase, System};
 use poly_num::{Num, primitive};
@@ -58,28 +58,6 @@ fn kept_labels(
     Ok(kept)
 }
 
-// Puts the constant of row i and its entries at these places behind what is kept.
-fn keep_row(
-    kept: &mut Vec<Num>,
-    cells: &[Num],
-    height: usize,
-    width: usize,
-    columns: &[usize],
-    i: usize,
-) -> Result<(), OutOfMemory>
-    requires size { length cells.now ≡ height * width }
-    requires some { 0 < width }
-    requires row { i < height }
-    requires columns { All (λ j. suc j < width) columns.now }
-    ensures { OnOk result (kept.new.items ≡ kept.old.items ++ kept_row width cells.now columns.now i) }
-{
-    kept.push(cell_at(cells, height, width, i, 0))?;
-    'columns: for j in columns {
-        kept.push(cell_at(cells, height, width, i, *j + 1))?;
-    }
-    Ok(())
-}
-
 // Divides what is common out of the cells and the denominator. The new denominator.
 fn divide_out(cells: &mut Vec<Num>, denominator: Num) -> Result<Num, OutOfMemory>
     requires { pos 0 <ℤ denominator }
@@ -94,6 +72,20 @@ fn divide_out(cells: &mut Vec<Num>, denominator: Num) -> Result<Num, OutOfMemory
 }
 
 impl Dict {
+    // Puts the constant of row i and its entries at these places behind what is kept.
+    fn keep_row(&self, kept: &mut Vec<Num>, columns: &[usize], i: usize) -> Result<(), OutOfMemory>
+        requires row { i < length self.now.labels }
+        requires columns { All (λ j. j < length self.now.columns) columns.now }
+        ensures { OnOk result (kept.new.items ≡ kept.old.items ++
+            kept_row (suc (length self.now.columns)) self.now.cells columns.now i) }
+    {
+        kept.push(self.constant_at(i))?;
+        'columns: for j in columns {
+            kept.push(self.entry_at(i, *j))?;
+        }
+        Ok(())
+    }
+
     // The cells in these rows, the constants and those at these places of columns.
     fn kept_cells(&self, rows: &[usize], columns: &[usize]) -> Result<Vec<Num>, OutOfMemory>
         requires rows { All (λ i. i < length self.now.labels) rows.now }
@@ -102,14 +94,7 @@ impl Dict {
     {
         let mut kept = Vec::new(*self.cells.allocator());
         'rows: for i in rows {
-            keep_row(
-                &mut kept,
-                &self.cells,
-                self.labels.len(),
-                self.pivot_row.len(),
-                columns,
-                *i,
-            )?;
+            self.keep_row(&mut kept, columns, *i)?;
         }
         Ok(kept)
     }

@@ -6,7 +6,7 @@ ghost use Rattle.poly_model.specs.Keys.{IsKey};
 ghost use Rattle.poly_model.specs.Systems.{row_of};
 ghost use Rattle.poly_model.specs.declared.overflow.Phase.TheVariants.{Cone, Prepare};
 ghost use Rattle.dictionary_laws.specs.Coordinates.{coordinate_key};
-ghost use Rattle.dictionary.specs.New.{first_label, has_constants, row_count, row_cells, unit_row, HasWidths, IsNew};
+ghost use Rattle.dictionary.specs.New.{first_label, has_constants, row_count, row_cells, unit_row, HasWidths, IsCoordinateDictionary};
 
 use crate::Dict;
 use crate::places::key_of;
@@ -19,7 +19,7 @@ impl Dict {
     /// system: its entries are those of the rows. Takes memory for the table.
     pub fn new(alloc: Global, sys: &System, phase: Phase) -> Result<Dict, OutOfMemory>
         requires { (phase ≡ Cone) ⊎ (phase ≡ Prepare) }
-        ensures { IfOk result (λ d. IsNew sys.now phase d) }
+        ensures { IfOk result (λ d. IsCoordinateDictionary sys.now phase d) }
     {
         let constants = has_constants(sys.kind(), phase);
         let rows = row_count(sys, constants);

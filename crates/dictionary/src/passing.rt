@@ -5,7 +5,7 @@ ghost use Rattle.poly_num.specs.Numbers.{Crosses};
 ghost use Rattle.dictionary.specs.Cells.{cell, pivot_cell, AreNarrow, RowFits, Fits, PassesAt};
 
 use crate::cells::cell_at;
-use crate::exchange::Exchange;
+use crate::exchange::{Exchange, Spot};
 use poly_num::{Num, are_words, cross, is_word, mul};
 
 /// Whether the denominator and all cells fit a machine word. Then nothing can pass.
@@ -13,13 +13,6 @@ pub fn are_narrow(cells: &[Num], denominator: Num) -> bool
     ensures { IsTrue result → AreNarrow cells.now denominator }
 {
     is_word(denominator) && are_words(cells)
-}
-
-/// A place of a table: a row and a column, both counted from 0.
-#[derive(Clone, Copy, PartialEq, Eq, Debug)]
-pub struct Spot {
-    pub row: usize,
-    pub column: usize,
 }
 
 // What the exchange makes of the cell in row i and column j.

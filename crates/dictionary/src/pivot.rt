@@ -8,8 +8,8 @@ ghost use Rattle.dictionary.specs.Views.{exchange_at, column_label, CanPivot, Is
 
 use crate::Dict;
 use crate::cells::at_place;
-use crate::exchange::{Exchange, exchange_cells};
-use crate::passing::{Spot, are_narrow, passing_unless};
+use crate::exchange::{Exchange, Spot, exchange_cells};
+use crate::passing::{are_narrow, passing_unless};
 use crate::places::place_of;
 use poly_model::{Label, Overflow, Place};
 use poly_num::Num;

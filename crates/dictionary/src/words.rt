@@ -7,7 +7,7 @@ ghost use Prim.Native.Nat.{◌∣◌};
 ghost use Rattle.poly_num.specs.Numbers.{IsNum, IsWord};
 ghost use Rattle.poly_num.specs.Divisors.{IsGcdOf};
 ghost use Rattle.poly_num.specs.Halves.{IsHalf};
-ghost use Rattle.dictionary.specs.Cells.{cell, pivot_cell, IsExchanged};
+ghost use Rattle.dictionary.specs.Cells.{cell, pivot_cell, AreNarrow, CanExchange, IsExchanged};
 ghost use Rattle.dictionary.specs.WordExchange.{HasUnitRow, IsCommonTo, IsSignOf, IsShiftedRow, IsLeftOf, IsScaled, IsRescaled, IsRowOver};
 
 use crate::cells::{at_place, cell_at};
@@ -26,7 +26,7 @@ fn is_one(a: Num) -> bool
 }
 
 // Makes the divisor its greatest common divisor with a number; most often it divides that.
-fn join(common: &mut Divisor, n: Num)
+fn take_gcd(common: &mut Divisor, n: Num)
     requires positive { pos 0 <ℤ common.old }
     requires word { IsWord common.old }
     ensures { IsGcdOf common.old n common.new }
@@ -58,20 +58,20 @@ fn common_factor(cells: &[Num], x: &Exchange) -> Divisor
             return common;
         }
         let c = cell_at(cells, x.height, x.width, i, x.column);
-        join(&mut common, c);
+        take_gcd(&mut common, c);
     }
     'columns: for j in 0..x.width {
         if is_one(common.value()) {
             return common;
         }
         let c = cell_at(cells, x.height, x.width, x.row, j);
-        join(&mut common, c);
+        take_gcd(&mut common, c);
     }
     common
 }
 
 // `a / h`; most often h is 1.
-fn over_common(a: Num, h: &Divisor) -> Num
+fn common_quotient(a: Num, h: &Divisor) -> Num
     requires positive { pos 0 <ℤ h.now }
     requires divides { unsigned_abs h.now ∣ unsigned_abs a }
     ensures { result *ℤ h.now ≡ a }
@@ -146,7 +146,7 @@ fn scale_cells(cells: &mut [Num], place: usize, factor: Num, narrow: bool) -> bo
 // before the place. `narrow` is whether all cells are known to fit a machine word.
 #[cold]
 #[inline(never)]
-fn over_less(
+fn shrunk_quotient(
     cells: &mut [Num],
     place: usize,
     n: Num,
@@ -174,7 +174,7 @@ fn over_less(
 // `n` over the divisor. Where that does not divide it, the divisor shrinks, and the cells before the place
 // grow. `narrow` is whether all cells are known to fit a machine word.
 #[inline(never)]
-fn over(cells: &mut [Num], place: usize, n: Num, divisor: &mut Divisor, narrow: &mut bool) -> Num
+fn exact_quotient(cells: &mut [Num], place: usize, n: Num, divisor: &mut Divisor, narrow: &mut bool) -> Num
     requires place { place ≤ length cells.old }
     requires positive { pos 0 <ℤ divisor.old }
     requires word { IsWord divisor.old }
@@ -189,7 +189,7 @@ fn over(cells: &mut [Num], place: usize, n: Num, divisor: &mut Divisor, narrow: 
             *narrow = stays_narrow(*narrow, q);
             q
         }
-        None => over_less(cells, place, n, divisor, narrow),
+        None => shrunk_quotient(cells, place, n, divisor, narrow),
     }
 }
 
@@ -288,15 +288,10 @@ fn row_fits_half(others: bool, c: Num) -> bool
 fn exchange_over(cells: &mut [Num], pivot_row: &mut [Num], x: &Exchange, shift: Num) -> bool
     requires size { length cells.old ≡ x.now.height * x.now.width }
     requires room { length pivot_row.old ≡ x.now.width }
-    requires row { x.now.row < x.now.height }
-    requires column { x.now.column < x.now.width }
-    requires denominator { pos 0 <ℤ x.now.denominator }
-    requires nonzero { pivot_cell x.now cells.old ≢ pos 0 }
-    requires word { IsWord x.now.denominator }
-    requires words { All IsWord cells.old }
+    requires can { CanExchange x.now cells.old }
+    requires narrow { AreNarrow cells.old x.now.denominator }
     requires unit { HasUnitRow x.now cells.old }
-    requires shift { shift ≡ pivot_cell x.now cells.old -ℤ x.now.denominator }
-    requires shift_word { IsWord shift }
+    requires shift { (shift ≡ pivot_cell x.now cells.old -ℤ x.now.denominator) × IsWord shift }
     ensures exchanged { IsExchanged x.now cells.old cells.new }
     ensures room { length pivot_row.new ≡ x.now.width }
     ensures narrow { IsTrue result → All IsWord cells.new }
@@ -305,12 +300,12 @@ fn exchange_over(cells: &mut [Num], pivot_row: &mut [Num], x: &Exchange, shift: 
     let pivot = cell_at(cells, x.height, x.width, x.row, x.column);
     let sign = sign_number(pivot);
     copy_shifted(cells, x, shift, pivot_row);
-    let p = over_common(word_product(sign, pivot), &common);
+    let p = common_quotient(word_product(sign, pivot), &common);
     let halves = fit_half(pivot_row, p, x.denominator);
     let mut divisor = Divisor::new(x.denominator);
     let mut narrow = true;
     'rows: for i in 0..x.height {
-        let c = over_common(cell_at(cells, x.height, x.width, i, x.column), &common);
+        let c = common_quotient(cell_at(cells, x.height, x.width, i, x.column), &common);
         let own = word_product(sign, c);
         if stays(p, own, &divisor) {
             continue;
@@ -325,7 +320,7 @@ fn exchange_over(cells: &mut [Num], pivot_row: &mut [Num], x: &Exchange, shift: 
             let e = cell_at(cells, x.height, x.width, i, j);
             let n = word_cross(e, p, own, at_place(pivot_row, j));
             let place = i * x.width + j;
-            let z = over(cells, place, n, &mut divisor, &mut narrow);
+            let z = exact_quotient(cells, place, n, &mut divisor, &mut narrow);
             cells[place] = z;
         }
     }
@@ -337,12 +332,8 @@ fn exchange_over(cells: &mut [Num], pivot_row: &mut [Num], x: &Exchange, shift: 
 pub fn exchange_words(cells: &mut [Num], pivot_row: &mut [Num], x: &Exchange) -> bool
     requires size { length cells.old ≡ x.now.height * x.now.width }
     requires room { length pivot_row.old ≡ x.now.width }
-    requires row { x.now.row < x.now.height }
-    requires column { x.now.column < x.now.width }
-    requires denominator { pos 0 <ℤ x.now.denominator }
-    requires nonzero { pivot_cell x.now cells.old ≢ pos 0 }
-    requires word { IsWord x.now.denominator }
-    requires words { All IsWord cells.old }
+    requires can { CanExchange x.now cells.old }
+    requires narrow { AreNarrow cells.old x.now.denominator }
     requires unit { HasUnitRow x.now cells.old }
     ensures exchanged { IsExchanged x.now cells.old cells.new }
     ensures room { length pivot_row.new ≡ x.now.width }

@@ -15,7 +15,7 @@ use Rattle.dictionary_laws.proofs.CoordinateSpaces.{coordinate_keys}
 use Rattle.dictionary_laws.proofs.Filters.{range_only, map_only}
 use Rattle.dictionary_laws.proofs.PhasePoints.{phase_points}
 use Rattle.dictionary_laws.proofs.Values.{own_row}
-use Rattle.dictionary.specs.New.{first_label, has_constants, row_count, IsNew}
+use Rattle.dictionary.specs.New.{first_label, has_constants, row_count, IsCoordinateDictionary}
 use Rattle.dictionary.specs.Views.{Dictionary, IsDictionaryIn, table_of}
 use Rattle.linearity.specs.Elimination.{IsDictionaryOf, IsEliminated}
 
@@ -58,7 +58,7 @@ row_count_within false m = omega arith
 
 module _ (sys : System) (phase : Phase) (d : Dictionary) (p : Polyhedron) (early : (phase ≡ Cone) ⊎ (phase ≡ Prepare))
     (file : sys ≡ cone_of p) (some : 0 < p.n) (narrow : p.n ≤ most_columns) (few : length sys.rows < coordinates_from)
-    (new : IsNew sys phase d) where
+    (new : IsCoordinateDictionary sys phase d) where
   in_space : (space : Space) → IsSpaceOf p phase space → HasPoints space → IsDictionaryOf p d
   in_space space is points = record {
     few = subst (λ (s : System). length s.rows < coordinates_from) file few;

@@ -17,7 +17,7 @@ use Rattle.dictionary_laws.proofs.Equations.{constants_where_point, point_where_
 use Rattle.dictionary_laws.proofs.MainRows.{equation_only}
 use Rattle.dictionary_laws.proofs.MainSpace.{equation_in}
 use Rattle.dictionary_laws.proofs.Origins.{some_origin}
-use Rattle.dictionary.specs.New.{IsNew}
+use Rattle.dictionary.specs.New.{IsCoordinateDictionary}
 use Rattle.dictionary.specs.MainPhase.{EntersMainPhase}
 use Rattle.dictionary.specs.Views.{Dictionary, IsDictionaryIn, table_of}
 use Rattle.linearity.specs.Columns.{columns_in, coordinate_vectors}
@@ -107,7 +107,7 @@ is_prepared p sys d new lines free file ascending ended columns vectors main =
 -- ---- before any row has been tried
 -- the numbers of rows and of coordinates are those that a system tells
 pub begins_elimination : (sys : System) (d : Dictionary) (p : Polyhedron) → sys ≡ cone_of p → {n rows : ℕ} → n ≡ sys.n →
-    0 < n → n ≤ most_columns → rows ≡ length sys.rows → rows ≤ most_cone_rows → IsNew sys Prepare d →
+    0 < n → n ≤ most_columns → rows ≡ length sys.rows → rows ≤ most_cone_rows → IsCoordinateDictionary sys Prepare d →
     BeginsElimination p d
 begins_elimination sys d p file same some narrow count few new =
     let width = same ∙ ap (λ (s : System). s.n) file in

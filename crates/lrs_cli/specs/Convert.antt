@@ -2,7 +2,7 @@
 use Rattle.std.specs.Prelude.{◌≡◌, ◌⊎◌, ◌+◌, ℕ, List, Option}
 use Rattle.std.specs.Io.KnownBytes.{IsAtEnd}
 use Rattle.command_line.specs.declared.lines.Line.TheVariants.{Convert}
-use Rattle.command_line.specs.Lines.{IsAccepted, IsLine}
+use Rattle.command_line.specs.Lines.{IsAccepted, AskFor}
 use Rattle.poly_io.specs.Causes.{Rose}
 use Rattle.poly_io.specs.Taken.{TakesAtMost}
 use Rattle.poly_model.specs.declared.overflow.Overflow.{Overflow as Passed}
@@ -62,6 +62,6 @@ pub record Answers (words : List (List ℕ)) (before after : Streams) (Unread Un
   pub accepted : ¬ (answer ≡ Usage) → ¬ (answer ≡ OutOfMemory) → IsAccepted words
   pub unasked : ¬ (IsAccepted words) → Unread × Unwritten
   -- one command so far
-  pub convert : IsLine words Convert → AnswersConvert before after Unwritten answer
+  pub convert : AskFor words Convert → AnswersConvert before after Unwritten answer
   -- at most one byte more than a file may have was taken
   pub taken : TakesAtMost before.left after.left (most_file_bytes + 1)

@@ -17,7 +17,7 @@ pub fn prepared(alloc: Global, plan: &Plan, random: &mut Random) -> Result<Dict,
             break;
         }
         'tries: for _ in 0..64 {
-            let row = Label(random.below(plan.rows as u64) as u16 + 1);
+            let row = Label::row(random.below(u64::from(plan.rows)) as u32 + 1);
             if exchange(&mut dict, row, Label::coordinate(j + 1)) {
                 break;
             }

@@ -80,8 +80,8 @@ pub fn spots_of(
         let spot = Spot {
             row,
             column: j + 1,
-            outside: Label(outside[row]),
-            inside: Label(inside[j]),
+            outside: outside[row],
+            inside: inside[j],
         };
         if will_do(&spot, dict, table)? {
             spots.push(spot)?;

@@ -12,7 +12,7 @@ use std::alloc::Global;
 #[derive(Drop)]
 pub struct Table {
     width: usize,
-    labels: Vec<u16>,
+    labels: Vec<Label>,
     cells: Vec<i128>,
     denominator: i128,
     ghost shape: { vec_len cells ≡ vec_len labels * width },
@@ -24,10 +24,11 @@ impl Table {
         let key = dict.key();
         let mut labels = Vec::new(alloc);
         let mut cells = Vec::new(alloc);
-        for label in (1..plan.rows + 1).chain(8193..8193 + plan.columns) {
-            if dict.has_label(Label(label)) && !dict.in_cobasis(Label(label)) {
+        'labels: for place in 0..plan.labels() {
+            let label = plan.label(place);
+            if dict.has_label(label) && !dict.in_cobasis(label) {
                 labels.push(label)?;
-                push_row(&mut cells, dict, Label(label), key.labels())?;
+                push_row(&mut cells, dict, label, key.labels())?;
             }
         }
         Ok(Table {
@@ -39,7 +40,7 @@ impl Table {
     }
 
     /// The labels of the rows, as they stood in the dictionary.
-    pub fn labels(&self) -> &[u16] {
+    pub fn labels(&self) -> &[Label] {
         &self.labels
     }
 
@@ -89,16 +90,15 @@ fn push_row(
     cells: &mut Vec<i128>,
     dict: &Dict,
     row: Label,
-    columns: &[u16],
+    columns: &[Label],
 ) -> Result<(), OutOfMemory>
-    requires { Contains dict.now.labels row.0 }
+    requires { Contains dict.now.labels row }
     ensures { OnOk result (vec_len cells.new ≡ vec_len cells.old + suc (length columns.now)) }
 {
     cells.push(dict.constant(row).get())?;
     for column in columns {
-        let column = Label(*column);
-        cells.push(if dict.in_cobasis(column) {
-            dict.entry(row, column).get()
+        cells.push(if dict.in_cobasis(*column) {
+            dict.entry(row, *column).get()
         } else {
             0
         })?;

@@ -21,10 +21,5 @@ pub fn walked(dict: &mut Dict, plan: &Plan, random: &mut Random) -> u64 {
 
 // A row or a coordinate, each as likely as the others.
 fn label(plan: &Plan, random: &mut Random) -> Label {
-    let place = random.below(plan.rows as u64 + plan.columns as u64) as u16;
-    if place < plan.rows {
-        Label(place + 1)
-    } else {
-        Label(8193 + (place - plan.rows))
-    }
+    plan.label(random.below(u64::from(plan.labels())) as u32)
 }

@@ -10,7 +10,7 @@ use Rattle.poly_model.specs.declared.overflow.Phase.TheVariants.{Cone}
 use Rattle.poly_model.specs.Keys.{IsAscending}
 use Rattle.poly_model.specs.Systems.{System, Polyhedron, cone_of}
 use Rattle.dictionary_laws.proofs.Filters.{range_has}
-use Rattle.dictionary.specs.New.{IsNew}
+use Rattle.dictionary.specs.New.{IsCoordinateDictionary}
 use Rattle.dictionary.specs.Views.{Dictionary}
 use Rattle.linearity.specs.Columns.{columns_in}
 use Rattle.linearity.specs.Elimination.{IsDictionaryOf, IsEliminated}
@@ -32,14 +32,14 @@ TriesAll sys p others old new =
     IsDictionaryOf p new × IsEliminated sys.rows others (length sys.rows + 1) new
 
 -- the dictionary of the coordinates has a row for each row of the system
-pub new_rows : (sys : System) (d : Dictionary) → IsNew sys Cone d → HasRows (length sys.rows) d
+pub new_rows : (sys : System) (d : Dictionary) → IsCoordinateDictionary sys Cone d → HasRows (length sys.rows) d
 new_rows sys d new i a b =
     subst (λ (ks : List ℕ). Contains ks i) (sym new.labels)
     (Contains-append_left (range_with_len 1 (length sys.rows)) d.key i
     (range_has 1 (length sys.rows) i a (omega (arith, b))))
 
 -- the numbers of rows and of coordinates are those that a system tells
-module _ (sys : System) (new : Dictionary) (is_new : IsNew sys Cone new) {n rows : ℕ} (width : n ≡ sys.n) (some : 0 < n)
+module _ (sys : System) (new : Dictionary) (is_new : IsCoordinateDictionary sys Cone new) {n rows : ℕ} (width : n ≡ sys.n) (some : 0 < n)
     (narrow : n ≤ most_columns) (count : rows ≡ length sys.rows) (few : rows ≤ most_cone_rows) (p : Polyhedron)
     (file : sys ≡ cone_of p) where
   begun : IsDictionaryOf p new × IsEliminated sys.rows false 1 new

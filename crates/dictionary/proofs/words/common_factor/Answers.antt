@@ -45,9 +45,9 @@ rows-preserved c =
     let u = c.rows.invariant in
     record {
       common =
-          common_column c.args.x.now c.args.cells.now c.rows.i c.rows.common c.cell_at-c.result c.join.new.common
-          c.cell_at-c.ensures c.join.ensures u.common;
-      word = divisor_word c.rows.common c.join.new.common u.common.positive c.join.ensures.1.0 u.word;
+          common_column c.args.x.now c.args.cells.now c.rows.i c.rows.common c.cell_at-c.result c.take_gcd.new.common
+          c.cell_at-c.ensures c.take_gcd.ensures u.common;
+      word = divisor_word c.rows.common c.take_gcd.new.common u.common.positive c.take_gcd.ensures.1.0 u.word;
     }
 
 pub columns-init : goal.columns-init
@@ -61,7 +61,7 @@ columns-init c =
 pub columns-preserved : goal.columns-preserved
 columns-preserved c =
     let u = c.columns.invariant in
-    let g = c.join-in-columns in
+    let g = c.take_gcd-in-columns in
     record {
       common =
           common_row c.args.x.now c.args.cells.now c.args.x.now.height c.columns.j c.columns.common

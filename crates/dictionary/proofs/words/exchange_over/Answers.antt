@@ -13,15 +13,15 @@ use Rattle.dictionary.proofs.LeastOver.{least_exchanged}
 use Rattle.dictionary.proofs.words.exchange_over.Goals.{After-word_product-own, After-quick_row-first}
 use Rattle.dictionary.proofs.words.exchange_over.Goals as goal
 
-pub over_common-p-requires-clause-divides : goal.over_common-p-requires-clause-divides
-over_common-p-requires-clause-divides c =
+pub common_quotient-p-requires-clause-divides : goal.common_quotient-p-requires-clause-divides
+common_quotient-p-requires-clause-divides c =
     let x = c.args.x.now in
     let h = c.common_factor-common in
     let t = c.sign_number-sign in
     subst (λ (z : ℤ). unsigned_abs h.result ∣ unsigned_abs z) (sym c.word_product.ensures)
     (turned_divides h.result t.result c.cell_at-pivot.result t.ensures.size
     (subst (λ (z : ℤ). unsigned_abs h.result ∣ unsigned_abs z) (sym c.cell_at-pivot.ensures)
-    (h.ensures.row x.column c.requires.column)))
+    (h.ensures.row x.column c.requires.can.column)))
 
 pub rows-init : goal.rows-init
 rows-init c =
@@ -31,86 +31,86 @@ rows-init c =
     record {
       over =
           subst (λ (g : ℤ). IsWrittenOver x old f (0 * x.width) g old) (sym c.new-divisor.ensures)
-          (over_along x old f 0 (0 * x.width) x.denominator old (omega arith) (over_start x old f c.requires.denominator));
-      words = λ _. c.requires.words;
+          (over_along x old f 0 (0 * x.width) x.denominator old (omega arith) (over_start x old f c.requires.can.denominator));
+      words = λ _. c.requires.narrow.1;
     }
 
-pub over_common-c-requires-clause-divides : goal.over_common-c-requires-clause-divides
-over_common-c-requires-clause-divides c =
+pub common_quotient-c-requires-clause-divides : goal.common_quotient-c-requires-clause-divides
+common_quotient-c-requires-clause-divides c =
     let h = c.common_factor-common in
     let same = c.cell_at.ensures
-    ∙ c.rows.invariant.over.rest c.rows.i c.args.x.now.column c.rows-test.true c.requires.column (omega arith) in
+    ∙ c.rows.invariant.over.rest c.rows.i c.args.x.now.column c.rows-test.true c.requires.can.column (omega arith) in
     subst (λ (z : ℤ). unsigned_abs h.result ∣ unsigned_abs z) (sym same) (h.ensures.column c.rows.i c.rows-test.true)
 
 pub word_product-own-requires-clause-right : goal.word_product-own-requires-clause-right
 word_product-own-requires-clause-right c =
     let x = c.args.x.now in
     let same = c.cell_at.ensures
-    ∙ c.rows.invariant.over.rest c.rows.i x.column c.rows-test.true c.requires.column (omega arith) in
-    quotient_word c.over_common-c.result c.common_factor-common.result c.cell_at.result
-    c.common_factor-common.ensures.positive c.over_common-c.ensures
+    ∙ c.rows.invariant.over.rest c.rows.i x.column c.rows-test.true c.requires.can.column (omega arith) in
+    quotient_word c.common_quotient-c.result c.common_factor-common.result c.cell_at.result
+    c.common_factor-common.ensures.positive c.common_quotient-c.ensures
     (subst IsWord (sym same)
-    (word_at x c.args.cells.now c.requires.size c.requires.words c.rows.i x.column c.rows-test.true c.requires.column))
+    (word_at x c.args.cells.now c.requires.size c.requires.narrow.1 c.rows.i x.column c.rows-test.true c.requires.can.column))
 
 pub quick_row-first-requires-clause-words : goal.quick_row-first-requires-clause-words
 quick_row-first-requires-clause-words c j hj =
     let x = c.args.x.now in
     let same = c.rows.invariant.over.rest c.rows.i j c.rows-test.true hj (omega arith) in
     subst IsWord (sym same)
-    (word_at x c.args.cells.now c.requires.size c.requires.words c.rows.i j c.rows-test.true hj)
+    (word_at x c.args.cells.now c.requires.size c.requires.narrow.1 c.rows.i j c.rows-test.true hj)
 
 pub quick_row-first-requires-clause-half : goal.quick_row-first-requires-clause-half
 quick_row-first-requires-clause-half c t =
     let own = c.row_fits_half-half.ensures t in
     let f = c.fit_half-halves.ensures own.0 in
-    let g = divisor_half c.args.x.now.denominator c.rows.divisor c.requires.denominator c.rows.invariant.over.divides f.2 in
+    let g = divisor_half c.args.x.now.denominator c.rows.divisor c.requires.can.denominator c.rows.invariant.over.divides f.2 in
     (f.0, f.1, own.1, g)
 
-p_word : (c : After-word_product-own) → IsWord c.over_common-p.result
+p_word : (c : After-word_product-own) → IsWord c.common_quotient-p.result
 p_word c =
     let x = c.args.x.now in
     let t = c.sign_number-sign in
-    quotient_word c.over_common-p.result c.common_factor-common.result c.word_product.result
-    c.common_factor-common.ensures.positive c.over_common-p.ensures
+    quotient_word c.common_quotient-p.result c.common_factor-common.result c.word_product.result
+    c.common_factor-common.ensures.positive c.common_quotient-p.ensures
     (subst IsWord (sym c.word_product.ensures)
     (turned_word t.result c.cell_at-pivot.result t.ensures.size
     (subst IsWord (sym c.cell_at-pivot.ensures)
-    (word_at x c.args.cells.now c.requires.size c.requires.words x.row x.column c.requires.row c.requires.column))))
+    (word_at x c.args.cells.now c.requires.size c.requires.narrow.1 x.row x.column c.requires.can.row c.requires.can.column))))
 
 own_word : (c : After-word_product-own) → IsWord c.word_product-own.result
 own_word c =
     let x = c.args.x.now in
     let t = c.sign_number-sign in
     let same = c.cell_at.ensures
-    ∙ c.rows.invariant.over.rest c.rows.i x.column c.rows-test.true c.requires.column (omega arith) in
+    ∙ c.rows.invariant.over.rest c.rows.i x.column c.rows-test.true c.requires.can.column (omega arith) in
     subst IsWord (sym c.word_product-own.ensures)
-    (turned_word t.result c.over_common-c.result t.ensures.size
-    (quotient_word c.over_common-c.result c.common_factor-common.result c.cell_at.result
-    c.common_factor-common.ensures.positive c.over_common-c.ensures
+    (turned_word t.result c.common_quotient-c.result t.ensures.size
+    (quotient_word c.common_quotient-c.result c.common_factor-common.result c.cell_at.result
+    c.common_factor-common.ensures.positive c.common_quotient-c.ensures
     (subst IsWord (sym same)
-    (word_at x c.args.cells.now c.requires.size c.requires.words c.rows.i x.column c.rows-test.true c.requires.column))))
+    (word_at x c.args.cells.now c.requires.size c.requires.narrow.1 c.rows.i x.column c.rows-test.true c.requires.can.column))))
 
 row_word : (c : After-word_product-own) → (j : ℕ) → j < c.args.x.now.width →
     IsWord (get_or c.copy_shifted.new.row j (pos 0))
 row_word c j hj =
     let x = c.args.x.now in
-    shifted_word x c.args.cells.now c.copy_shifted.new.row c.args.shift c.requires.shift_word c.copy_shifted.ensures
-    j hj (word_at x c.args.cells.now c.requires.size c.requires.words x.row j c.requires.row hj)
+    shifted_word x c.args.cells.now c.copy_shifted.new.row c.args.shift c.requires.shift.1 c.copy_shifted.ensures
+    j hj (word_at x c.args.cells.now c.requires.size c.requires.narrow.1 x.row j c.requires.can.row hj)
 
 -- what is to be written in row i and column j
 is_new : (c : After-quick_row-first) → (j : ℕ) → j < c.args.x.now.width → (n : ℤ) →
-    n ≡ cell c.args.x.now.width c.args.cells.now c.rows.i j *ℤ c.over_common-p.result -ℤ c.word_product-own.result *ℤ get_or c.copy_shifted.new.row j (pos 0) →
+    n ≡ cell c.args.x.now.width c.args.cells.now c.rows.i j *ℤ c.common_quotient-p.result -ℤ c.word_product-own.result *ℤ get_or c.copy_shifted.new.row j (pos 0) →
     IsExchangedCell c.args.x.now c.args.cells.now c.rows.i j ((c.sign_number-sign.result *ℤ c.common_factor-common.result) *ℤ n)
 is_new c j hj n en =
     let x = c.args.x.now in
     let q = c.requires in
     let t = c.sign_number-sign in
     let sign = subst (λ (z : ℤ). IsSignOf z t.result) c.cell_at-pivot.ensures t.ensures in
-    let ep = c.over_common-p.ensures ∙ c.word_product.ensures ∙ ap (λ (z : ℤ). t.result *ℤ z) c.cell_at-pivot.ensures in
-    let ec = c.over_common-c.ensures ∙ c.cell_at.ensures
-    ∙ c.rows.invariant.over.rest c.rows.i x.column c.rows-test.true q.column (omega arith) in
-    undivided_is x c.args.cells.now c.copy_shifted.new.row c.common_factor-common.result t.result c.over_common-p.result
-    c.args.shift q.column sign c.copy_shifted.ensures q.shift ep c.rows.i j hj c.over_common-c.result
+    let ep = c.common_quotient-p.ensures ∙ c.word_product.ensures ∙ ap (λ (z : ℤ). t.result *ℤ z) c.cell_at-pivot.ensures in
+    let ec = c.common_quotient-c.ensures ∙ c.cell_at.ensures
+    ∙ c.rows.invariant.over.rest c.rows.i x.column c.rows-test.true q.can.column (omega arith) in
+    undivided_is x c.args.cells.now c.copy_shifted.new.row c.common_factor-common.result t.result c.common_quotient-p.result
+    c.args.shift q.can.column sign c.copy_shifted.ensures q.shift.0 ep c.rows.i j hj c.common_quotient-c.result
     c.word_product-own.result n ec c.word_product-own.ensures en
 
 pub word_row-from-requires-clause-words : goal.word_row-from-requires-clause-words
@@ -119,7 +119,7 @@ word_row-from-requires-clause-words c j le hj =
     let i = c.rows.i in
     let same = c.quick_row-first.ensures.row.after (i * x.width + j) (omega arith)
     ∙ c.rows.invariant.over.rest i j c.rows-test.true hj (omega arith) in
-    subst IsWord (sym same) (word_at x c.args.cells.now c.requires.size c.requires.words i j c.rows-test.true hj)
+    subst IsWord (sym same) (word_at x c.args.cells.now c.requires.size c.requires.narrow.1 i j c.rows-test.true hj)
 
 pub word_row-from-requires-clause-p : goal.word_row-from-requires-clause-p
 word_row-from-requires-clause-p c = p_word (goal.at.word_row-from-requires-clause-p c).After-word_product-own
@@ -145,7 +145,7 @@ quick_over c =
     let g = c.rows.divisor in
     let r = c.quick_row-first.ensures.row in
     let row = c.copy_shifted.new.row in
-    let p = c.over_common-p.result in
+    let p = c.common_quotient-p.result in
     let own = c.word_product-own.result in
     let new = c.quick_row-first.new.cells in
     over_row x old f i 0 c.quick_row-first.result g row p own c.rows.cells new c.rows-test.true r
@@ -175,7 +175,7 @@ columns-init c =
     let g = c.rows.divisor in
     let s = c.word_row-from.ensures.row in
     let row = c.copy_shifted.new.row in
-    let p = c.over_common-p.result in
+    let p = c.common_quotient-p.result in
     let own = c.word_product-own.result in
     let new = c.word_row-from.new.cells in
     let u = quick_over (goal.at.columns-init c).After-quick_row-first in
@@ -198,7 +198,7 @@ word_cross-n-requires-clause-a c =
     let same = c.cell_at-e.ensures
     ∙ c.columns.invariant.over.rest c.rows.i c.columns.j c.rows-test.true c.columns-test.true (omega arith) in
     subst IsWord (sym same)
-    (word_at x c.args.cells.now c.requires.size c.requires.words c.rows.i c.columns.j c.rows-test.true c.columns-test.true)
+    (word_at x c.args.cells.now c.requires.size c.requires.narrow.1 c.rows.i c.columns.j c.rows-test.true c.columns-test.true)
 
 pub word_cross-n-requires-clause-b : goal.word_cross-n-requires-clause-b
 word_cross-n-requires-clause-b c = p_word (goal.at.word_cross-n-requires-clause-b c).After-word_product-own
@@ -211,21 +211,21 @@ word_cross-n-requires-clause-d c =
     subst IsWord (sym c.at_place.ensures)
     (row_word (goal.at.word_cross-n-requires-clause-d c).After-word_product-own c.columns.j c.columns-test.true)
 
-pub over-z-requires-clause-word : goal.over-z-requires-clause-word
-over-z-requires-clause-word c =
-    divisor_word c.args.x.now.denominator c.columns.divisor c.requires.denominator c.columns.invariant.over.divides
-    c.requires.word
+pub exact_quotient-z-requires-clause-word : goal.exact_quotient-z-requires-clause-word
+exact_quotient-z-requires-clause-word c =
+    divisor_word c.args.x.now.denominator c.columns.divisor c.requires.can.denominator c.columns.invariant.over.divides
+    c.requires.narrow.0
 
-pub over-z-requires-clause-fits : goal.over-z-requires-clause-fits
-over-z-requires-clause-fits c =
+pub exact_quotient-z-requires-clause-fits : goal.exact_quotient-z-requires-clause-fits
+exact_quotient-z-requires-clause-fits c =
     let x = c.args.x.now in
     let q = c.requires in
     let t = c.sign_number-sign in
     let h = c.common_factor-common in
-    let nonzero = factor_nonzero (pivot_cell x c.args.cells.now) t.result h.result q.nonzero
+    let nonzero = factor_nonzero (pivot_cell x c.args.cells.now) t.result h.result q.can.nonzero
     (subst (λ (z : ℤ). IsSignOf z t.result) c.cell_at-pivot.ensures t.ensures) h.ensures.positive in
     let l = mul-add-lt c.rows.i x.width c.columns.j x.height c.rows-test.true c.columns-test.true in
-    over_fits x c.args.cells.now (t.result *ℤ h.result) q.size q.row q.column q.words q.word nonzero
+    over_fits x c.args.cells.now (t.result *ℤ h.result) q.size q.can.row q.can.column q.narrow.1 q.narrow.0 nonzero
     (c.rows.i * x.width + c.columns.j) c.columns.divisor c.columns.cells (omega (arith, mul_comm x.height x.width))
     c.columns.invariant.over
 
@@ -239,14 +239,14 @@ columns-preserved c =
     let t = c.sign_number-sign in
     let h = c.common_factor-common in
     let f = t.result *ℤ h.result in
-    let g = c.over-z in
+    let g = c.exact_quotient-z in
     let row = c.copy_shifted.new.row in
     let n = c.word_cross-n.result in
     let sign = subst (λ (z : ℤ). IsSignOf z t.result) c.cell_at-pivot.ensures t.ensures in
-    let nonzero = factor_nonzero (pivot_cell x old) t.result h.result q.nonzero sign h.ensures.positive in
+    let nonzero = factor_nonzero (pivot_cell x old) t.result h.result q.can.nonzero sign h.ensures.positive in
     let same = c.cell_at-e.ensures
     ∙ c.columns.invariant.over.rest i j c.rows-test.true c.columns-test.true (omega arith) in
-    let en : n ≡ cell x.width old i j *ℤ c.over_common-p.result -ℤ c.word_product-own.result *ℤ get_or row j (pos 0) =
+    let en : n ≡ cell x.width old i j *ℤ c.common_quotient-p.result -ℤ c.word_product-own.result *ℤ get_or row j (pos 0) =
     c.word_cross-n.ensures ∙ rw (same, c.at_place.ensures) refl in
     let is = is_new (goal.at.columns-preserved c).After-quick_row-first j c.columns-test.true n en in
     record {
@@ -269,16 +269,16 @@ rows-preserved-then-stays c =
     let t = c.sign_number-sign in
     let h = c.common_factor-common in
     let sign = subst (λ (z : ℤ). IsSignOf z t.result) c.cell_at-pivot.ensures t.ensures in
-    let ep = c.over_common-p.ensures ∙ c.word_product.ensures ∙ ap (λ (z : ℤ). t.result *ℤ z) c.cell_at-pivot.ensures in
-    let ec = c.over_common-c.ensures ∙ c.cell_at.ensures
-    ∙ c.rows.invariant.over.rest i x.column c.rows-test.true q.column (omega arith) in
+    let ep = c.common_quotient-p.ensures ∙ c.word_product.ensures ∙ ap (λ (z : ℤ). t.result *ℤ z) c.cell_at-pivot.ensures in
+    let ec = c.common_quotient-c.ensures ∙ c.cell_at.ensures
+    ∙ c.rows.invariant.over.rest i x.column c.rows-test.true q.can.column (omega arith) in
     let same = c.stays.ensures c.if-stays.true in
     record {
       over =
           over_stays x old (t.result *ℤ h.result) i c.rows.divisor c.rows.cells c.rows-test.true
           (λ j hj.
-          stays_is x old c.copy_shifted.new.row h.result t.result c.over_common-p.result c.args.shift q.column sign
-          c.copy_shifted.ensures q.shift ep i j hj c.over_common-c.result c.word_product-own.result c.rows.divisor ec
+          stays_is x old c.copy_shifted.new.row h.result t.result c.common_quotient-p.result c.args.shift q.can.column sign
+          c.copy_shifted.ensures q.shift.0 ep i j hj c.common_quotient-c.result c.word_product-own.result c.rows.divisor ec
           c.word_product-own.ensures same.0 same.1)
           c.rows.invariant.over;
       words = c.rows.invariant.words;
@@ -299,7 +299,7 @@ returns-clause-exchanged c =
     let t = c.sign_number-sign in
     let h = c.common_factor-common in
     let e : c.rows.i ≡ x.height = omega arith in
-    least_exchanged x c.args.cells.now c.rows.cells h.result t.result c.rows.divisor q.row q.column q.denominator
-    q.nonzero h.ensures (subst (λ (z : ℤ). IsSignOf z t.result) c.cell_at-pivot.ensures t.ensures) q.unit
+    least_exchanged x c.args.cells.now c.rows.cells h.result t.result c.rows.divisor q.can.row q.can.column q.can.denominator
+    q.can.nonzero h.ensures (subst (λ (z : ℤ). IsSignOf z t.result) c.cell_at-pivot.ensures t.ensures) q.unit
     (over_along x c.args.cells.now (t.result *ℤ h.result) (c.rows.i * x.width) (x.height * x.width) c.rows.divisor
     c.rows.cells (ap (λ (n : ℕ). n * x.width) e) c.rows.invariant.over)

@@ -2,7 +2,7 @@ use Rattle.std.proofs.Common.{ℤ, subst, sym}
 use Rattle.poly_num.specs.Divisors.{IsGcdOf}
 use Rattle.dictionary.proofs.CommonLemmas.{positive_gcd, gcd_divides}
 use Rattle.dictionary.proofs.LeftLemmas.{divisor_word}
-use Rattle.dictionary.proofs.words.join.Goals as goal
+use Rattle.dictionary.proofs.words.take_gcd.Goals as goal
 
 pub new-requires-clause-word : goal.new-requires-clause-word
 new-requires-clause-word c =

@@ -4,7 +4,7 @@ use Rattle.std.specs.Prelude.{◌<ℤ◌, unsigned_abs}
 use Rattle.poly_num.specs.Divisors.{IsGcdOf}
 use Rattle.dictionary.proofs.CommonLemmas.{positive_gcd}
 use Rattle.dictionary.proofs.LeftLemmas.{quotient_exact, divisor_word, left_gcd, scaled_fits, rescaled}
-use Rattle.dictionary.proofs.words.over_less.Goals as goal
+use Rattle.dictionary.proofs.words.shrunk_quotient.Goals as goal
 
 pub quotient-factor-requires : goal.quotient-factor-requires
 quotient-factor-requires c =

@@ -1,5 +1,5 @@
 use Rattle.dictionary.proofs.Reduced.{kept, turned}
-use Rattle.dictionary.proofs.exchange.reduce.Goals as goal
+use Rattle.dictionary.proofs.exchange.make_primitive.Goals as goal
 
 pub returns-then-not-is_positive : goal.returns-then-not-is_positive
 returns-then-not-is_positive c =

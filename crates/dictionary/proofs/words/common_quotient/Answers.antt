@@ -1,6 +1,6 @@
 use Rattle.std.proofs.Common.{◌∙◌, ap, ℤ, ◌*ℤ◌}
 use Rattle.dictionary.proofs.LeftLemmas.{quotient_exact}
-use Rattle.dictionary.proofs.words.over_common.Goals as goal
+use Rattle.dictionary.proofs.words.common_quotient.Goals as goal
 
 pub returns-in-Some : goal.returns-in-Some
 returns-in-Some c =

@@ -1,6 +1,6 @@
 use Rattle.std.proofs.Common.{◌∙◌, ap, ℤ, ◌*ℤ◌}
 use Rattle.dictionary.proofs.LeftLemmas.{quotient_exact, left_same}
-use Rattle.dictionary.proofs.words.over.Goals as goal
+use Rattle.dictionary.proofs.words.exact_quotient.Goals as goal
 
 pub returns-in-Some-clause-quotient : goal.returns-in-Some-clause-quotient
 returns-in-Some-clause-quotient c =
