@@ -1,10 +1,9 @@
 -- A point row has the entry 0 in a column exactly where it is tight at the vector of the column.
-use Rattle.std.proofs.Common.{◌≡◌, ◌≢◌, ◌↔◌, ℕ, suc, ◌-◌, ◌≤◌, ◌<◌, true, ℤ, pos, ◌*ℤ◌, ◌<ℤ◌, length, refl, sym, ap, subst, ◌∙◌, arith}
+use Rattle.std.proofs.Common.{◌≡◌, ◌≢◌, ◌↔◌, ℕ, suc, ◌-◌, ◌≤◌, ◌<◌, true, ℤ, pos, ◌*ℤ◌, length, refl, sym, ap, subst, ◌∙◌, arith}
 use Rattle.std.specs.List.{Contains}
 use Rattle.std.proofs.lemmas.Bool.{lt-ltb, cond-true}
 use Rattle.std.proofs.lemmas.List.{get_or_default}
 use Rattle.std.proofs.lemmas.List.Elements.{Contains-get_or}
-use Rattle.std.proofs.lemmas.Int.{ints}
 use Rattle.poly_num.specs.Vectors.{Vector, ◌·◌}
 use Rattle.poly_num.proofs.Ring.{mul_comm}
 use Rattle.poly_num.proofs.Order.{zero_factor, positive_nonzero}
