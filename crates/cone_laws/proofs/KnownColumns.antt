@@ -11,6 +11,7 @@ use Rattle.poly_num.proofs.PrimitiveLemmas.{primitive_from_gcd, gcd_from_primiti
 use Rattle.poly_model.specs.Systems.{System}
 use Rattle.poly_model.specs.Cones.{at, IsTight}
 use Rattle.poly_model.specs.FreeColumns.{IsFree, IsZeroAtFree, IsLine, AreFreeColumns, AreLinesOf, AreLines}
+use Rattle.linear_laws.proofs.Signs.{one_is_not_zero}
 use Rattle.cone_laws.proofs.KnownValues.{row_of, row_at, square, quadrant, half_plane, strip, plane, diagonal, upward}
 
 -- a vector of j entries, and one whose first j entries are 0
@@ -30,9 +31,6 @@ begins_not_free sys j k l z n f =
     let e = f.combines k (row_of []) l in
     let g = front_zero j f.weights (row_at sys k).entries f.earlier z in
     n (zero_factor f.factor (at j (row_at sys k).entries) (e ∙ g) f.nonzero)
-
-one_is_not_zero : pos 1 ≢ pos 0
-one_is_not_zero e = cc
 
 -- ---- free columns
 -- a column that is this combination of the earlier ones

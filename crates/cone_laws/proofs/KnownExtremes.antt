@@ -1,21 +1,17 @@
 -- Extreme vectors of H files that are known from a drawing: a wrong definition does not check.
-use Rattle.std.proofs.Common.{◌≡◌, ◌≢◌, true, ℤ, pos, ◌*ℤ◌, ◌+ℤ◌, [], ◌∷◌, arith, refl, ap}
+use Rattle.std.proofs.Common.{◌≡◌, true, ℤ, pos, ◌*ℤ◌, ◌+ℤ◌, [], ◌∷◌, arith, refl, ap}
 use Rattle.std.proofs.lemmas.Int.{ints}
 use Rattle.std.proofs.lemmas.List.Elements.{All-from_recursion}
 use Rattle.poly_num.specs.Vectors.{IsMultipleOf}
 use Rattle.poly_num.specs.Divisors.{gcd_in, gcd_of}
 use Rattle.poly_num.proofs.PrimitiveLemmas.{primitive_from_gcd, gcd_from_primitive}
+use Rattle.poly_num.proofs.Ring.{mul_comm}
 use Rattle.poly_model.specs.Cones.{at, Meets, IsTight}
 use Rattle.poly_model.specs.Extreme.{IsOnFace, IsExtreme}
 use Rattle.linear_laws.proofs.Entries.{by_three}
+use Rattle.linear_laws.proofs.Signs.{one_is_not_zero}
 use Rattle.cone_laws.proofs.KnownValues.{row_of, square, quadrant, strip, corner, centre, axis, diagonal, corner_in_square}
 use Rattle.cone_laws.proofs.KnownColumns.{height_is_free, only_height_is_free, square_has_no_free_column, quadrant_has_no_free_column}
-
-pub one_is_not_zero : pos 1 ≢ pos 0
-one_is_not_zero e = cc
-
-pub kept : (x : ℤ) → pos 1 *ℤ x ≡ x *ℤ pos 1
-kept x = omega (arith, ints)
 
 pub gone : (x y : ℤ) → x ≡ pos 0 → pos 1 *ℤ x ≡ y *ℤ pos 0
 gone x y e = omega (arith, ints)
@@ -41,7 +37,7 @@ corner_is_extreme = record {
   where
     alone : (a b c : ℤ) → IsOnFace square corner (a ∷ b ∷ c ∷ []) → IsMultipleOf corner (a ∷ b ∷ c ∷ [])
     alone a b c f =
-        let p = kept a in
+        let p = mul_comm (pos 1) a in
         let q = gone b a (second a b c (f.tight 0 (row_of []) (omega arith) refl)) in
         let r = gone c a (third a b c (f.tight 1 (row_of []) (omega arith) refl)) in
         (pos 1, a, one_is_not_zero, cc)
@@ -97,7 +93,7 @@ axis_is_extreme = record {
     alone : (a b c : ℤ) → IsOnFace quadrant axis (a ∷ b ∷ c ∷ []) → IsMultipleOf axis (a ∷ b ∷ c ∷ [])
     alone a b c f =
         let p = gone a b (first a b c (f.tight 2 (row_of []) (omega arith) refl)) in
-        let q = kept b in
+        let q = mul_comm (pos 1) b in
         let r = gone c b (third a b c (f.tight 1 (row_of []) (omega arith) refl)) in
         (pos 1, b, one_is_not_zero, cc)
 
@@ -142,7 +138,7 @@ foot_is_extreme = record {
   where
     alone : (a b c : ℤ) → IsOnFace strip corner (a ∷ b ∷ c ∷ []) → IsMultipleOf corner (a ∷ b ∷ c ∷ [])
     alone a b c f =
-        let p = kept a in
+        let p = mul_comm (pos 1) a in
         let q = gone b a (second a b c (f.tight 0 (row_of []) (omega arith) refl)) in
         let r = gone c a (f.free 2 height_is_free) in
         (pos 1, a, one_is_not_zero, cc)

@@ -1,5 +1,5 @@
 -- Rows of faces, ranks and vertices that are known from a drawing: a wrong definition does not check.
-use Rattle.std.proofs.Common.{◌≡◌, ◌≢◌, true, false, pos, ◌*ℤ◌, [], ◌∷◌, length, refl, ap, ◌∙◌, arith}
+use Rattle.std.proofs.Common.{◌≡◌, true, false, pos, ◌*ℤ◌, [], ◌∷◌, length, refl, ap, ◌∙◌, arith}
 use Rattle.std.proofs.lemmas.Int.{ints}
 use Rattle.poly_num.specs.Vectors.{Vector}
 use Rattle.poly_num.proofs.Ring.{mul_zero}
@@ -8,6 +8,7 @@ use Rattle.poly_model.specs.declared.kind.Kind.TheVariants.{H}
 use Rattle.poly_model.specs.Independence.{Follows, taken}
 use Rattle.poly_model.specs.Systems.{cone_of}
 use Rattle.linear_laws.proofs.FirstBases.{first_unique}
+use Rattle.linear_laws.proofs.Signs.{one_is_not_zero}
 use Rattle.cone_laws.specs.Faces.{fixed_rows, other_rows, face_rows, HasRank}
 use Rattle.cone_laws.specs.FeasibilityLaws.{HasVertex, IsFlatAtInfinity}
 use Rattle.cone_laws.proofs.KnownValues.{equation, inequality, h_file, square, strip, contradiction, corner, centre, axis, diagonal, upward, contradiction_is_not_feasible}
@@ -34,9 +35,6 @@ rows_in_the_strip : face_rows (2 ∷ []) strip corner ≡ upward ∷ axis ∷ []
 rows_in_the_strip = refl
 
 -- ---- ranks
-one_is_not_zero : pos 1 ≢ pos 0
-one_is_not_zero e = cc
-
 corner_has_rank_two : HasRank 3 (face_rows [] square corner) 2
 corner_has_rank_two = record {
   marks = true ∷ true ∷ [];

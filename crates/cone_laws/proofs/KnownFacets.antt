@@ -9,13 +9,15 @@ use Rattle.poly_num.specs.Vectors.{Vector, ◌·◌, IsPrimitive, IsMultipleOf}
 use Rattle.poly_num.specs.Divisors.{gcd_in, gcd_of}
 use Rattle.poly_num.proofs.DivisorLemmas.{gcd_of-zero, zero-gcd_of}
 use Rattle.poly_num.proofs.PrimitiveLemmas.{primitive_from_gcd, gcd_from_primitive}
+use Rattle.poly_num.proofs.Ring.{mul_comm}
 use Rattle.poly_model.specs.Systems.{Row}
 use Rattle.poly_model.specs.Cones.{Meets}
 use Rattle.poly_model.specs.FreeColumns.{IsFree}
 use Rattle.poly_model.specs.Extreme.{IsOnFace, TouchesPoint, IsExtreme, AreExtreme}
+use Rattle.linear_laws.proofs.Signs.{one_is_not_zero}
 use Rattle.cone_laws.proofs.KnownValues.{row_of, half_line, bound, infinity, bound_touches_the_point, infinity_touches_no_point}
 use Rattle.cone_laws.proofs.KnownColumns.{begins_not_free}
-use Rattle.cone_laws.proofs.KnownExtremes.{one_is_not_zero, kept, gone}
+use Rattle.cone_laws.proofs.KnownExtremes.{gone}
 
 -- what holds of each (a, b) holds of each vector of width 2
 by_two : (P : Vector → Type 0) → ((a b : ℤ) → P (a ∷ b ∷ [])) → (z : Vector) → length z ≡ 2 → P z
@@ -49,7 +51,7 @@ bound_is_extreme = record {
     alone : (a b : ℤ) → IsOnFace half_line bound (a ∷ b ∷ []) → IsMultipleOf bound (a ∷ b ∷ [])
     alone a b f =
         let p = gone a b (first a b (f.tight 0 (row_of []) (omega arith) refl)) in
-        let q = kept b in
+        let q = mul_comm (pos 1) b in
         (pos 1, b, one_is_not_zero, cc)
 
 -- 1 >= 0 is none, since it touches no point

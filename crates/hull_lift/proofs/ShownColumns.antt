@@ -1,13 +1,12 @@
 -- A point row has the entry 0 in a column exactly where it is tight at the vector of the column.
-use Rattle.std.proofs.Common.{◌≡◌, ◌≢◌, ◌↔◌, ℕ, suc, ◌-◌, ◌≤◌, ◌<◌, true, ℤ, pos, ◌*ℤ◌, ◌<ℤ◌, length, refl, sym, ap, subst, ◌∙◌, arith}
+use Rattle.std.proofs.Common.{◌≡◌, ◌≢◌, ◌↔◌, ℕ, suc, ◌-◌, ◌≤◌, ◌<◌, true, ℤ, pos, ◌*ℤ◌, length, refl, sym, ap, subst, ◌∙◌, arith}
 use Rattle.std.specs.List.{Contains}
 use Rattle.std.proofs.lemmas.Bool.{lt-ltb, cond-true}
 use Rattle.std.proofs.lemmas.List.{get_or_default}
 use Rattle.std.proofs.lemmas.List.Elements.{Contains-get_or}
-use Rattle.std.proofs.lemmas.Int.{ints}
 use Rattle.poly_num.specs.Vectors.{Vector, ◌·◌}
 use Rattle.poly_num.proofs.Ring.{mul_comm}
-use Rattle.poly_num.proofs.Order.{zero_factor}
+use Rattle.poly_num.proofs.Order.{zero_factor, positive_nonzero}
 use Rattle.poly_model.specs.declared.kind.Kind.{Kind}
 use Rattle.poly_model.specs.declared.kind.Kind.TheVariants.{H, V}
 use Rattle.poly_model.specs.Systems.{Row, row_of, no_row, Polyhedron, cone_of}
@@ -22,9 +21,6 @@ use Rattle.dictionary_laws.proofs.Values.{value_along}
 use Rattle.dictionary.specs.Views.{Dictionary, IsDictionaryIn, table_of}
 use Rattle.hull_lift.specs.Facets.{HasPointRows, IsTouchedAt, IsShownAs}
 use Rattle.hull_lift.specs.Laws.{IsAlong, IsInColumn, ShownColumns}
-
-not_zero : (e : ℤ) → pos 0 <ℤ e → e ≢ pos 0
-not_zero e l f = omega (arith, ints, l, f)
 
 -- of two proportional numbers one is 0 where the other is
 zero_there : (e v a x : ℤ) → e ≢ pos 0 → e *ℤ v ≡ a *ℤ x → a ≡ pos 0 → v ≡ pos 0
@@ -60,7 +56,7 @@ module _ (p : Polyhedron) (space : Space) (d : Dictionary) (is : IsDictionaryIn 
             (Contains-get_or (cone_of p).rows (i - 1) no_row (omega arith));
         point = t.point;
         tight = zero_there d.denominator _ (Table.entry (table_of d) i col) (space.form col · z)
-            (not_zero d.denominator is.dictionary.writes.positive)
+            (positive_nonzero d.denominator is.dictionary.writes.positive)
             (row_value i (points i t.from_one t.within t.point) t.within) t.zero;
       }
 

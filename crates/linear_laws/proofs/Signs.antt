@@ -4,6 +4,9 @@ use Rattle.std.proofs.lemmas.Int.{ints, by_lt_z}
 use Rattle.poly_num.proofs.Ring.{lin, neg-mul-neg}
 use Rattle.poly_num.proofs.Order.{positive_product, positive_nonzero}
 
+pub one_is_not_zero : pos 1 ≢ pos 0
+one_is_not_zero e = cc
+
 pub nonnegative_zero : (x : ℤ) → x ≡ pos 0 → pos 0 ≤ℤ x
 nonnegative_zero x e = omega (arith, lin)
 

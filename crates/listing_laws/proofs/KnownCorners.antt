@@ -6,10 +6,11 @@ use Rattle.std.specs.List.{AllByRecursion}
 use Rattle.poly_num.specs.Vectors.{Vector, ◌·◌, IsPrimitive, IsMultipleOf}
 use Rattle.poly_num.specs.Divisors.{gcd_in, gcd_of}
 use Rattle.poly_num.proofs.PrimitiveLemmas.{primitive_from_gcd}
+use Rattle.poly_num.proofs.Ring.{mul_comm}
 use Rattle.linear_laws.specs.Corners.{IsOnTight}
 use Rattle.linear_laws.proofs.Entries.{by_three}
+use Rattle.linear_laws.proofs.Signs.{one_is_not_zero}
 use Rattle.cone_laws.proofs.KnownValues.{axis, upward}
-use Rattle.cone_laws.proofs.KnownExtremes.{one_is_not_zero}
 use Rattle.listing_laws.specs.ListedCone.{IsShownCorner}
 use Rattle.listing_laws.specs.Prefixes.{IsCornerUnder}
 use Rattle.listing_laws.proofs.KnownValues.{square_cone}
@@ -40,10 +41,7 @@ shown_if y p l h alone = record {
 -- (a, b, c) is a times (1, q, r)
 a_times : (a b c q r : ℤ) → pos 1 *ℤ b ≡ a *ℤ q → pos 1 *ℤ c ≡ a *ℤ r →
     IsMultipleOf (pos 1 ∷ q ∷ r ∷ []) (a ∷ b ∷ c ∷ [])
-a_times a b c q r e f = let k = kept a in (pos 1, a, one_is_not_zero, cc)
-  where
-    kept : (a : ℤ) → pos 1 *ℤ a ≡ a *ℤ pos 1
-    kept a = omega (arith, ints)
+a_times a b c q r e f = let k = mul_comm (pos 1) a in (pos 1, a, one_is_not_zero, cc)
 
 -- what the rows x >= 0, y >= 0, x <= 1, y <= 1 say where they are 0
 at_left : (a b c : ℤ) → pos 0 *ℤ a +ℤ (pos 1 *ℤ b +ℤ (pos 0 *ℤ c +ℤ pos 0)) ≡ pos 0 → pos 1 *ℤ b ≡ a *ℤ pos 0

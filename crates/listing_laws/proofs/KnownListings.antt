@@ -13,9 +13,9 @@ use Rattle.poly_model.specs.FreeColumns.{IsFree, AreFreeColumns}
 use Rattle.poly_model.specs.Extreme.{AreExtreme}
 use Rattle.poly_model.specs.Independence.{Vanish}
 use Rattle.linear_laws.proofs.Members.{Contains-nil, Contains-first, Contains-cons_cases}
+use Rattle.linear_laws.proofs.Signs.{one_is_not_zero}
 use Rattle.cone_laws.proofs.KnownValues.{h_file, inequality}
 use Rattle.cone_laws.proofs.KnownColumns.{begins_not_free}
-use Rattle.cone_laws.proofs.KnownExtremes.{one_is_not_zero}
 use Rattle.listing_laws.specs.ListedCone.{ListedCone, row_at, IsListable, IsConeOf, cone_over}
 use Rattle.listing_laws.specs.Lists.{Lists}
 use Rattle.listing_laws.specs.Prefixes.{IsCornerUnder, IsListedUpTo}

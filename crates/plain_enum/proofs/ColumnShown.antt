@@ -21,6 +21,7 @@ use Rattle.poly_model.proofs.RowLemmas.{row_from_one}
 use Rattle.linear_laws.specs.Corners.{IsInConeOf}
 use Rattle.linear_laws.proofs.Members.{all_at}
 use Rattle.linear_laws.proofs.Proportions.{vanish_from_multiple, multiples_from_values}
+use Rattle.linear_laws.proofs.Signs.{minus_zero}
 use Rattle.dictionary.specs.Views.{Dictionary, table_of}
 use Rattle.hull_lift.specs.Facets.{primitive_column, column_of, IsTouchedAt, IsShownAs}
 use Rattle.listing_laws.specs.ListedCone.{ListedCone, row_at, IsListable, IsConeOf}
@@ -47,9 +48,6 @@ use Rattle.plain_enum.proofs.OneLeft.{test_by_entries}
 abbrev sign_on : Side → ℤ → ℤ
 sign_on Along e = e
 sign_on Against e = neg_ℤ e
-
-neg_zero : (e : ℤ) → neg_ℤ e ≡ pos 0 → e ≡ pos 0
-neg_zero e h = omega (arith, ints)
 
 not_negative : (p x e : ℤ) → pos 0 <ℤ p → p *ℤ x ≡ e → pos 0 ≤ℤ e → pos 0 ≤ℤ x
 not_negative p x e h m l =
@@ -198,7 +196,7 @@ module _ (p : Polyhedron) (cone : ListedCone) (free : List ℕ) (d : Dictionary)
   -- ---- shown
   zero_back : (e : ℤ) (side : Side) → sign_on side e ≡ pos 0 → e ≡ pos 0
   zero_back e Along h = h
-  zero_back e Against h = neg_zero e h
+  zero_back e Against h = minus_zero e h
 
   zero_there : (e : ℤ) (side : Side) → e ≡ pos 0 → sign_on side e ≡ pos 0
   zero_there e Along h = h

@@ -6,6 +6,7 @@ use Rattle.std.proofs.lemmas.Int.{ints}
 use Rattle.poly_num.specs.Vectors.{Vector, ◌·◌, IsMultipleOf}
 use Rattle.poly_num.specs.Divisors.{gcd_in, gcd_of}
 use Rattle.poly_num.proofs.PrimitiveLemmas.{primitive_from_gcd}
+use Rattle.poly_num.proofs.Ring.{mul_comm}
 use Rattle.poly_model.specs.Spaces.{Space}
 use Rattle.poly_model.specs.Cones.{at}
 use Rattle.poly_model.specs.Dictionaries.{Table}
@@ -14,6 +15,7 @@ use Rattle.poly_model.specs.Tree.{IsFeasibleRoot}
 use Rattle.poly_model.specs.Tree.{ShowsRay, IsAlongColumn, IsShownAt, IsExtremeIn}
 use Rattle.linear_laws.proofs.Members.{all_at}
 use Rattle.linear_laws.proofs.Entries.{by_three}
+use Rattle.linear_laws.proofs.Signs.{one_is_not_zero}
 use Rattle.tree_laws.proofs.KnownTables.{space_of, has_enough_labels, table_of, IsSolved, solved, one_is_least}
 use Rattle.tree_laws.proofs.KnownTests.{shows_ray}
 
@@ -94,9 +96,6 @@ axis_is_not_along_the_other : IsAlongColumn quadrant root 2 axis → ⊥
 axis_is_not_along_the_other h = let p = h.here in omega (arith, ints)
 
 -- ---- extreme vectors
-one_is_not_zero : pos 1 ≢ pos 0
-one_is_not_zero e = cc
-
 axis_is_extreme : IsExtremeIn quadrant axis
 unfolding gcd_in gcd_of
 axis_is_extreme = record {
@@ -114,16 +113,13 @@ axis_is_extreme = record {
     first : (a b c : ℤ) → quadrant.infinity · (a ∷ b ∷ c ∷ []) ≡ pos 0 → pos 1 *ℤ a ≡ b *ℤ pos 0
     first a b c e = omega (arith, ints)
 
-    second : (b : ℤ) → pos 1 *ℤ b ≡ b *ℤ pos 1
-    second b = omega (arith, ints)
-
     third : (a b c : ℤ) → quadrant.form 2 · (a ∷ b ∷ c ∷ []) ≡ pos 0 → pos 1 *ℤ c ≡ b *ℤ pos 0
     third a b c e = omega (arith, ints)
 
     by : (a b c : ℤ) → quadrant.infinity · (a ∷ b ∷ c ∷ []) ≡ pos 0 → quadrant.form 2 · (a ∷ b ∷ c ∷ []) ≡ pos 0 →
         IsMultipleOf axis (a ∷ b ∷ c ∷ [])
     by a b c e f =
-        let p = first a b c e in let q = second b in let r = third a b c f in (pos 1, b, one_is_not_zero, cc)
+        let p = first a b c e in let q = mul_comm (pos 1) b in let r = third a b c f in (pos 1, b, one_is_not_zero, cc)
 
 -- the diagonal lies inside: nothing is 0 there but infinity, and the axis is no multiple of it
 diagonal_is_not_extreme : IsExtremeIn quadrant (pos 0 ∷ pos 1 ∷ pos 1 ∷ []) → ⊥

@@ -1,15 +1,17 @@
 -- What is shown at the square under the root {1, 2}, and its extreme vectors. A wrong definition does not check.
-use Rattle.std.proofs.Common.{◌≡◌, ◌≢◌, ℕ, ℤ, pos, negsuc, ◌*ℤ◌, List, [], ◌∷◌, refl, ap, arith}
+use Rattle.std.proofs.Common.{◌≡◌, ℕ, ℤ, pos, negsuc, ◌*ℤ◌, List, [], ◌∷◌, refl, ap, arith}
 use Rattle.std.specs.Prelude.{◌≤ℤ◌, None}
 use Rattle.std.proofs.lemmas.Int.{ints}
 use Rattle.poly_num.specs.Vectors.{Vector, ◌·◌, IsMultipleOf}
 use Rattle.poly_num.specs.Divisors.{gcd_in, gcd_of}
 use Rattle.poly_num.proofs.PrimitiveLemmas.{primitive_from_gcd, gcd_from_primitive}
+use Rattle.poly_num.proofs.Ring.{mul_comm}
 use Rattle.poly_model.specs.Cones.{at}
 use Rattle.poly_model.specs.LexOrder.{rows_in}
 use Rattle.poly_model.specs.Tree.{ShowsRay, IsAtPoint, IsShownAt, IsExtremeIn}
 use Rattle.linear_laws.proofs.Members.{all_at}
 use Rattle.linear_laws.proofs.Entries.{by_three}
+use Rattle.linear_laws.proofs.Signs.{one_is_not_zero}
 use Rattle.tree_laws.proofs.OrderLemmas.{is_row_outside}
 use Rattle.tree_laws.proofs.KnownTests.{shows_point}
 use Rattle.tree_laws.proofs.KnownSquare.{square, home, opposite}
@@ -64,9 +66,6 @@ negative_is_not_here : IsAtPoint square root (negsuc 0 ∷ pos 0 ∷ pos 0 ∷ [
 negative_is_not_here h = let p = h.finite in omega (arith, ints)
 
 -- ---- extreme vectors
-one_is_not_zero : pos 1 ≢ pos 0
-one_is_not_zero e = cc
-
 corner_is_extreme : IsExtremeIn square corner
 unfolding gcd_in gcd_of
 corner_is_extreme = record {
@@ -80,9 +79,6 @@ corner_is_extreme = record {
       by z i.width (f 1 (0, omega arith, refl) refl) (f 2 (1, omega arith, refl) refl);
 }
   where
-    first : (a : ℤ) → pos 1 *ℤ a ≡ a *ℤ pos 1
-    first a = omega (arith, ints)
-
     second : (a b c : ℤ) → square.form 1 · (a ∷ b ∷ c ∷ []) ≡ pos 0 → pos 1 *ℤ b ≡ a *ℤ pos 0
     second a b c e = omega (arith, ints)
 
@@ -92,7 +88,7 @@ corner_is_extreme = record {
     by : (a b c : ℤ) → square.form 1 · (a ∷ b ∷ c ∷ []) ≡ pos 0 → square.form 2 · (a ∷ b ∷ c ∷ []) ≡ pos 0 →
         IsMultipleOf corner (a ∷ b ∷ c ∷ [])
     by a b c e f =
-        let p = first a in let q = second a b c e in let r = third a b c f in (pos 1, a, one_is_not_zero, cc)
+        let p = mul_comm (pos 1) a in let q = second a b c e in let r = third a b c f in (pos 1, a, one_is_not_zero, cc)
 
 -- (2, 0) is outside, by row 3
 outside_is_not_extreme : IsExtremeIn square (pos 1 ∷ pos 2 ∷ pos 0 ∷ []) → ⊥

@@ -124,7 +124,8 @@ module _ (space : Space) (root key : List ℕ) (t : Table) where
       (u : Table) × IsRowDictionary space new u
   neighbour_dictionary s new d n =
       subst (λ l. (u : Table) × IsRowDictionary space l u) (sym n.exchange)
-      (exchanged_dictionary space key t d s n.r n.column n.leaves.row (negative_nonzero (t.entry n.r s) n.leaves.negative))
+      (exchanged_dictionary space key t d s n.r n.column n.leaves.row
+      (negative_nonzero (t.entry n.r s) n.leaves.negative))
 
   pub neighbour_feasible : (s : ℕ) (new : List ℕ) (home u : Table) → IsRowDictionary space root home →
       IsLexFeasible space root key t → IsNeighbour space.labels root key t s new → IsRowDictionary space new u →

@@ -107,7 +107,8 @@ ray_is_extreme space root key t s y d shown along = record {
   finite = nonnegative_zero (space.infinity · y) along.level;
   rows = λ i l. ⊎_elim
       (λ (c : Contains key i). ⊎_elim
-      (λ (e : i ≡ s). subst (λ k. pos 0 ≤ℤ (space.form k · y)) (sym e) (nonnegative_positive (space.form s · y) along.here))
+      (λ (e : i ≡ s). subst (λ k. pos 0 ≤ℤ (space.form k · y)) (sym e)
+      (nonnegative_positive (space.form s · y) along.here))
       (λ (n : i ≡ s → ⊥). nonnegative_zero (space.form i · y) (along.nothing i c n))
       (cases_eq i s))
       (λ (o : Contains key i → ⊥).
