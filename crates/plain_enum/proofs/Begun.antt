@@ -53,11 +53,11 @@ module _ (sys : System) (new : Dictionary) (is_new : IsCoordinateDictionary sys 
   pub first_of : IsDictionaryOf p new
   first_of = begun.0
 
-  pub second_of : (at : Dictionary) → TriesAll sys p false new at → IsDictionaryOf p at
+  pub second_of : (at : Dictionary) → TriesAll sys p Linear new at → IsDictionaryOf p at
   second_of at first = (first begun.0 begun.1).0
 
   -- both have passed
-  pub is_begun : (at last : Dictionary) (free : List ℕ) → TriesAll sys p false new at → TriesAll sys p true at last →
+  pub is_begun : (at last : Dictionary) (free : List ℕ) → TriesAll sys p Linear new at → TriesAll sys p Others at last →
       at.phase ≡ new.phase → ((k : ℕ) → Contains last.key k → IsCoordinate k → Contains at.key k) → IsAscending last.key →
       free ≡ columns_in last.key → IsBegun p at last free
   is_begun at last free first second phase later ascending columns =

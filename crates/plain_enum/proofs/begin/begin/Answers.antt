@@ -1,6 +1,7 @@
 use Rattle.std.proofs.Common.{Err, true, refl, sym, ap, subst, ◌∙◌}
 use Rattle.std.specs.List.{Contains}
 use Rattle.dictionary.specs.Views.{Dictionary}
+use Rattle.linearity.specs.declared.eliminate.Pass.TheVariants.{Others}
 use Rattle.linearity.specs.Elimination.{IsDictionaryOf}
 use Rattle.plain_enum.specs.Begin.{IsBegun, HasRoomForAll}
 use Rattle.plain_enum.proofs.Begun.{same_overflow, TriesAll, new_rows, first_of, second_of, is_begun}
@@ -41,7 +42,7 @@ returns-in-Ok-with_room-clause-begun c p file =
     (is_begun c.args.sys.now c.in-Ok.at c.in-Ok.ensures refl c.keeps_limits.ensures.some c.keeps_limits.ensures.narrow
     refl c.keeps_limits.ensures.few p file at last c.in-Ok-with_room.begun.free
     (c.in_default-enter_rows.ensures.entered p file)
-    (subst (λ d. TriesAll c.args.sys.now p true d last) c.in-Ok-copy.ensures
+    (subst (λ d. TriesAll c.args.sys.now p Others d last) c.in-Ok-copy.ensures
     (c.in_default-enter_rows-2.ensures.entered p file))
     c.enter_rows.ensures.phase
     (λ k m l. subst (λ d. Contains d.key k) c.in-Ok-copy.ensures (c.enter_rows-2.ensures.fewer k m l))
