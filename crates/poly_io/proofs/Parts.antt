@@ -33,9 +33,9 @@ part_after a b c s t p q = record {
 -- ---- a row of calls
 
 -- what failed in a later call failed in all of them
-cause_after : {T E : Type 0} {before mid now : ℕ} {r : Result T E} → mid ≡ before → HasCause mid now r →
+later_cause : {T E : Type 0} {before mid now : ℕ} {r : Result T E} → mid ≡ before → HasCause mid now r →
     HasCause before now r
-cause_after {now = now} {r = r} same c = subst (λ n. HasCause n now r) same c
+later_cause {now = now} {r = r} same c = subst (λ n. HasCause n now r) same c
 
 -- no text is printed by doing nothing
 pub prints_none : {O T E : Type 0} {sink : Sink O} (o : O) (x : T) → Prints {E = E} sink o o (Ok x) []
@@ -51,12 +51,12 @@ pub prints_then : {O T U E F : Type 0} {sink : Sink O} {a b c : O} {x : U} {r : 
 prints_then {r = Ok y} {s = s} p q = record {
   whole = Appends-trans _ _ _ s _ p.whole q.whole;
   part = tt;
-  cause = cause_after p.cause.same q.cause;
+  cause = later_cause p.cause.same q.cause;
 }
 prints_then {r = Err e} {s = s} p q = record {
   whole = tt;
   part = part_after _ _ _ s _ p.whole q.part;
-  cause = cause_after p.cause.same q.cause;
+  cause = later_cause p.cause.same q.cause;
 }
 
 -- where a call failed, what would have followed is not tried
@@ -125,5 +125,5 @@ owes_cut {r = Err e} {text = text} {piece = piece} rest o split bad p =
     record {
       whole = tt;
       part = rw whole (part_after _ _ _ o.sent (piece ++ rest) o.bytes (part_before rest p.part));
-      cause = cause_after o.same (record { later = p.cause.later; failed = p.cause.failed; same = tt });
+      cause = later_cause o.same (record { later = p.cause.later; failed = p.cause.failed; same = tt });
     }
