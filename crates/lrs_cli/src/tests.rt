@@ -401,17 +401,15 @@ fn a_process_says_how_it_ends(rt: HostRuntime) -> Result<(), Fail> {
 
 #[test]
 fn prints_status_lines(rt: HostRuntime) -> Result<(), Fail> {
-    let place = |row, col| Place {
-        row: Label(row),
-        col: Label(col),
-    };
+    let place = |row, col| Place { row, col };
+    let first = Label::coordinate(1);
     let overflow = Overflow {
         phase: Phase::Cone,
-        key: Key::from_ascending(&[3, 8193, 8195]).ok_or("ascending")?,
-        a: place(2, 8193),
-        b: place(0, 65535),
-        c: place(8194, 8193),
-        d: place(2, 3),
+        key: Key::from_ascending(&[Label::row(3), first, Label::coordinate(3)]).ok_or("ascending")?,
+        a: place(Label::row(2), first),
+        b: place(Label::EXTRA, Label::CONSTANT),
+        c: place(Label::coordinate(2), first),
+        d: place(Label::row(2), Label::row(3)),
     };
     let rows = [
         (
