@@ -3,6 +3,7 @@ use Rattle.std.proofs.Common.{◌≡◌, ℕ, suc, ◌-◌, ◌<◌, ◌≤◌, 
 use Rattle.std.specs.List.{flat_map, range_with_len}
 use Rattle.std.proofs.lemmas.List.{length-append}
 use Rattle.std.proofs.lemmas.Bool.{lt-ltb}
+use Rattle.poly_model.specs.Labels.{coordinates_from, IsRow, coordinate_index}
 use Rattle.poly_model.specs.Limits.{most_columns, most_cone_rows}
 use Rattle.poly_model.specs.declared.kind.Kind.{Kind}
 use Rattle.poly_model.specs.declared.kind.Kind.TheVariants.{H, V}
@@ -20,8 +21,8 @@ use Rattle.dictionary.proofs.ConeRows.{row_in_cone}
 use Rattle.dictionary.proofs.Beginnings.{first, first_whole, cells_of, first_is_dictionary}
 
 -- the form of a row's label is the row
-row_form : (rows : List Row) (i : ℕ) → i < 8192 → label_form rows i ≡ (row_of rows i).entries
-row_form rows i l = ap (λ b. cond b (row_of rows i).entries (coordinate (i - 8192))) (lt-ltb i 8192 l)
+row_form : (rows : List Row) (i : ℕ) → IsRow i → label_form rows i ≡ (row_of rows i).entries
+row_form rows i l = ap (λ b. cond b (row_of rows i).entries (coordinate (coordinate_index i))) (lt-ltb i coordinates_from l)
 
 module _ (phase : Phase) (n : ℕ) (some : 0 < n) (narrow : n ≤ most_columns) (m : ℕ) (few : m ≤ most_cone_rows) (rows : List Row)
     (widths : (i : ℕ) → 0 < i → i ≤ m → length (row_of rows i).entries ≡ n) where

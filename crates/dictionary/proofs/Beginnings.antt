@@ -57,7 +57,7 @@ ascending_joined (x ∷ ks) ls h g below = (
   ascending_joined ks ls h.1 g (λ k l c d. below k l (Contains-later k x ks c) d),
 )
 
-key_upper : (j m k : ℕ) → Contains (map coordinate_label (range_with_len j m)) k → k < 8192 + (j + m)
+key_upper : (j m k : ℕ) → Contains (map coordinate_label (range_with_len j m)) k → k < coordinate_label (j + m)
 key_upper j zero k c = absurd (Contains-nil k c)
 key_upper j (suc m) k c =
     ⊎_elim
@@ -88,7 +88,7 @@ room_of_key : (b : Bool) (n : ℕ) → length (coordinate_key (first_label b) n)
 room_of_key true n = let l = length-map-range_with_len coordinate_label 1 (n - 1) in omega (arith, l)
 room_of_key false n = let l = length-map-range_with_len coordinate_label 0 (n - 0) in omega (arith, l)
 
-upper_of_key : (b : Bool) (n k : ℕ) → 0 < n → Contains (coordinate_key (first_label b) n) k → k < 8192 + n
+upper_of_key : (b : Bool) (n k : ℕ) → 0 < n → Contains (coordinate_key (first_label b) n) k → k < coordinate_label n
 upper_of_key true n k h c = let l = key_upper 1 (n - 1) k c in omega (arith, l)
 upper_of_key false n k h c = let l = key_upper 0 (n - 0) k c in omega (arith, l)
 

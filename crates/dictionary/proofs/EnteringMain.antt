@@ -15,7 +15,7 @@ use Rattle.poly_model.specs.declared.kind.Kind.TheVariants.{H, V}
 use Rattle.poly_model.specs.declared.overflow.Phase.TheVariants.{Main}
 use Rattle.poly_model.specs.Systems.{Row, row_of, Polyhedron, System, file_rows, added_row, cone_of}
 use Rattle.poly_model.specs.Spaces.{Space, is_member, is_left, cut_space, prepare_space, main_space}
-use Rattle.poly_model.specs.Labels.{is_row}
+use Rattle.poly_model.specs.Labels.{coordinates_from, is_row, coordinate_index}
 use Rattle.poly_model.specs.Dictionaries.{IsCobasis, Writes}
 use Rattle.dictionary_laws.specs.Keys.{place_in}
 use Rattle.dictionary_laws.specs.Numbers.{ArePrimitive}
@@ -37,7 +37,7 @@ left_if_stays rows free k e =
     ⊎_elim
     (λ (b : is_row k ≡ true).
     cond-true (is_row k) (not (row_of rows k).linear) true b
-    ∙ sym (cond-true (is_row k) (not (row_of rows k).linear) (not (is_member (k - 8192) free)) b) ∙ e)
+    ∙ sym (cond-true (is_row k) (not (row_of rows k).linear) (not (is_member (coordinate_index k) free)) b) ∙ e)
     (λ (b : is_row k ≡ false). cond-false (is_row k) (not (row_of rows k).linear) true b)
     (cases_Bool (is_row k))
 
@@ -50,7 +50,7 @@ main_labels p free = ap (λ ls. filter (is_left (cone_of p).rows) ls) (by p.kind
     by H = refl
     by V = refl
 
-few_rows : (p : Polyhedron) (sys : System) → sys ≡ cone_of p → length sys.rows ≤ most_cone_rows → length p.rows < 8192
+few_rows : (p : Polyhedron) (sys : System) → sys ≡ cone_of p → length sys.rows ≤ most_cone_rows → length p.rows < coordinates_from
 few_rows p sys e l =
     let same : length sys.rows ≡ length (cone_of p).rows = ap (λ (s : System). length s.rows) e in
     omega (arith, length-append (file_rows p) (added_row p.kind p.n (file_rows p)), count_of_rows p)
@@ -71,7 +71,7 @@ module _ (old : Dictionary) (whole : IsWhole old) (rows : List Row) (free : List
     whole_new = whole_divided (staying old rows free) least cells h whole_staying
 
     -- at a polyhedron whose main space can be entered
-    module _ (p : Polyhedron) (same : rows ≡ (cone_of p).rows) (few : length p.rows < 8192)
+    module _ (p : Polyhedron) (same : rows ≡ (cone_of p).rows) (few : length p.rows < coordinates_from)
         (d : IsDictionaryIn (prepare_space p) old) (can : CanEnterMain p free old.key (table_of old)) where
       abbrev space : Space
       space = main_space p free

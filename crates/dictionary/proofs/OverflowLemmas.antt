@@ -7,6 +7,7 @@ use Rattle.std.proofs.lemmas.List.{get_or_read_under}
 use Rattle.std.proofs.lemmas.List.Elements.{Contains-get_or}
 use Rattle.poly_num.specs.Numbers.{IsNum, Crosses}
 use Rattle.poly_num.proofs.Ring.{mul_comm}
+use Rattle.poly_model.specs.Labels.{constant_label}
 use Rattle.poly_model.specs.declared.overflow.Overflow.{Overflow}
 use Rattle.poly_model.specs.declared.overflow.Place.{Place}
 use Rattle.poly_model.specs.Dictionaries.{Table}
@@ -30,11 +31,11 @@ crosses_along : (a b c d e f g h : ℤ) → a ≡ e → b ≡ f → c ≡ g → 
 crosses_along a b c d e f g h i j k l m = rw (← i, ← j, ← k, ← l) m
 
 -- the number at a place whose column is a label
-at_entry : (t : Table) (p : Place) → p.col.0 ≢ 65535 → number_at t p ≡ t.entry p.row.0 p.col.0
-at_entry t p n = ap (λ b. cond b (t.constant p.row.0) (t.entry p.row.0 p.col.0)) (ne_eqb p.col.0 65535 n)
+at_entry : (t : Table) (p : Place) → p.col ≢ constant_label → number_at t p ≡ t.entry p.row p.col
+at_entry t p n = ap (λ b. cond b (t.constant p.row) (t.entry p.row p.col)) (ne_eqb p.col constant_label n)
 
-at_constant : (t : Table) (p : Place) → p.col.0 ≡ 65535 → number_at t p ≡ t.constant p.row.0
-at_constant t p e = ap (λ b. cond b (t.constant p.row.0) (t.entry p.row.0 p.col.0)) (eq-eqb p.col.0 65535 e)
+at_constant : (t : Table) (p : Place) → p.col ≡ constant_label → number_at t p ≡ t.constant p.row
+at_constant t p e = ap (λ b. cond b (t.constant p.row) (t.entry p.row p.col)) (eq-eqb p.col constant_label e)
 
 module _ (d : Dictionary) (r s : ℕ) (whole : IsWhole d) (can : CanPivot d r s) (i : ℕ) (hi : i < length d.labels) where
   abbrev width : ℕ
@@ -50,24 +51,24 @@ module _ (d : Dictionary) (r s : ℕ) (whole : IsWhole d) (can : CanPivot d r s)
   has_place = place_at d.labels i 0 (ascending_distinct d.labels whole.labels) hi
 
   -- a label of a column, or that of the constants
-  column_there : (j : ℕ) → j < width → Contains d.key (column_label d j) ⊎ (column_label d j ≡ 65535)
+  column_there : (j : ℕ) → j < width → Contains d.key (column_label d j) ⊎ (column_label d j ≡ constant_label)
   column_there zero h = inr refl
   column_there (suc j) h = inl (whole.same.back (get_or d.columns j 0) (Contains-get_or d.columns j 0 (omega arith)))
 
-  key_below : (k : ℕ) → Contains d.columns k → k ≢ 65535
+  key_below : (k : ℕ) → Contains d.columns k → k ≢ constant_label
   key_below k m e = let l = whole.below k (whole.inside k m) in omega arith
 
   -- the number at a row's label and a column's label is the cell
-  number_is : (a : ℕ) (p : Place) (k j : ℕ) → p.row.0 ≡ k → place_in d.labels k ≡ a → p.col.0 ≡ column_label d j → j < width →
+  number_is : (a : ℕ) (p : Place) (k j : ℕ) → p.row ≡ k → place_in d.labels k ≡ a → p.col ≡ column_label d j → j < width →
       number_at (table_of d) p ≡ cell width d.cells a j
   number_is a p k zero row there col h =
       at_constant (table_of d) p col ∙ ap (λ i. number d i 0) row ∙ ap (λ q. cell width d.cells q 0) there
   number_is a p k (suc j) row there col h =
       let m = Contains-get_or d.columns j 0 (omega arith) in
       at_entry (table_of d) p (λ e. key_below (get_or d.columns j 0) m (sym col ∙ e))
-      ∙ ap (λ i. number d i (suc (place_in d.columns p.col.0))) row
-      ∙ ap (λ k. cell width d.cells (place_in d.labels k) (suc (place_in d.columns p.col.0))) refl
-      ∙ ap (λ q. cell width d.cells q (suc (place_in d.columns p.col.0))) there
+      ∙ ap (λ i. number d i (suc (place_in d.columns p.col))) row
+      ∙ ap (λ k. cell width d.cells (place_in d.labels k) (suc (place_in d.columns p.col))) refl
+      ∙ ap (λ q. cell width d.cells q (suc (place_in d.columns p.col))) there
       ∙ ap (λ c. cell width d.cells a (suc (place_in d.columns c))) col
       ∙ ap (λ q. cell width d.cells a (suc q)) (place_at d.columns j 0 whole.distinct (omega arith))
 

@@ -6,7 +6,7 @@ use Rattle.poly_num.specs.Vectors.{scale, IsPrimitive}
 use Rattle.poly_model.specs.declared.overflow.Phase.TheVariants.{Main}
 use Rattle.poly_model.specs.Systems.{Row, row_of, Polyhedron, System, cone_of}
 use Rattle.poly_model.specs.Spaces.{is_member, prepare_space, main_space}
-use Rattle.poly_model.specs.Labels.{is_row}
+use Rattle.poly_model.specs.Labels.{is_row, coordinate_index}
 use Rattle.dictionary_laws.specs.MainSpace.{stays, CanEnterMain}
 use Rattle.dictionary.specs.Cells.{cell}
 use Rattle.dictionary.specs.Views.{Dictionary, table_of, IsDictionaryIn}
@@ -14,7 +14,7 @@ use Rattle.dictionary.specs.Views.{Dictionary, table_of, IsDictionaryIn}
 -- a label stays: it is neither that of a linear row nor that of a free coordinate
 abbrev pub stays_in : List Row → List ℕ → ℕ → Bool
 stays_in rows free k =
-    if is_row k then not (row_of rows k).linear else not (is_member (k - 8192) free)
+    if is_row k then not (row_of rows k).linear else not (is_member (coordinate_index k) free)
 
 -- the places of the labels that pass a test, where the first label has place i
 abbrev pub places_from : ℕ → (ℕ → Bool) → List ℕ → List ℕ

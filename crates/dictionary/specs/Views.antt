@@ -1,6 +1,7 @@
 -- What a `Dict` is seen as, when that is the dictionary of its cobasis, and what a pivot makes of it.
 use Rattle.std.specs.Prelude.{◌≡◌, ◌≢◌, ℕ, zero, suc, ◌<◌, ◌*◌, ℤ, pos, ◌<ℤ◌, List, length}
 use Rattle.std.specs.List.{Contains, slice_index_or}
+use Rattle.poly_model.specs.Labels.{constant_label}
 use Rattle.poly_model.specs.declared.overflow.Phase.{Phase}
 use Rattle.poly_model.specs.declared.overflow.Overflow.{Overflow}
 use Rattle.poly_model.specs.Keys.{IsAscending, IsKey}
@@ -78,7 +79,7 @@ exchange_at d r s = record {
 
 -- the label of a column of cells; the first has the constants
 abbrev pub column_label : Dictionary → ℕ → ℕ
-column_label d zero = 65535
+column_label d zero = constant_label
 column_label d (suc j) = slice_index_or d.columns j 0
 
 -- the row of a label of the cobasis: the denominator in its own column, 0 in the others
@@ -92,7 +93,7 @@ pub record IsWhole (d : Dictionary) : Type 0 where
   pub size : length d.cells ≡ length d.labels * suc (length d.columns)
   pub positive : pos 0 <ℤ d.denominator
   pub labels : IsAscending d.labels
-  pub below : (i : ℕ) → Contains d.labels i → i < 65535
+  pub below : (i : ℕ) → Contains d.labels i → i < constant_label
   pub key : IsKey d.key
   pub same : HaveSameLabels d.key d.columns
   pub distinct : AreDistinct d.columns

@@ -23,9 +23,9 @@ pub struct Dict {
     pub(crate) phase: Phase,
     pub(crate) key: Key,
     // a label for each row of cells, ascending
-    pub(crate) labels: Vec<u16>,
+    pub(crate) labels: Vec<Label>,
     // a label for each column of cells behind the first, which has the constants
-    pub(crate) columns: Vec<u16>,
+    pub(crate) columns: Vec<Label>,
     pub(crate) denominator: Num,
     pub(crate) cells: Vec<Num>,
     // room for a copy of a row
@@ -72,22 +72,22 @@ impl Dict {
 
     /// Whether it has a row for this label.
     pub fn has_label(&self, label: Label) -> bool
-        ensures { IsTrue result ↔ Contains self.now.labels label.0 }
+        ensures { IsTrue result ↔ Contains self.now.labels label }
     {
-        has(&self.labels, label.0)
+        has(&self.labels, label)
     }
 
     /// Whether this label is in the cobasis.
     pub fn in_cobasis(&self, label: Label) -> bool
-        ensures { IsTrue result ↔ Contains self.now.key label.0 }
+        ensures { IsTrue result ↔ Contains self.now.key label }
     {
-        has(self.key.labels(), label.0)
+        has(self.key.labels(), label)
     }
 
     /// The constant of a label.
     pub fn constant(&self, row: Label) -> Num
-        requires { Contains self.now.labels row.0 }
-        ensures { result ≡ Table.constant (table_of self.now) row.0 }
+        requires { Contains self.now.labels row }
+        ensures { result ≡ Table.constant (table_of self.now) row }
     {
         self.number(self.row_of(row), 0)
     }
@@ -95,11 +95,11 @@ impl Dict {
     /// The entry of a label in the column of a label of the cobasis. That of such a label itself is the
     /// denominator in its own column, and 0 in the others.
     pub fn entry(&self, row: Label, col: Label) -> Num
-        requires row { Contains self.now.labels row.0 }
-        requires column { Contains self.now.key col.0 }
-        ensures value { result ≡ Table.entry (table_of self.now) row.0 col.0 }
-        ensures own { row.0 ≡ col.0 → result ≡ self.now.denominator }
-        ensures unit { Contains self.now.key row.0 → row.0 ≢ col.0 → result ≡ pos 0 }
+        requires row { Contains self.now.labels row }
+        requires column { Contains self.now.key col }
+        ensures value { result ≡ Table.entry (table_of self.now) row col }
+        ensures own { row ≡ col → result ≡ self.now.denominator }
+        ensures unit { Contains self.now.key row → row ≢ col → result ≡ pos 0 }
     {
         let i = self.row_of(row);
         let j = self.column_of(col);
@@ -139,20 +139,20 @@ impl Dict {
 
     // The row of cells of a label.
     pub(crate) fn row_of(&self, row: Label) -> usize
-        requires { Contains self.now.labels row.0 }
-        ensures value { result ≡ place_in self.now.labels row.0 }
+        requires { Contains self.now.labels row }
+        ensures value { result ≡ place_in self.now.labels row }
         ensures within { result < length self.now.labels }
     {
-        place_of(&self.labels, row.0)
+        place_of(&self.labels, row)
     }
 
     // The column of cells of a label of the cobasis.
     pub(crate) fn column_of(&self, col: Label) -> usize
-        requires { Contains self.now.key col.0 }
-        ensures value { result ≡ suc (place_in self.now.columns col.0) }
+        requires { Contains self.now.key col }
+        ensures value { result ≡ suc (place_in self.now.columns col) }
         ensures within { result < suc (length self.now.columns) }
     {
-        place_of(&self.columns, col.0) + 1
+        place_of(&self.columns, col) + 1
     }
 
     // The number in row i and column j of the cells.

@@ -2,40 +2,23 @@
 ghost use Rattle.std.specs.Prelude.{◌≡◌, ◌<◌, ◌*◌, ◌<ℤ◌, ◌++◌, suc, pos, IfOk, length};
 ghost use Rattle.std.specs.Result.{OnOk};
 ghost use Rattle.std.specs.List.{All, filter};
-ghost use Rattle.poly_model.specs.Systems.{row_of};
-ghost use Rattle.poly_model.specs.Spaces.{is_member};
 ghost use Rattle.dictionary.specs.MainPhase.{stays_in, places_from, kept_row, kept_cells, IsDividedOut, EntersMainPhase};
 
 use crate::Dict;
 use crate::cells::{at_place, cell_at};
 use crate::places::key_of;
-use poly_model::{OutOfMemory, Phase, System};
+use poly_model::{FreeColumns, Label, OutOfMemory, Phase, System};
 use poly_num::{Num, primitive};
 use std::alloc::Global;
 
-// Whether row i of the cone, counted from 1, is linear. A row that is not there is not.
-fn is_linear(sys: &System, i: u16) -> bool
-    ensures { result ≡ (row_of sys.now.rows i).linear }
-{
-    let row = u32::from(i);
-    row > 0 && row <= sys.rows() && sys.is_linear(row)
-}
-
-// Whether column j is free.
-fn is_free(free: &[u32], j: u16) -> bool
-    ensures { result ≡ is_member j free.now }
-{
-    free.contains(&u32::from(j))
-}
-
 // Whether a label stays: it is neither that of a linear row nor that of a free coordinate.
-fn stays(sys: &System, free: &[u32], label: u16) -> bool
+fn stays(sys: &System, free: &FreeColumns, label: Label) -> bool
     ensures { result ≡ stays_in sys.now.rows free.now label }
 {
-    if label < 8192 {
-        !is_linear(sys, label)
+    if label.is_row() {
+        !sys.is_linear_row(label)
     } else {
-        !is_free(free, label - 8192)
+        !free.contains(label.coordinate_index())
     }
 }
 
@@ -43,8 +26,8 @@ fn stays(sys: &System, free: &[u32], label: u16) -> bool
 fn kept_places(
     alloc: Global,
     sys: &System,
-    free: &[u32],
-    labels: &[u16],
+    free: &FreeColumns,
+    labels: &[Label],
 ) -> Result<Vec<usize>, OutOfMemory>
     ensures { IfOk result (λ v. v.items ≡ places_from 0 (stays_in sys.now.rows free.now) labels.now) }
 {
@@ -61,9 +44,9 @@ fn kept_places(
 fn kept_labels(
     alloc: Global,
     sys: &System,
-    free: &[u32],
-    labels: &[u16],
-) -> Result<Vec<u16>, OutOfMemory>
+    free: &FreeColumns,
+    labels: &[Label],
+) -> Result<Vec<Label>, OutOfMemory>
     ensures { IfOk result (λ v. v.items ≡ filter (stays_in sys.now.rows free.now) labels.now) }
 {
     let mut kept = Vec::new(alloc);
@@ -135,17 +118,18 @@ impl Dict {
     /// the free coordinates, over its own least denominator; the rows of the equations go. `free` are
     /// the free columns of the cone, ascending. Takes memory for the new table; where there is none the
     /// dictionary is given up.
-    pub fn to_main(self, sys: &System, free: &[u32]) -> Result<Dict, OutOfMemory>
+    pub fn to_main(self, sys: &System, free: &FreeColumns) -> Result<Dict, OutOfMemory>
         ensures { IfOk result (λ d. EntersMainPhase self sys.now free.now d) }
     {
         let alloc = *self.cells.allocator();
-        // at most `MOST_CONE_ROWS` rows: no label of a row is that of a coordinate
-        let _rows = sys.rows();
-        let rows = kept_places(alloc, sys, &[], &self.labels)?;
+        let none = FreeColumns::from_vec(Vec::new(alloc));
+        // no label of a row is that of a coordinate
+        sys.keeps_limits();
+        let rows = kept_places(alloc, sys, &none, &self.labels)?;
         let places = kept_places(alloc, sys, free, &self.columns)?;
         let mut cells = self.kept_cells(&rows, &places)?;
         let denominator = divide_out(&mut cells, self.denominator)?;
-        let labels = kept_labels(alloc, sys, &[], &self.labels)?;
+        let labels = kept_labels(alloc, sys, &none, &self.labels)?;
         let columns = kept_labels(alloc, sys, free, &self.columns)?;
         let key_labels = kept_labels(alloc, sys, free, self.key.labels())?;
         let key = key_of(&key_labels);

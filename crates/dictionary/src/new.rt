@@ -10,7 +10,7 @@ ghost use Rattle.dictionary.specs.New.{first_label, has_constants, row_count, ro
 
 use crate::Dict;
 use crate::places::key_of;
-use poly_model::{Kind, OutOfMemory, Phase, System};
+use poly_model::{Kind, Label, OutOfMemory, Phase, System};
 use poly_num::Num;
 use std::alloc::Global;
 
@@ -64,29 +64,29 @@ fn row_count(sys: &System, constants: bool) -> u32
 }
 
 // The labels of the coordinates, without the one at infinity where that reads constants.
-fn coordinate_labels(alloc: Global, constants: bool, n: u32) -> Result<Vec<u16>, OutOfMemory>
+fn coordinate_labels(alloc: Global, constants: bool, n: u32) -> Result<Vec<Label>, OutOfMemory>
     requires some { 0 < n }
     requires narrow { n ≤ most_columns }
     ensures value { IfOk result (λ v. v.items ≡ coordinate_key (first_label constants) n) }
     ensures narrow { IfOk result (λ v. vec_len v ≤ most_columns) }
     ensures key { IfOk result (λ v. IsKey v.items) }
 {
-    let first: u16 = if constants { 1 } else { 0 };
+    let first: u32 = if constants { 1 } else { 0 };
     let mut labels = Vec::new(alloc);
-    for j in first..n as u16 {
-        labels.push(8192 + j)?;
+    for j in first..n {
+        labels.push(Label::coordinate(j))?;
     }
     Ok(labels)
 }
 
 // The labels of the rows, and then those.
-fn all_labels(alloc: Global, rows: u32, columns: &[u16]) -> Result<Vec<u16>, OutOfMemory>
+fn all_labels(alloc: Global, rows: u32, columns: &[Label]) -> Result<Vec<Label>, OutOfMemory>
     requires { rows ≤ most_cone_rows }
     ensures { IfOk result (λ v. v.items ≡ range_with_len 1 rows ++ columns.now) }
 {
     let mut labels = Vec::with_capacity(alloc, rows as usize + columns.len())?;
-    for i in 0..rows as u16 {
-        labels.push(i + 1)?;
+    for i in 0..rows {
+        labels.push(Label::row(i + 1))?;
     }
     labels.extend_from_slice(columns)?;
     Ok(labels)

@@ -2,6 +2,7 @@
 ghost use Rattle.std.specs.Prelude.{◌≡◌, ◌<◌, ◌↔◌, IsTrue, suc, length, IfOk, IfErr};
 ghost use Rattle.std.specs.Result.{IsOk};
 ghost use Rattle.std.specs.List.{Contains};
+ghost use Rattle.poly_model.specs.Overflows.{IsPlace};
 ghost use Rattle.dictionary.specs.Cells.{AreNarrow, Fits, PassesAt};
 ghost use Rattle.dictionary.specs.Views.{exchange_at, column_label, CanPivot, IsPivot, IsOverflow, NothingPasses};
 
@@ -13,11 +14,17 @@ use crate::places::place_of;
 use poly_model::{Label, Overflow, Place};
 use poly_num::Num;
 
+fn place(row: Label, col: Label) -> Place
+    ensures { IsPlace result row col }
+{
+    Place { row, col }
+}
+
 impl Dict {
     /// Whether `row` can take the place of `col`: it is a label outside the cobasis, `col` is in it, and
     /// the entry of the two is not 0.
     pub fn can_pivot(&self, row: Label, col: Label) -> bool
-        ensures { IsTrue result ↔ CanPivot self.now row.0 col.0 }
+        ensures { IsTrue result ↔ CanPivot self.now row col }
     {
         self.has_label(row)
             && !self.in_cobasis(row)
@@ -30,11 +37,11 @@ impl Dict {
     /// Every product and every difference of two is tested before the first number is written. Where one
     /// has no 127 bits, the answer names the dictionary and its places, and nothing has changed.
     pub fn pivot(&mut self, row: Label, col: Label) -> Result<(), Overflow>
-        requires { CanPivot self.old row.0 col.0 }
-        ensures pivoted { IfOk result (λ _. IsPivot self.old row.0 col.0 self.new) }
+        requires { CanPivot self.old row col }
+        ensures pivoted { IfOk result (λ _. IsPivot self.old row col self.new) }
         ensures unchanged { IfErr result (λ _. self.new ≡ self.old) }
-        ensures passes { IfErr result (λ o. IsOverflow self.old row.0 col.0 o) }
-        ensures complete { NothingPasses self.old row.0 col.0 → IsOk result }
+        ensures passes { IfErr result (λ o. IsOverflow self.old row col o) }
+        ensures complete { NothingPasses self.old row col → IsOk result }
     {
         let x = self.exchange_of(row, col);
         let narrow = self.is_narrow();
@@ -56,9 +63,9 @@ impl Dict {
 
     // The exchange of their row and column.
     fn exchange_of(&self, row: Label, col: Label) -> Exchange
-        requires row { Contains self.now.labels row.0 }
-        requires column { Contains self.now.key col.0 }
-        ensures { result ≡ exchange_at self.now row.0 col.0 }
+        requires row { Contains self.now.labels row }
+        requires column { Contains self.now.key col }
+        ensures { result ≡ exchange_at self.now row col }
     {
         Exchange {
             height: self.labels.len(),
@@ -71,38 +78,39 @@ impl Dict {
 
     // The exchange, where nothing passes.
     fn carry_out(&mut self, row: Label, col: Label, x: &Exchange, narrow: bool)
-        requires can { CanPivot self.old row.0 col.0 }
-        requires exchange { x.now ≡ exchange_at self.old row.0 col.0 }
+        requires can { CanPivot self.old row col }
+        requires exchange { x.now ≡ exchange_at self.old row col }
         requires fits { Fits x.now self.old.cells }
         requires narrow { IsTrue narrow → AreNarrow self.old.cells self.old.denominator }
-        ensures { IsPivot self.old row.0 col.0 self.new }
+        ensures { IsPivot self.old row col self.new }
     {
-        let at = place_of(self.key.labels(), col.0);
+        let at = place_of(self.key.labels(), col);
         self.narrow = exchange_cells(&mut self.cells, &mut self.pivot_row, x, narrow);
         self.denominator = at_place(&self.cells, x.row * x.width + x.column);
-        self.key = self.key.without_at(at).with(row.0);
-        self.columns[x.column - 1] = row.0;
+        self.key = self.key.without_at(at).with(row);
+        self.columns[x.column - 1] = row;
     }
 
     // The overflow of the exchange at a place of the cells.
     fn overflow_at(&self, row: Label, col: Label, spot: Spot) -> Overflow
-        requires can { CanPivot self.now row.0 col.0 }
-        requires passes { PassesAt (exchange_at self.now row.0 col.0) self.now.cells spot.row spot.column }
-        ensures { IsOverflow self.now row.0 col.0 result }
+        requires can { CanPivot self.now row col }
+        requires passes { PassesAt (exchange_at self.now row col) self.now.cells spot.row spot.column }
+        ensures { IsOverflow self.now row col result }
     {
-        let label = Label(self.labels[spot.row]);
-        let at = Place { row: label, col };
+        let label = self.labels[spot.row];
+        let at = place(label, col);
         if spot.column == self.column_of(col) {
-            let own = Place { row: col, col };
-            self.overflow(at, own, at, own)
+            // a place cannot be passed twice
+            let same = place(label, col);
+            let own = place(col, col);
+            let denominator = place(col, col);
+            self.overflow(at, own, same, denominator)
         } else {
             let other = self.column_label(spot.column);
-            let pivot = Place { row, col };
-            let inside = Place {
-                row: label,
-                col: other,
-            };
-            self.overflow(pivot, inside, at, Place { row, col: other })
+            let pivot = place(row, col);
+            let inside = place(label, other);
+            let across = place(row, other);
+            self.overflow(pivot, inside, at, across)
         }
     }
 
@@ -122,12 +130,12 @@ impl Dict {
     // The label of a column of the cells.
     fn column_label(&self, column: usize) -> Label
         requires { column < suc (length self.now.columns) }
-        ensures { result.0 ≡ column_label self.now column }
+        ensures { result ≡ column_label self.now column }
     {
         if column == 0 {
             Label::CONSTANT
         } else {
-            Label(self.columns[column - 1])
+            self.columns[column - 1]
         }
     }
 }

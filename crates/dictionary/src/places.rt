@@ -4,17 +4,17 @@ ghost use Rattle.std.specs.List.{Contains};
 ghost use Rattle.poly_model.specs.Keys.{IsKey};
 ghost use Rattle.dictionary_laws.specs.Keys.{place_in};
 
-use poly_model::Key;
+use poly_model::{Key, Label};
 
 /// How many labels stand before the first that is `label`.
 #[tactic(auto, using(crate::proofs::PlaceLemmas::place_within, crate::proofs::PlaceLemmas::place_has))]
-pub fn place_of(labels: &[u16], label: u16) -> usize
+pub fn place_of(labels: &[Label], label: Label) -> usize
     ensures value { result ≡ place_in labels.now label }
     ensures within { Contains labels.now label → result < length labels.now }
     ensures member { result < length labels.now → Contains labels.now label }
 {
     'labels: for (i, l) in labels.iter().enumerate() {
-        if *l == label {
+        if l.is_same(label) {
             return i;
         }
     }
@@ -22,14 +22,14 @@ pub fn place_of(labels: &[u16], label: u16) -> usize
 }
 
 /// Whether `label` is one of them.
-pub fn has(labels: &[u16], label: u16) -> bool
+pub fn has(labels: &[Label], label: Label) -> bool
     ensures { IsTrue result ↔ Contains labels.now label }
 {
     place_of(labels, label) < labels.len()
 }
 
 /// The key of ascending labels.
-pub fn key_of(labels: &[u16]) -> Key
+pub fn key_of(labels: &[Label]) -> Key
     requires { IsKey labels.now }
     ensures { result ≡ labels.now }
 {

@@ -1,19 +1,15 @@
 //! Dictionaries worked out by hand.
-ghost use Rattle.std.specs.Prelude.{◌≡◌, IfOk, length};
+ghost use Rattle.std.specs.Prelude.{◌≡◌, ◌<◌, IfOk, length};
+ghost use Rattle.poly_model.specs.Labels.{coordinates_from};
 
 use crate::Dict;
 use poly_model::{
-    Key, Kind, Label, MOST_COLUMNS, OutOfMemory, Overflow, Phase, Place, RowKind, System,
+    FreeColumns, Key, Kind, Label, MOST_COLUMNS, OutOfMemory, Overflow, Phase, Place, RowKind,
+    System,
 };
 use poly_num::Num;
 use std::alloc::Global;
 use std::test::Fail;
-
-const X0: Label = Label(8192);
-
-const X1: Label = Label(8193);
-
-const X2: Label = Label(8194);
 
 /// Two rows of three numbers, an exchange, and the dictionary after it: its key, its denominator, and
 /// for the labels 1, 2, x1 and x2 the constant and the entry at each label of the key.
@@ -24,9 +20,22 @@ struct Case {
     second: [i128; 3],
     row: Label,
     col: Label,
-    key: [u16; 2],
+    key: [Label; 2],
     denominator: i128,
     numbers: [[i128; 3]; 4],
+}
+
+fn row(i: u32) -> Label
+    requires positive { 0 < i }
+    requires within { i < coordinates_from }
+{
+    Label::row(i)
+}
+
+fn x(j: u32) -> Label
+    requires { j < coordinates_from }
+{
+    Label::coordinate(j)
 }
 
 fn num(value: i128) -> Num {
@@ -86,11 +95,11 @@ fn pivot(dict: &mut Dict, row: Label, col: Label) -> Option<Result<(), Overflow>
 }
 
 /// The numbers of a label: its constant, and its entries at two labels.
-fn numbers(dict: &Dict, row: Label, key: [u16; 2]) -> [Option<i128>; 3] {
+fn numbers(dict: &Dict, row: Label, key: [Label; 2]) -> [Option<i128>; 3] {
     [
         constant(dict, row),
-        entry(dict, row, Label(key[0])),
-        entry(dict, row, Label(key[1])),
+        entry(dict, row, key[0]),
+        entry(dict, row, key[1]),
     ]
 }
 
@@ -98,43 +107,45 @@ fn known(numbers: [i128; 3]) -> [Option<i128>; 3] {
     [Some(numbers[0]), Some(numbers[1]), Some(numbers[2])]
 }
 
-const CASES: [Case; 3] = [
-    Case {
-        name: "row 1 for x1",
-        first: [1, 2, -3],
-        second: [0, 0, 1],
-        row: Label(1),
-        col: X1,
-        key: [1, 8194],
-        denominator: 2,
-        numbers: [[0, 2, 0], [0, 0, 2], [-1, 1, 3], [0, 0, 2]],
-    },
-    Case {
-        name: "a negative entry turns the signs",
-        first: [4, -2, 6],
-        second: [1, 1, 1],
-        row: Label(1),
-        col: X1,
-        key: [1, 8194],
-        denominator: 2,
-        numbers: [[0, 2, 0], [6, -1, 8], [4, -1, 6], [0, 0, 2]],
-    },
-    Case {
-        name: "numbers of more than one word",
-        first: [0, 1 << 63, 1],
-        second: [1, 0, 3],
-        row: Label(1),
-        col: X1,
-        key: [1, 8194],
-        denominator: 1 << 63,
-        numbers: [
-            [0, 1 << 63, 0],
-            [1 << 63, 0, 3 << 63],
-            [0, 1, -1],
-            [0, 0, 1 << 63],
-        ],
-    },
-];
+fn cases() -> [Case; 3] {
+    [
+        Case {
+            name: "row 1 for x1",
+            first: [1, 2, -3],
+            second: [0, 0, 1],
+            row: row(1),
+            col: x(1),
+            key: [row(1), x(2)],
+            denominator: 2,
+            numbers: [[0, 2, 0], [0, 0, 2], [-1, 1, 3], [0, 0, 2]],
+        },
+        Case {
+            name: "a negative entry turns the signs",
+            first: [4, -2, 6],
+            second: [1, 1, 1],
+            row: row(1),
+            col: x(1),
+            key: [row(1), x(2)],
+            denominator: 2,
+            numbers: [[0, 2, 0], [6, -1, 8], [4, -1, 6], [0, 0, 2]],
+        },
+        Case {
+            name: "numbers of more than one word",
+            first: [0, 1 << 63, 1],
+            second: [1, 0, 3],
+            row: row(1),
+            col: x(1),
+            key: [row(1), x(2)],
+            denominator: 1 << 63,
+            numbers: [
+                [0, 1 << 63, 0],
+                [1 << 63, 0, 3 << 63],
+                [0, 1, -1],
+                [0, 0, 1 << 63],
+            ],
+        },
+    ]
+}
 
 /// What a pivot makes of the dictionary of the coordinates, and what the pivot back makes of that.
 #[derive(Clone, Copy, PartialEq, Eq, Debug)]
@@ -155,10 +166,10 @@ fn outcome_of(alloc: Global, case: &Case) -> Result<Outcome, OutOfMemory> {
     let mut dict = Dict::new(alloc, &sys, Phase::Prepare)?;
     let pivoted = pivot(&mut dict, case.row, case.col);
     let (key, denominator) = (dict.key(), dict.denominator().get());
-    let first_row = numbers(&dict, Label(1), case.key);
-    let second_row = numbers(&dict, Label(2), case.key);
-    let x1 = numbers(&dict, X1, case.key);
-    let x2 = numbers(&dict, X2, case.key);
+    let first_row = numbers(&dict, row(1), case.key);
+    let second_row = numbers(&dict, row(2), case.key);
+    let x1 = numbers(&dict, x(1), case.key);
+    let x2 = numbers(&dict, x(2), case.key);
     let back = pivot(&mut dict, case.col, case.row);
     Ok(Outcome {
         pivoted,
@@ -169,13 +180,13 @@ fn outcome_of(alloc: Global, case: &Case) -> Result<Outcome, OutOfMemory> {
         x1,
         x2,
         back,
-        first_again: numbers(&dict, Label(1), [8193, 8194]),
+        first_again: numbers(&dict, row(1), [x(1), x(2)]),
     })
 }
 
 #[test]
 fn pivots_worked_out_by_hand(rt: HostRuntime) -> Result<(), Fail> {
-    for case in CASES {
+    for case in cases() {
         let [a, b, c, d] = case.numbers;
         let want = Outcome {
             pivoted: Some(Ok(())),
@@ -200,25 +211,22 @@ fn refuses_what_passes(rt: HostRuntime) -> Result<(), Fail> {
     let sys = system(alloc, first, false, second)?;
     let mut dict = Dict::new(alloc, &sys, Phase::Prepare)?;
     let key = dict.key();
-    assert_eq!(rt; key.labels(), [8193, 8194].as_slice());
-    let place = |row: u16, col: Label| Place {
-        row: Label(row),
-        col,
-    };
+    assert_eq!(rt; key.labels(), [x(1), x(2)].as_slice());
+    let place = |row: Label, col: Label| Place { row, col };
     let overflow = Overflow {
         phase: Phase::Prepare,
         key,
-        a: place(1, X1),
-        b: place(2, X2),
-        c: place(2, X1),
-        d: place(1, X2),
+        a: place(row(1), x(1)),
+        b: place(row(2), x(2)),
+        c: place(row(2), x(1)),
+        d: place(row(1), x(2)),
     };
-    assert_eq!(rt; pivot(&mut dict, Label(1), X1), Some(Err(overflow)));
+    assert_eq!(rt; pivot(&mut dict, row(1), x(1)), Some(Err(overflow)));
     assert_eq!(rt; dict.key(), key);
     assert_eq!(rt; dict.denominator(), Num::ONE);
-    assert_eq!(rt; numbers(&dict, Label(1), [8193, 8194]), known(first));
-    assert_eq!(rt; numbers(&dict, Label(2), [8193, 8194]), known(second));
-    assert_eq!(rt; pivot(&mut dict, X1, X2), None);
+    assert_eq!(rt; numbers(&dict, row(1), [x(1), x(2)]), known(first));
+    assert_eq!(rt; numbers(&dict, row(2), [x(1), x(2)]), known(second));
+    assert_eq!(rt; pivot(&mut dict, x(1), x(2)), None);
     Ok(())
 }
 
@@ -228,10 +236,10 @@ fn the_cone_has_no_constants(rt: HostRuntime) -> Result<(), Fail> {
     let sys = system(alloc, [1, 2, -3], false, [0, 0, 1])?;
     let dict = Dict::new(alloc, &sys, Phase::Cone)?;
     assert_eq!(rt; dict.phase(), Phase::Cone);
-    assert_eq!(rt; dict.key().labels(), [8192, 8193, 8194].as_slice());
-    assert_eq!(rt; numbers(&dict, Label(1), [8192, 8194]), known([0, 1, -3]));
-    assert_eq!(rt; numbers(&dict, Label(3), [8192, 8193]), known([0, 1, 0]));
-    assert_eq!(rt; entry(&dict, X0, X0), Some(1));
+    assert_eq!(rt; dict.key().labels(), [x(0), x(1), x(2)].as_slice());
+    assert_eq!(rt; numbers(&dict, row(1), [x(0), x(2)]), known([0, 1, -3]));
+    assert_eq!(rt; numbers(&dict, row(3), [x(0), x(1)]), known([0, 1, 0]));
+    assert_eq!(rt; entry(&dict, x(0), x(0)), Some(1));
     let mut other = dict.copy()?;
     dict.copy_into(&mut other);
     assert_eq!(rt; other.key(), dict.key());
@@ -242,18 +250,18 @@ fn the_cone_has_no_constants(rt: HostRuntime) -> Result<(), Fail> {
 fn the_main_phase_has_no_equation(rt: HostRuntime) -> Result<(), Fail> {
     let sys = system(rt.alloc(), [0, 1, -1], true, [3, 2, 1])?;
     let mut dict = Dict::new(rt.alloc(), &sys, Phase::Prepare)?;
-    assert_eq!(rt; pivot(&mut dict, Label(1), X1), Some(Ok(())));
-    let main = dict.to_main(&sys, &[])?;
+    assert_eq!(rt; pivot(&mut dict, row(1), x(1)), Some(Ok(())));
+    let main = dict.to_main(&sys, &FreeColumns::from_vec(Vec::new(rt.alloc())))?;
     assert_eq!(rt; main.phase(), Phase::Main);
-    assert_eq!(rt; main.key().labels(), [8194].as_slice());
+    assert_eq!(rt; main.key().labels(), [x(2)].as_slice());
     assert_eq!(rt; main.denominator(), Num::ONE);
-    assert_eq!(rt; constant(&main, Label(1)), None);
+    assert_eq!(rt; constant(&main, row(1)), None);
     assert_eq!(rt;
-        (constant(&main, Label(2)), entry(&main, Label(2), X2)),
+        (constant(&main, row(2)), entry(&main, row(2), x(2))),
         (Some(3), Some(3))
     );
     assert_eq!(rt;
-        (constant(&main, X1), entry(&main, X1, X2)),
+        (constant(&main, x(1)), entry(&main, x(1), x(2))),
         (Some(0), Some(1))
     );
     Ok(())
@@ -282,7 +290,7 @@ fn row_of(alloc: Global, dict: &Dict, row: Label) -> Result<Vec<Option<i128>>, O
     numbers.push(constant(dict, row))?;
     let key = dict.key();
     for label in key.labels() {
-        numbers.push(entry(dict, row, Label(*label)))?;
+        numbers.push(entry(dict, row, *label))?;
     }
     Ok(numbers)
 }
@@ -296,8 +304,8 @@ fn copies_a_hundred_columns(rt: HostRuntime) -> Result<(), Fail> {
     assert_eq!(rt; copy.key(), dict.key());
     assert_eq!(rt; copy.phase(), dict.phase());
     assert_eq!(rt; copy.denominator(), dict.denominator());
-    let row = row_of(rt.alloc(), &copy, Label(1))?;
-    assert_eq!(rt; row, row_of(rt.alloc(), &dict, Label(1))?);
-    assert_eq!(rt; row.len(), 100);
+    let numbers = row_of(rt.alloc(), &copy, row(1))?;
+    assert_eq!(rt; numbers, row_of(rt.alloc(), &dict, row(1))?);
+    assert_eq!(rt; numbers.len(), 100);
     Ok(())
 }

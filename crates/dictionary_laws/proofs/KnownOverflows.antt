@@ -162,7 +162,7 @@ module _ (p q : ℕ) where
 
 -- rows 1 and 2, columns x1 and x2
 abbrev place : ℕ → ℕ → Place
-place i j = record { row = record { 0 = i }; col = record { 0 = j } }
+place i j = record { row = i; col = j }
 
 abbrev overflow : Overflow
 overflow = record {

@@ -7,14 +7,14 @@ use Rattle.std.proofs.lemmas.Bool.{cond-false, ne_eqb}
 use Rattle.poly_num.specs.Vectors.{Vector, ◌·◌}
 use Rattle.poly_num.proofs.Ring.{lin}
 use Rattle.poly_model.specs.Spaces.{Space, is_member}
-use Rattle.poly_model.specs.Labels.{coordinate_label}
+use Rattle.poly_model.specs.Labels.{coordinate_label, constant_label}
 use Rattle.poly_model.specs.Dictionaries.{Table, sum_over}
 use Rattle.dictionary_laws.proofs.Members.{sum_zero}
 use Rattle.dictionary_laws.proofs.Directions.{times_zero, zero_times}
 use Rattle.dictionary_laws.proofs.Values.{terms, value_along}
 use Rattle.dictionary_laws.proofs.Filters.{member_only}
 use Rattle.dictionary.specs.Views.{Dictionary, IsDictionaryIn, table_of}
-use Rattle.hull_lift.specs.Facets.{constant_label, number_in, infinity_in, coordinate_in}
+use Rattle.hull_lift.specs.Facets.{number_in, infinity_in, coordinate_in}
 use Rattle.hull_lift.specs.Laws.{IsAlong, IsZeroOnCobasis}
 
 -- the form of coordinate j: that of its label, or that at infinity where it has none

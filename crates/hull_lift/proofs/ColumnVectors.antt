@@ -7,7 +7,8 @@ use Rattle.poly_model.specs.Systems.{Polyhedron}
 use Rattle.poly_model.specs.Cones.{at}
 use Rattle.poly_model.specs.Spaces.{Space}
 use Rattle.dictionary.specs.Views.{Dictionary, IsDictionaryIn}
-use Rattle.hull_lift.specs.Facets.{constant_label, coordinate_in, column_of}
+use Rattle.hull_lift.specs.Facets.{coordinate_in, column_of}
+use Rattle.poly_model.specs.Labels.{constant_label}
 use Rattle.hull_lift.specs.Laws.{IsInColumn, ColumnVectors}
 use Rattle.hull_lift.proofs.ColumnNumbers.{Has, along, at_point}
 use Rattle.hull_lift.proofs.SpaceVectors.{IsOver, over_phase}

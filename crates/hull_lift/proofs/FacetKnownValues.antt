@@ -5,11 +5,12 @@
 -- and the V file of the point 0 and the ray to the right on a line, at the cobasis of both rows.
 use Rattle.std.proofs.Common.{◌≡◌, ℕ, zero, suc, true, false, [], ◌∷◌, pos, negsuc, refl, arith}
 use Rattle.std.proofs.lemmas.Int.{ints}
+use Rattle.poly_model.specs.Labels.{coordinates_from, constant_label}
 use Rattle.poly_model.specs.declared.kind.Kind.TheVariants.{V}
 use Rattle.poly_model.specs.declared.overflow.Phase.TheVariants.{Cone, Main}
 use Rattle.poly_model.specs.Systems.{System}
 use Rattle.dictionary.specs.Views.{Dictionary}
-use Rattle.hull_lift.specs.Facets.{constant_label, column_of, IsTouchedAt, IsShownColumn}
+use Rattle.hull_lift.specs.Facets.{column_of, IsTouchedAt, IsShownColumn}
 
 -- ---- the H file
 
@@ -52,7 +53,7 @@ half_line = record {
 abbrev facets : Dictionary
 facets = record {
   phase = Cone;
-  labels = 1 ∷ 2 ∷ 8192 ∷ 8193 ∷ [];
+  labels = 1 ∷ 2 ∷ coordinates_from ∷ 8193 ∷ [];
   key = 1 ∷ 2 ∷ [];
   columns = 1 ∷ 2 ∷ [];
   denominator = pos 1;

@@ -15,7 +15,7 @@ use Rattle.poly_model.proofs.RowLemmas.{row_from_one}
 use Rattle.poly_model.specs.Cones.{coordinate}
 use Rattle.poly_model.specs.Extreme.{TouchesPoint, IsShown}
 use Rattle.poly_model.specs.Spaces.{Space, label_form}
-use Rattle.poly_model.specs.Labels.{is_row}
+use Rattle.poly_model.specs.Labels.{coordinates_from, is_row, coordinate_index}
 use Rattle.poly_model.specs.Dictionaries.{Table}
 use Rattle.dictionary_laws.proofs.Directions.{times_zero, zero_times}
 use Rattle.dictionary_laws.proofs.Values.{value_along}
@@ -34,7 +34,7 @@ zero_back : (e v a x : ℤ) → x ≢ pos 0 → e *ℤ v ≡ a *ℤ x → v ≡ 
 zero_back e v a x n h z = zero_factor x a (mul_comm x a ∙ sym h ∙ times_zero e v z) n
 
 module _ (p : Polyhedron) (space : Space) (d : Dictionary) (is : IsDictionaryIn space d)
-    (few : length (cone_of p).rows < 8192)
+    (few : length (cone_of p).rows < coordinates_from)
     (col : ℕ) (in_key : Contains d.key col) (z : Vector) (a : IsAlong space d col z) (n : space.form col · z ≢ pos 0)
     (c : IsInColumn p space d col z (space.form col · z)) where
   -- the value of a row's label at z is that of the row at the vector
@@ -43,9 +43,9 @@ module _ (p : Polyhedron) (space : Space) (d : Dictionary) (is : IsDictionaryIn 
       ≡ Table.entry (table_of d) i col *ℤ (space.form col · z)
   row_value i l w =
       let label : Contains space.labels i = subst (λ ks. Contains ks i) is.labels l in
-      let row : is_row i ≡ true = lt-ltb i 8192 (omega arith) in
+      let row : is_row i ≡ true = lt-ltb i coordinates_from (omega arith) in
       let form : label_form (cone_of p).rows i ≡ (row_of (cone_of p).rows i).entries =
-      cond-true (is_row i) (row_of (cone_of p).rows i).entries (coordinate (i - 8192)) row in
+      cond-true (is_row i) (row_of (cone_of p).rows i).entries (coordinate (coordinate_index i)) row in
       ap (λ t. d.denominator *ℤ t) (ap (λ (g : Vector). g · c.vector) (sym form) ∙ sym (c.values i label))
       ∙ value_along space d.key is.dictionary.cobasis (table_of d) is.dictionary.writes i label col
       in_key z a.direction a.others

@@ -13,7 +13,7 @@ use Rattle.poly_model.specs.declared.overflow.Phase.TheVariants.{Cone, Prepare, 
 use Rattle.poly_model.specs.Systems.{Row, row_of, Polyhedron, file_rows, cone_of}
 use Rattle.poly_model.specs.Cones.{at, coordinate}
 use Rattle.poly_model.specs.Spaces.{Space, IsInside, IsSpaceOf, is_left, is_member, label_form, labels_of, in_front, with_constants, without_constants, linear_rows, cut_space, cone_space, prepare_space, main_space}
-use Rattle.poly_model.specs.Labels.{coordinate_label, is_row}
+use Rattle.poly_model.specs.Labels.{coordinates_from, is_row, coordinate_label, coordinate_index}
 use Rattle.linear_laws.proofs.Entries.{coordinate_reads}
 use Rattle.dictionary_laws.specs.Coordinates.{first_coordinate}
 use Rattle.dictionary_laws.proofs.Filters.{filter_only, filter_kept, range_only, range_has, map_only, map_has, member_has}
@@ -41,7 +41,7 @@ coordinate_is_label m first n j l h =
 coordinate_is_left : (rows : List Row) (j : ℕ) → is_left rows (coordinate_label j) ≡ true
 coordinate_is_left rows j =
     cond-false (is_row (coordinate_label j)) (not (row_of rows (coordinate_label j)).linear) true
-    (le-ltb (coordinate_label j) 8192 (omega arith))
+    (le-ltb (coordinate_label j) coordinates_from (omega arith))
 
 -- a label that is a row has the number of one
 row_number : (m first n k : ℕ) → Contains (labels_of m first n) k → is_row k ≡ true → (1 ≤ k) × (k < 1 + m)
@@ -50,8 +50,8 @@ row_number m first n k c e =
     (λ (d : Contains (range_with_len 1 m) k). range_only 1 m k d)
     (λ (d : Contains (map coordinate_label (range_with_len first (n - first))) k).
     let h = map_only coordinate_label (range_with_len first (n - first)) k d in
-    let f : k ≡ 8192 + h.0 = h.2 in
-    let l = ltb-true k 8192 e in
+    let f : k ≡ coordinate_label h.0 = h.2 in
+    let l = ltb-true k coordinates_from e in
     absurd (omega arith))
     (Contains-append_cases (range_with_len 1 m) (map coordinate_label (range_with_len first (n - first))) k c)
 
@@ -64,12 +64,12 @@ same_form p first n k c =
     let r = row_number (length (file_rows p)) first n k c e in
     let l = r.0 in
     let h = r.1 in
-    cond-true (is_row k) (row_of (file_rows p) k).entries (coordinate (k - 8192)) e
+    cond-true (is_row k) (row_of (file_rows p) k).entries (coordinate (coordinate_index k)) e
     ∙ ap (λ (row : Row). row.entries) (sym (row_in_cone p k l (omega arith)))
-    ∙ sym (cond-true (is_row k) (row_of (cone_of p).rows k).entries (coordinate (k - 8192)) e))
+    ∙ sym (cond-true (is_row k) (row_of (cone_of p).rows k).entries (coordinate (coordinate_index k)) e))
     (λ (e : is_row k ≡ false).
-    cond-false (is_row k) (row_of (file_rows p) k).entries (coordinate (k - 8192)) e
-    ∙ sym (cond-false (is_row k) (row_of (cone_of p).rows k).entries (coordinate (k - 8192)) e))
+    cond-false (is_row k) (row_of (file_rows p) k).entries (coordinate (coordinate_index k)) e
+    ∙ sym (cond-false (is_row k) (row_of (cone_of p).rows k).entries (coordinate (coordinate_index k)) e))
     (cases_Bool (is_row k))
 
 -- ---- a polyhedron cut by fixed rows, with some of its labels

@@ -7,13 +7,9 @@ use Rattle.poly_model.specs.declared.kind.Kind.{Kind}
 use Rattle.poly_model.specs.declared.kind.Kind.TheVariants.{H, V}
 use Rattle.poly_model.specs.Systems.{System, row_of}
 use Rattle.poly_model.specs.Spaces.{is_member}
-use Rattle.poly_model.specs.Labels.{coordinate_label}
+use Rattle.poly_model.specs.Labels.{constant_label, coordinate_label}
 use Rattle.poly_model.specs.Dictionaries.{Table}
 use Rattle.dictionary.specs.Views.{Dictionary, table_of}
-
--- the label of the column of constants
-abbrev pub constant_label : ℕ
-constant_label = 65535
 
 -- col is the label of a column: of one of the cobasis, or of that of the constants
 abbrev pub IsColumn : Dictionary → ℕ → Type 0

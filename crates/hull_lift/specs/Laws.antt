@@ -2,6 +2,7 @@
 use Rattle.std.specs.Prelude.{◌≡◌, ◌≢◌, ◌↔◌, ℕ, ◌<◌, ℤ, pos, length}
 use Rattle.std.specs.List.{Contains}
 use Rattle.poly_num.specs.Vectors.{Vector, ◌·◌, scale}
+use Rattle.poly_model.specs.Labels.{coordinates_from, constant_label}
 use Rattle.poly_model.specs.declared.kind.Kind.TheVariants.{V}
 use Rattle.poly_model.specs.declared.overflow.Phase.{Phase}
 use Rattle.poly_model.specs.declared.overflow.Phase.TheVariants.{First}
@@ -9,7 +10,7 @@ use Rattle.poly_model.specs.Systems.{Polyhedron, cone_of}
 use Rattle.poly_model.specs.Spaces.{Space, IsInside, IsDirection, IsSpaceOf, label_form}
 use Rattle.poly_model.specs.Extreme.{IsShown}
 use Rattle.dictionary.specs.Views.{Dictionary, IsDictionaryIn}
-use Rattle.hull_lift.specs.Facets.{constant_label, column_of, HasPointRows, IsShownColumn}
+use Rattle.hull_lift.specs.Facets.{column_of, HasPointRows, IsShownColumn}
 
 -- z is a direction at which all labels of the cobasis but col are 0
 pub record IsAlong (space : Space) (d : Dictionary) (col : ℕ) (z : Vector) : Type 0 where
@@ -46,7 +47,7 @@ ColumnVectors =
 abbrev pub ShownColumns : Type 0
 ShownColumns =
     (p : Polyhedron) (space : Space) (d : Dictionary) → IsDictionaryIn space d →
-    length (cone_of p).rows < 8192 → (p.kind ≡ V → HasPointRows (cone_of p) d) →
+    length (cone_of p).rows < coordinates_from → (p.kind ≡ V → HasPointRows (cone_of p) d) →
     (col : ℕ) → Contains d.key col → (z : Vector) → IsAlong space d col z → space.form col · z ≢ pos 0 →
     (c : IsInColumn p space d col z (space.form col · z)) →
     IsShownColumn (cone_of p) d col ↔ IsShown p.kind (cone_of p) c.vector

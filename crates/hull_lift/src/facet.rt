@@ -17,10 +17,10 @@ use poly_num::{Num, primitive};
 /// outside the phase `Cone`) is that at infinity: it has the denominator at the point, and 0 in other
 /// columns. Takes no memory.
 pub fn facet_row(dict: &Dict, col: Label, out: &mut [Num])
-    requires column { IsColumn dict.now col.0 }
+    requires column { IsColumn dict.now col }
     requires narrow { length out.old ≤ most_columns }
-    ensures value { out.new ≡ primitive_column dict.now col.0 (length out.old) }
-    ensures primitive { MakesPrimitive (column_of dict.now col.0 (length out.old)) out.new }
+    ensures value { out.new ≡ primitive_column dict.now col (length out.old) }
+    ensures primitive { MakesPrimitive (column_of dict.now col (length out.old)) out.new }
 {
     write_column(dict, col, out);
     primitive(out);
@@ -28,20 +28,20 @@ pub fn facet_row(dict: &Dict, col: Label, out: &mut [Num])
 
 // Writes the numbers of the coordinates in a column.
 fn write_column(dict: &Dict, col: Label, out: &mut [Num])
-    requires column { IsColumn dict.now col.0 }
+    requires column { IsColumn dict.now col }
     requires narrow { length out.old ≤ most_columns }
-    ensures { out.new ≡ column_of dict.now col.0 (length out.old) }
+    ensures { out.new ≡ column_of dict.now col (length out.old) }
 {
     'coordinates: for j in 0..out.len() {
-        out[j] = coordinate_in(dict, col, j as u16);
+        out[j] = coordinate_in(dict, col, j as u32);
     }
 }
 
 // The number of coordinate j in a column.
-fn coordinate_in(dict: &Dict, col: Label, j: u16) -> Num
-    requires column { IsColumn dict.now col.0 }
+fn coordinate_in(dict: &Dict, col: Label, j: u32) -> Num
+    requires column { IsColumn dict.now col }
     requires narrow { j < most_columns }
-    ensures { result ≡ coordinate_in dict.now col.0 j }
+    ensures { result ≡ coordinate_in dict.now col j }
 {
     let label = Label::coordinate(j);
     if dict.has_label(label) {
@@ -53,11 +53,11 @@ fn coordinate_in(dict: &Dict, col: Label, j: u16) -> Num
 
 // The number of a label in a column: its constant, or its entry there.
 fn number_in(dict: &Dict, col: Label, label: Label) -> Num
-    requires column { IsColumn dict.now col.0 }
-    requires label { Contains dict.now.labels label.0 }
-    ensures { result ≡ number_in dict.now col.0 label.0 }
+    requires column { IsColumn dict.now col }
+    requires label { Contains dict.now.labels label }
+    ensures { result ≡ number_in dict.now col label }
 {
-    if col.0 == Label::CONSTANT.0 {
+    if col.is_constant() {
         dict.constant(label)
     } else {
         dict.entry(label, col)
@@ -66,9 +66,9 @@ fn number_in(dict: &Dict, col: Label, label: Label) -> Num
 
 // The number at infinity in a column.
 fn infinity_in(dict: &Dict, col: Label) -> Num
-    ensures { result ≡ infinity_in dict.now col.0 }
+    ensures { result ≡ infinity_in dict.now col }
 {
-    if col.0 == Label::CONSTANT.0 {
+    if col.is_constant() {
         dict.denominator()
     } else {
         Num::ZERO
@@ -78,9 +78,9 @@ fn infinity_in(dict: &Dict, col: Label) -> Num
 /// Whether the vector of a column is shown: of an H file always, of a V file where some point row has
 /// the entry 0 there. Takes no memory.
 pub fn is_shown(sys: &System, dict: &Dict, col: Label) -> bool
-    requires column { sys.now.kind ≡ V → Contains dict.now.key col.0 }
+    requires column { sys.now.kind ≡ V → Contains dict.now.key col }
     requires points { sys.now.kind ≡ V → HasPointRows sys.now dict.now }
-    ensures { IsTrue result ↔ IsShownColumn sys.now dict.now col.0 }
+    ensures { IsTrue result ↔ IsShownColumn sys.now dict.now col }
 {
     match sys.kind() {
         Kind::H => true,
@@ -90,9 +90,9 @@ pub fn is_shown(sys: &System, dict: &Dict, col: Label) -> bool
 
 // Whether some point row has the entry 0 in a column.
 fn touches_point(sys: &System, dict: &Dict, col: Label) -> bool
-    requires column { Contains dict.now.key col.0 }
+    requires column { Contains dict.now.key col }
     requires points { HasPointRows sys.now dict.now }
-    ensures { IsTrue result ↔ IsShownAs V sys.now dict.now col.0 }
+    ensures { IsTrue result ↔ IsShownAs V sys.now dict.now col }
 {
     'rows: for i in 1..sys.rows() + 1 {
         if touches(sys, dict, col, i) {
@@ -104,12 +104,12 @@ fn touches_point(sys: &System, dict: &Dict, col: Label) -> bool
 
 // Whether row i, counted from 1, is a point whose entry in a column is 0.
 fn touches(sys: &System, dict: &Dict, col: Label, i: u32) -> bool
-    requires column { Contains dict.now.key col.0 }
+    requires column { Contains dict.now.key col }
     requires points { HasPointRows sys.now dict.now }
     requires from_one { 0 < i }
     requires within { i ≤ length sys.now.rows }
-    ensures { IsTrue result ↔ IsTouchedAt sys.now dict.now col.0 i }
+    ensures { IsTrue result ↔ IsTouchedAt sys.now dict.now col i }
 {
-    let _rows = sys.rows();
-    sys.is_point(i) && dict.entry(Label::row(i as u16), col).get() == 0
+    sys.keeps_limits();
+    sys.is_point(i) && dict.entry(Label::row(i), col).get() == 0
 }

@@ -12,7 +12,15 @@ use poly_num::Num;
 use std::alloc::Global;
 use std::test::Fail;
 
-/// A file, the exchanges (a row and a column) that lead to a dictionary, and of a column of it the
+/// A label, for tables that are constants.
+#[derive(Clone, Copy)]
+enum Named {
+    Row(u32),
+    Coordinate(u32),
+    Constants,
+}
+
+/// A file, the exchanges (a row and a coordinate) that lead to a dictionary, and of a column of it the
 /// vector, and whether it is shown. An H file is in the phase `Prepare`, a V file in `Cone`.
 #[derive(Clone, Copy)]
 struct Case {
@@ -21,8 +29,8 @@ struct Case {
     n: u32,
     entries: &'static [i128],
     linear: &'static [bool],
-    exchanges: &'static [[u16; 2]],
-    col: u16,
+    exchanges: &'static [[u32; 2]],
+    col: Named,
     vector: &'static [i128],
     shown: Option<bool>,
 }
@@ -34,7 +42,7 @@ const SQUARE: Case = Case {
     entries: &[0, 1, 0, 0, 0, 1, 1, -1, 0, 1, 0, -1],
     linear: &[false, false, false, false],
     exchanges: &[],
-    col: 65535,
+    col: Named::Constants,
     vector: &[1, 0, 0],
     shown: Some(true),
 };
@@ -45,8 +53,8 @@ const WEDGE: Case = Case {
     n: 3,
     entries: &[1, 2, -3, 0, 0, 1],
     linear: &[false, false],
-    exchanges: &[[1, 8193]],
-    col: 65535,
+    exchanges: &[[1, 1]],
+    col: Named::Constants,
     vector: &[2, -1, 0],
     shown: Some(true),
 };
@@ -57,8 +65,8 @@ const SEGMENT: Case = Case {
     n: 2,
     entries: &[1, 0, 1, 1],
     linear: &[false, false],
-    exchanges: &[[1, 8192], [2, 8193]],
-    col: 1,
+    exchanges: &[[1, 0], [2, 1]],
+    col: Named::Row(1),
     vector: &[1, -1],
     shown: Some(true),
 };
@@ -69,8 +77,8 @@ const HALF_LINE: Case = Case {
     n: 2,
     entries: &[1, 0, 0, 1],
     linear: &[false, false],
-    exchanges: &[[1, 8192], [2, 8193]],
-    col: 1,
+    exchanges: &[[1, 0], [2, 1]],
+    col: Named::Row(1),
     vector: &[1, 0],
     shown: Some(false),
 };
@@ -79,33 +87,33 @@ const CASES: [Case; 13] = [
     SQUARE,
     Case {
         name: "from there along the first axis",
-        col: 8193,
+        col: Named::Coordinate(1),
         vector: &[0, 1, 0],
         ..SQUARE
     },
     Case {
         name: "its corner (1, 0)",
-        exchanges: &[[3, 8193]],
+        exchanges: &[[3, 1]],
         vector: &[1, 1, 0],
         ..SQUARE
     },
     Case {
         name: "from there back along the first axis",
-        exchanges: &[[3, 8193]],
-        col: 3,
+        exchanges: &[[3, 1]],
+        col: Named::Row(3),
         vector: &[0, -1, 0],
         ..SQUARE
     },
     WEDGE,
     Case {
         name: "from there along the second row",
-        col: 1,
+        col: Named::Row(1),
         vector: &[0, 1, 0],
         ..WEDGE
     },
     Case {
         name: "from there along the first row",
-        col: 8194,
+        col: Named::Coordinate(2),
         vector: &[0, 3, 2],
         ..WEDGE
     },
@@ -120,13 +128,13 @@ const CASES: [Case; 13] = [
     SEGMENT,
     Case {
         name: "x >= 0, which only the first point touches",
-        col: 2,
+        col: Named::Row(2),
         vector: &[0, 1],
         ..SEGMENT
     },
     Case {
         name: "the point of a cone, which is zero",
-        col: 65535,
+        col: Named::Constants,
         vector: &[0, 0],
         shown: None,
         ..SEGMENT
@@ -134,7 +142,7 @@ const CASES: [Case; 13] = [
     HALF_LINE,
     Case {
         name: "x >= 0, which the point touches",
-        col: 2,
+        col: Named::Row(2),
         vector: &[0, 1],
         shown: Some(true),
         ..HALF_LINE
@@ -156,17 +164,28 @@ fn column(alloc: Global, case: Case) -> Result<(Vec<i128>, Option<bool>), Fail> 
     let poly = poly_of(alloc, case.kind, case.n, case.entries, case.linear)?;
     let sys = system_of(alloc, &poly)?;
     let dict = dictionary_at(alloc, &sys, case.exchanges)?;
-    let col = Label(case.col);
+    let col = label_of(case.col).ok_or("a label")?;
     Ok((vector_of(alloc, &sys, &dict, col)?, shown(&sys, &dict, col)))
 }
 
-fn dictionary_at(alloc: Global, sys: &System, exchanges: &[[u16; 2]]) -> Result<Dict, Fail> {
+/// The label; none where the number is too large or 0.
+fn label_of(named: Named) -> Option<Label> {
+    match named {
+        Named::Row(i) if 0 < i && i < 8192 => Some(Label::row(i)),
+        Named::Coordinate(j) if j < 8192 => Some(Label::coordinate(j)),
+        Named::Constants => Some(Label::CONSTANT),
+        _ => None,
+    }
+}
+
+fn dictionary_at(alloc: Global, sys: &System, exchanges: &[[u32; 2]]) -> Result<Dict, Fail> {
     let mut dict = match sys.kind() {
         Kind::H => Dict::new(alloc, sys, Phase::Prepare)?,
         Kind::V => Dict::new(alloc, sys, Phase::Cone)?,
     };
     for [row, col] in exchanges {
-        let (row, col) = (Label(*row), Label(*col));
+        let row = label_of(Named::Row(*row)).ok_or("a row")?;
+        let col = label_of(Named::Coordinate(*col)).ok_or("a coordinate")?;
         if !dict.can_pivot(row, col) {
             return Err("an exchange of a row and a column")?;
         }
@@ -197,12 +216,12 @@ fn vector_of(
 }
 
 fn is_column(dict: &Dict, col: Label) -> bool
-    ensures { IsTrue result → IsColumn dict.now col.0 }
+    ensures { IsTrue result → IsColumn dict.now col }
 {
     if dict.in_cobasis(col) {
         return true;
     }
-    col.0 == Label::CONSTANT.0
+    col.is_constant()
 }
 
 /// Whether the vector of a column is shown, or nothing where that may not be asked.
@@ -237,6 +256,6 @@ fn stands(sys: &System, dict: &Dict, i: u32) -> bool
     requires within { i ≤ length sys.now.rows }
     ensures { IsTrue result → (row_of sys.now.rows i).point ≡ true → Contains dict.now.labels i }
 {
-    let _rows = sys.rows();
-    !sys.is_point(i) || dict.has_label(Label::row(i as u16))
+    sys.keeps_limits();
+    !sys.is_point(i) || dict.has_label(Label::row(i))
 }

@@ -9,7 +9,7 @@ use Rattle.poly_model.specs.declared.overflow.Phase.{Phase}
 use Rattle.poly_model.specs.declared.overflow.Phase.TheVariants.{Cone, Prepare}
 use Rattle.poly_model.specs.Systems.{System, Polyhedron, row_of, file_rows, added_row, cone_of}
 use Rattle.poly_model.specs.Spaces.{Space, IsSpaceOf, HasPoints, labels_of, cone_space, cut_space, prepare_space}
-use Rattle.poly_model.specs.Labels.{coordinate_label}
+use Rattle.poly_model.specs.Labels.{coordinates_from, IsRow, IsCoordinate, coordinate_label}
 use Rattle.poly_model.specs.Dictionaries.{Table}
 use Rattle.dictionary_laws.proofs.CoordinateSpaces.{coordinate_keys}
 use Rattle.dictionary_laws.proofs.Filters.{range_only, map_only}
@@ -20,7 +20,7 @@ use Rattle.dictionary.specs.Views.{Dictionary, IsDictionaryIn, table_of}
 use Rattle.linearity.specs.Elimination.{IsDictionaryOf, IsEliminated}
 
 -- ---- labels of rows
-label_in : (m j n i : ℕ) → Contains (labels_of m j n) i → i < 8192 → (0 < i) × (i ≤ m)
+label_in : (m j n i : ℕ) → Contains (labels_of m j n) i → IsRow i → (0 < i) × (i ≤ m)
 label_in m j n i c few =
     ⊎_elim
     (λ (r : Contains (range_with_len 1 m) i).
@@ -29,7 +29,7 @@ label_in m j n i c few =
     let h = map_only coordinate_label (range_with_len j (n - j)) i r in absurd (let e = h.2 in omega arith))
     (Contains-append_cases (range_with_len 1 m) (map coordinate_label (range_with_len j (n - j))) i c)
 
-label_in_cut : (kind : Kind) (p : Polyhedron) (i : ℕ) → Contains (cut_space kind p []).labels i → i < 8192 →
+label_in_cut : (kind : Kind) (p : Polyhedron) (i : ℕ) → Contains (cut_space kind p []).labels i → IsRow i →
     (0 < i) × (i ≤ length (cone_of p).rows)
 label_in_cut H p i c few =
     let h = label_in (length (file_rows p)) 1 p.n i c few in
@@ -38,7 +38,7 @@ label_in_cut H p i c few =
 label_in_cut V p i c few = label_in (length (cone_of p).rows) 0 p.n i c few
 
 -- a label below those of the coordinates is that of a row
-pub label_is_row : (p : Polyhedron) (d : Dictionary) → IsDictionaryOf p d → (i : ℕ) → Contains d.labels i → i < 8192 →
+pub label_is_row : (p : Polyhedron) (d : Dictionary) → IsDictionaryOf p d → (i : ℕ) → Contains d.labels i → IsRow i →
     (0 < i) × (i ≤ length (cone_of p).rows)
 label_is_row p d h i l few =
     let c : Contains h.space.labels i = subst (λ ks. Contains ks i) h.dictionary.labels l in
@@ -57,11 +57,11 @@ row_count_within true m = omega arith
 row_count_within false m = omega arith
 
 module _ (sys : System) (phase : Phase) (d : Dictionary) (p : Polyhedron) (early : (phase ≡ Cone) ⊎ (phase ≡ Prepare))
-    (file : sys ≡ cone_of p) (some : 0 < p.n) (narrow : p.n ≤ most_columns) (few : length sys.rows < 8192)
+    (file : sys ≡ cone_of p) (some : 0 < p.n) (narrow : p.n ≤ most_columns) (few : length sys.rows < coordinates_from)
     (new : IsNew sys phase d) where
   in_space : (space : Space) → IsSpaceOf p phase space → HasPoints space → IsDictionaryOf p d
   in_space space is points = record {
-    few = subst (λ (s : System). length s.rows < 8192) file few;
+    few = subst (λ (s : System). length s.rows < coordinates_from) file few;
     narrow = narrow;
     phase = ⊎_elim (λ (e : phase ≡ Cone). inl (new.phase_is ∙ e))
         (λ (e : phase ≡ Prepare). inr (new.phase_is ∙ e)) early;
@@ -80,13 +80,13 @@ module _ (sys : System) (phase : Phase) (d : Dictionary) (p : Polyhedron) (early
       ((phase_points p).prepare some))
       early
 
-  coordinates : (k : ℕ) → Contains d.key k → 8192 ≤ k
+  coordinates : (k : ℕ) → Contains d.key k → IsCoordinate k
   coordinates k c =
       (coordinate_keys (first_label (has_constants phase sys.kind)) sys.n).coordinates k
       (subst (λ ks. Contains ks k) new.key c)
 
   -- a label behind that of a coordinate is one too
-  in_key : (j : ℕ) → Contains d.labels j → 8192 ≤ j → Contains d.key j
+  in_key : (j : ℕ) → Contains d.labels j → IsCoordinate j → Contains d.key j
   in_key j l high =
       let m = row_count (has_constants phase sys.kind) (length sys.rows) in
       ⊎_elim

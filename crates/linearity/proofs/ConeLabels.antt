@@ -13,7 +13,7 @@ use Rattle.poly_model.specs.declared.overflow.Phase.TheVariants.{Cone, Prepare}
 use Rattle.poly_model.specs.Systems.{Row, no_row, row_of, first_unit, Polyhedron, file_rows, added_row, cone_of}
 use Rattle.poly_model.specs.Cones.{at}
 use Rattle.poly_model.specs.Spaces.{Space, IsDirection, IsSpaceOf, label_form, labels_of, with_constants, cut_space, cone_space, prepare_space}
-use Rattle.poly_model.specs.Labels.{coordinate_label}
+use Rattle.poly_model.specs.Labels.{coordinates_from, IsRow, coordinate_label}
 use Rattle.linear_laws.proofs.Entries.{coordinate_reads}
 use Rattle.dictionary_laws.proofs.Filters.{range_only, range_has, map_only}
 use Rattle.hull_lift.proofs.SpaceVectors.{coordinate_is_label, same_form, with_front}
@@ -33,8 +33,8 @@ pub record HasConeLabels (p : Polyhedron) (labels : List ℕ) : Type 0 where
   pub each_coordinate : (j : ℕ) → j < p.n → Contains labels (coordinate_label j) ⊎ ((j ≡ 0) × HasNoFirst labels)
   pub at_infinity : HasNoFirst labels → 0 < p.n →
       (i : ℕ) × (1 ≤ i) × (i ≤ length (cone_of p).rows) × ((row_of (cone_of p).rows i).entries ≡ first_unit p.n)
-  pub rows_only : (k : ℕ) → Contains labels k → k < 8192 → (1 ≤ k) × (k ≤ length (cone_of p).rows)
-  pub below : (k : ℕ) → Contains labels k → k < 8192 + p.n
+  pub rows_only : (k : ℕ) → Contains labels k → IsRow k → (1 ≤ k) × (k ≤ length (cone_of p).rows)
+  pub below : (k : ℕ) → Contains labels k → k < coordinate_label p.n
 
 -- a direction of the space at which the labels have the values of their forms at w
 pub record LiesOver (p : Polyhedron) (space : Space) (w : Vector) : Type 0 where
@@ -55,7 +55,7 @@ has_row m first n i l h =
 
 -- a label is that of a row or of a coordinate
 label_cases : (m first n k : ℕ) → Contains (labels_of m first n) k →
-    ((1 ≤ k) × (k ≤ m)) ⊎ ((8192 + first ≤ k) × (k < 8192 + n))
+    ((1 ≤ k) × (k ≤ m)) ⊎ ((coordinate_label first ≤ k) × (k < coordinate_label n))
 label_cases m first n k c =
     ⊎_elim
     (λ (d : Contains (range_with_len 1 m) k).
@@ -63,26 +63,26 @@ label_cases m first n k c =
     (λ (d : Contains (map coordinate_label (range_with_len first (n - first))) k).
     let h = map_only coordinate_label (range_with_len first (n - first)) k d in
     let r = range_only first (n - first) h.0 h.1 in
-    let f : k ≡ 8192 + h.0 = h.2 in
+    let f : k ≡ coordinate_label h.0 = h.2 in
     let l = r.0 in
     let u = r.1 in
     inr (omega arith, omega arith))
     (Contains-append_cases (range_with_len 1 m) (map coordinate_label (range_with_len first (n - first))) k c)
 
-row_among : (m first n k : ℕ) → Contains (labels_of m first n) k → k < 8192 → (1 ≤ k) × (k ≤ m)
+row_among : (m first n k : ℕ) → Contains (labels_of m first n) k → IsRow k → (1 ≤ k) × (k ≤ m)
 row_among m first n k c h =
     ⊎_elim (λ (r : (1 ≤ k) × (k ≤ m)). r)
-    (λ (r : (8192 + first ≤ k) × (k < 8192 + n)). let l = r.0 in absurd (omega arith))
+    (λ (r : (coordinate_label first ≤ k) × (k < coordinate_label n)). let l = r.0 in absurd (omega arith))
     (label_cases m first n k c)
 
-label_below : (m first n k : ℕ) → m < 8192 → Contains (labels_of m first n) k → k < 8192 + n
+label_below : (m first n k : ℕ) → m < coordinates_from → Contains (labels_of m first n) k → k < coordinate_label n
 label_below m first n k few c =
     ⊎_elim (λ (r : (1 ≤ k) × (k ≤ m)). let l = r.1 in omega arith)
-    (λ (r : (8192 + first ≤ k) × (k < 8192 + n)). r.1)
+    (λ (r : (coordinate_label first ≤ k) × (k < coordinate_label n)). r.1)
     (label_cases m first n k c)
 
 -- ---- the cone
-over_cone : (p : Polyhedron) → length (cone_of p).rows < 8192 → IsOverCone p (cone_space p)
+over_cone : (p : Polyhedron) → length (cone_of p).rows < coordinates_from → IsOverCone p (cone_space p)
 over_cone p few =
     let m : ℕ = length (cone_of p).rows in
     record {
@@ -104,7 +104,7 @@ over_cone p few =
     }
 
 -- ---- the rows of an H file, with their constants
-module _ (p : Polyhedron) (kind : p.kind ≡ H) (few : length (cone_of p).rows < 8192) where
+module _ (p : Polyhedron) (kind : p.kind ≡ H) (few : length (cone_of p).rows < coordinates_from) where
   abbrev q : ℕ
   q = length (file_rows p)
 
@@ -126,7 +126,7 @@ module _ (p : Polyhedron) (kind : p.kind ≡ H) (few : length (cone_of p).rows <
   no_first : HasNoFirst (labels_of q 1 p.n)
   no_first c =
       ⊎_elim (λ (r : (1 ≤ coordinate_label 0) × (coordinate_label 0 ≤ q)). let l = r.1 in omega (arith, one_more))
-      (λ (r : (8192 + 1 ≤ coordinate_label 0) × (coordinate_label 0 < 8192 + p.n)). let l = r.0 in omega arith)
+      (λ (r : (coordinate_label 1 ≤ coordinate_label 0) × (coordinate_label 0 < coordinate_label p.n)). let l = r.0 in omega arith)
       (label_cases q 1 p.n (coordinate_label 0) c)
 
   over_file : IsOverCone p (with_constants p.n [] (file_rows p))
@@ -156,13 +156,13 @@ module _ (p : Polyhedron) (kind : p.kind ≡ H) (few : length (cone_of p).rows <
   }
 
 -- ---- both
-over_kind : (p : Polyhedron) → length (cone_of p).rows < 8192 → (kind : Kind) → p.kind ≡ kind →
+over_kind : (p : Polyhedron) → length (cone_of p).rows < coordinates_from → (kind : Kind) → p.kind ≡ kind →
     IsOverCone p (cut_space kind p [])
 over_kind p few H e = over_file p e few
 over_kind p few V e = over_cone p few
 
 -- the space of either phase is over the cone
-pub over_cone_of : (p : Polyhedron) (phase : Phase) (space : Space) → length (cone_of p).rows < 8192 →
+pub over_cone_of : (p : Polyhedron) (phase : Phase) (space : Space) → length (cone_of p).rows < coordinates_from →
     (phase ≡ Cone) ⊎ (phase ≡ Prepare) → IsSpaceOf p phase space → IsOverCone p space
 over_cone_of p phase space few either is =
     ⊎_elim

@@ -13,7 +13,7 @@ use Rattle.poly_model.specs.declared.overflow.Phase.TheVariants.{Cone, Prepare, 
 use Rattle.poly_model.specs.Systems.{Polyhedron, cone_of}
 use Rattle.poly_model.specs.Cones.{at}
 use Rattle.poly_model.specs.Spaces.{is_member, label_form}
-use Rattle.poly_model.specs.Labels.{coordinate_label}
+use Rattle.poly_model.specs.Labels.{coordinate_label, constant_label}
 use Rattle.poly_model.specs.Dictionaries.{Table, sum_over}
 use Rattle.dictionary_laws.specs.Numbers.{IsOwnRow}
 use Rattle.dictionary_laws.proofs.Duals.{Dual, dual_of}
@@ -21,7 +21,7 @@ use Rattle.dictionary_laws.proofs.Values.{terms, level_value, value_along, own_r
 use Rattle.dictionary_laws.proofs.Members.{sum_same}
 use Rattle.dictionary_laws.proofs.Filters.{member_only}
 use Rattle.dictionary.specs.Views.{Dictionary, table_of}
-use Rattle.hull_lift.specs.Facets.{constant_label, number_in, infinity_in, coordinate_in, column_of}
+use Rattle.hull_lift.specs.Facets.{number_in, infinity_in, coordinate_in, column_of}
 use Rattle.hull_lift.specs.Laws.{IsInColumn, HasColumns}
 use Rattle.hull_lift.proofs.ColumnVectors.{column_vectors}
 use Rattle.linearity.specs.Elimination.{IsDictionaryOf}

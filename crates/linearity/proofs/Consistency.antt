@@ -4,6 +4,7 @@ use Rattle.std.proofs.Common.{◌≡◌, ◌↔◌, inr, Result, Err, refl, ℕ,
 use Rattle.std.specs.Prelude.{IsErrOf}
 use Rattle.std.specs.List.{Contains, filter}
 use Rattle.poly_num.specs.Vectors.{Vector}
+use Rattle.poly_model.specs.Labels.{IsRow}
 use Rattle.poly_model.specs.declared.overflow.Phase.TheVariants.{Prepare}
 use Rattle.poly_model.specs.Limits.{most_columns, most_cone_rows}
 use Rattle.poly_model.specs.Keys.{IsAscending}
@@ -11,7 +12,7 @@ use Rattle.poly_model.specs.Systems.{System, Polyhedron, cone_of}
 use Rattle.poly_model.specs.FreeColumns.{AreFreeColumns, AreLinesOf}
 use Rattle.poly_model.specs.Spaces.{IsSpaceOf, HasPoints, IsStartCobasis, prepare_space, main_space}
 use Rattle.dictionary_laws.specs.Points.{AreSettled}
-use Rattle.poly_model.specs.Equations.{equation_labels}
+use Rattle.poly_model.specs.Equations.{equation_labels, AreConsistent}
 use Rattle.dictionary_laws.specs.MainSpace.{stays, CanEnterMain}
 use Rattle.dictionary_laws.proofs.Equations.{constants_where_point, point_where_constants}
 use Rattle.dictionary_laws.proofs.MainRows.{equation_only}
@@ -22,7 +23,6 @@ use Rattle.dictionary.specs.MainPhase.{EntersMainPhase}
 use Rattle.dictionary.specs.Views.{Dictionary, IsDictionaryIn, table_of}
 use Rattle.linearity.specs.Columns.{columns_in, coordinate_vectors}
 use Rattle.linearity.specs.Elimination.{IsDictionaryOf, IsEliminated}
-use Rattle.poly_model.specs.Equations.{AreConsistent}
 use Rattle.linearity.specs.Prepared.{HasNoConstants, BeginsElimination, EndsElimination, IsPrepared}
 use Rattle.linearity.proofs.Beginnings.{begins_new}
 use Rattle.linearity.proofs.KeyColumns.{column_only}
@@ -66,7 +66,7 @@ module _ (p : Polyhedron) (d : Dictionary) (of : IsDictionaryOf p d) (e : d.phas
         let q = equation_only p i c in
         let some = q.some in
         let l = subst (λ ks. Contains ks i) (sym is.labels) (labels i c) in
-        let low : i < 8192 = let within = q.within in omega (arith, few_in_file p of.few d is) in
+        let low : IsRow i = let within = q.within in omega (arith, few_in_file p of.few d is) in
         zero i some (let within = row_within p of.few d is i l low in
         omega arith) l (linear_equation p of.few d is i c))
 

@@ -2,6 +2,7 @@
 use Rattle.std.proofs.Common.{◌≡◌, ⊎_elim, inl, inr, ℕ, ◌<◌, ◌≤◌, true, false, List, length, sym, subst, ◌∙◌, arith}
 use Rattle.std.specs.List.{Contains}
 use Rattle.std.proofs.lemmas.Bool.{cases_lt, cases_Bool, true_from_ne_false, false_from_ne_true}
+use Rattle.poly_model.specs.Labels.{coordinates_from, IsRow, IsCoordinate}
 use Rattle.poly_model.specs.declared.overflow.Overflow.{Overflow}
 use Rattle.poly_model.specs.declared.overflow.Phase.TheVariants.{Prepare}
 use Rattle.poly_model.specs.Systems.{row_of, Row, System, Polyhedron, cone_of}
@@ -38,7 +39,7 @@ module _ (p : Polyhedron) where
   module _ (i k : ℕ) (d : Dictionary) (o : Overflow) (of : IsDictionaryOf p d) (phase : d.phase ≡ Prepare)
       (over : OverflowsFor d i k o) where
     -- the pivot of a row that enters, where all rows that have entered are such
-    due : IsEntering p start i → ((l : ℕ) → Contains d.key l → l < 8192 → IsEntering p start l) →
+    due : IsEntering p start i → ((l : ℕ) → Contains d.key l → IsRow l → IsEntering p start l) →
         IsDue p o (IsAskedBefore p o)
     due entering entered =
         let at = overflows_at p d i k o of over.can over.overflow in
@@ -51,12 +52,12 @@ module _ (p : Polyhedron) where
             start = start;
             is_start = is_start;
             row = subst (IsEntering p start) (sym at.1) entering;
-            column = subst (λ s. 8192 ≤ s) (sym at.2) over.column.coordinate;
+            column = subst (λ s. IsCoordinate s) (sym at.2) over.column.coordinate;
             labels = λ l c.
                 ⊎_elim
-                (λ (low : l < 8192). inr (entered l (subst (λ ks. Contains ks l) over.overflow.key c) low))
-                (λ (high : 8192 ≤ l). inl high)
-                (cases_lt l 8192);
+                (λ (low : IsRow l). inr (entered l (subst (λ ks. Contains ks l) over.overflow.key c) low))
+                (λ (high : IsCoordinate l). inl high)
+                (cases_lt l coordinates_from);
           };
         }
 
@@ -65,7 +66,7 @@ module _ (p : Polyhedron) where
     due_among_linear tried e = due (inl e) (λ l c low. inl (tried.taken l c low).0)
 
     -- the others enter, and the equations have a common point
-    due_among_others : AreConsistent p → IsEliminated rows true i d → (row_of rows i).linear ≡ false → i < 8192 →
+    due_among_others : AreConsistent p → IsEliminated rows true i d → (row_of rows i).linear ≡ false → IsRow i →
         IsDue p o (IsAskedBefore p o)
     due_among_others point tried e low =
         let is = in_prepare p d of phase in
@@ -101,7 +102,7 @@ module _ (p : Polyhedron) where
         IsDue p o (IsAskedBefore p o)
     due_in_second point untried stops =
         let within = stops.within in
-        let count : length sys.rows < 8192 = subst (λ (s : System). length s.rows < 8192) (sym file) of.few in
+        let count : length sys.rows < coordinates_from = subst (λ (s : System). length s.rows < coordinates_from) (sym file) of.few in
         due_among_others i stops.overflows.0 new o (stops.before.dictionary p file of) phase stops.overflows.1 point
         (subst (λ (s : System). IsEliminated s.rows true i new) file
         (stops.before.eliminated p file of

@@ -7,7 +7,7 @@ use Rattle.poly_num.specs.Vectors.{Vector, ◌·◌}
 use Rattle.poly_num.proofs.Order.{positive_nonzero}
 use Rattle.poly_model.specs.Systems.{row_of, first_unit, Polyhedron, cone_of}
 use Rattle.poly_model.specs.Cones.{at, IsTight}
-use Rattle.poly_model.specs.Labels.{coordinate_label}
+use Rattle.poly_model.specs.Labels.{IsRow, coordinate_label}
 use Rattle.poly_model.specs.Dictionaries.{Table}
 use Rattle.poly_model.specs.FreeColumns.{IsFree}
 use Rattle.linear_laws.proofs.Entries.{within_from_entry}
@@ -63,7 +63,7 @@ module _ (p : Polyhedron) (d : Dictionary) (is : IsDictionaryOf p d) where
           (cases_lt i p.n)
 
       -- each row is 0 there: in the key by its unit row, outside it because it has been tried
-      left_entry : (i : ℕ) → Contains d.labels i → i < 8192 → i ≤ length (cone_of p).rows →
+      left_entry : (i : ℕ) → Contains d.labels i → IsRow i → i ≤ length (cone_of p).rows →
           Table.entry (table_of d) i (coordinate_label j) ≡ pos 0
       left_entry i h l m =
           ⊎_elim
@@ -77,7 +77,7 @@ module _ (p : Polyhedron) (d : Dictionary) (is : IsDictionaryOf p d) where
           (row_of (cone_of p).rows i).entries · left_column ≡ pos 0
       left_row i l m =
           let few = is.few in
-          let row : i < 8192 = omega arith in
+          let row : IsRow i = omega arith in
           ⊎_elim
           (λ (h : Contains d.labels i).
           ap (λ g. g · left_column) (sym (row_form p i row))

@@ -10,7 +10,7 @@ use Rattle.poly_num.proofs.PrimitiveLemmas.{MakesPrimitive-quotients}
 use Rattle.poly_model.specs.Keys.{IsAscending}
 use Rattle.poly_model.specs.Systems.{Polyhedron, cone_of}
 use Rattle.poly_model.specs.Cones.{at}
-use Rattle.poly_model.specs.Labels.{coordinate_label}
+use Rattle.poly_model.specs.Labels.{is_coordinate, coordinate_label, coordinate_index}
 use Rattle.poly_model.specs.FreeColumns.{IsLine, AreFreeColumns, AreLinesOf}
 use Rattle.linear_laws.proofs.Entries.{at-scale, at-zero}
 use Rattle.linear_laws.proofs.Members.{Contains-first, Contains-later}
@@ -18,7 +18,6 @@ use Rattle.dictionary_laws.proofs.Filters.{filter_only}
 use Rattle.dictionary.specs.Views.{Dictionary}
 use Rattle.hull_lift.specs.Facets.{column_of, primitive_column}
 use Rattle.linearity.specs.Columns.{coordinates_in, columns_in, coordinate_vectors}
-use Rattle.poly_model.specs.Labels.{is_coordinate}
 use Rattle.linearity.specs.Elimination.{IsDictionaryOf, IsEliminated}
 use Rattle.linearity.specs.Laws.{EliminationLeavesLines}
 use Rattle.linearity.proofs.ConeReadings.{cone_readings}
@@ -27,8 +26,8 @@ use Rattle.linearity.proofs.LeftColumns.{left_width, left_here, left_elsewhere, 
 
 -- ---- lines, label by label
 lines_of : (p : Polyhedron) (f : ℕ → Vector) (ks : List ℕ) →
-    ((k : ℕ) → Contains ks k → IsLine (cone_of p) (k - 8192) (f k)) →
-    AreLinesOf (cone_of p) (map (λ k. k - 8192) ks) (map f ks)
+    ((k : ℕ) → Contains ks k → IsLine (cone_of p) (coordinate_index k) (f k)) →
+    AreLinesOf (cone_of p) (map (λ k. coordinate_index k) ks) (map f ks)
 lines_of p f [] h = tt
 lines_of p f (x ∷ ks) h = (h x (Contains-first x ks), lines_of p f ks (λ k c. h k (Contains-later k x ks c)))
 
@@ -87,9 +86,9 @@ module _ (p : Polyhedron) (d : Dictionary) (is : IsDictionaryOf p d)
   free_lines = lines_of p (λ k. primitive_column d k p.n) (coordinates_in d.key) (λ k c.
       let h = filter_only is_coordinate d.key k c in
       let l = coordinate_only k h.1 in
-      let label : coordinate_label (k - 8192) ≡ k = omega arith in
-      subst (λ i. IsLine (cone_of p) (k - 8192) (primitive_column d i p.n)) label
-      (line_from_left (k - 8192) (subst (Contains d.key) (sym label) h.0)))
+      let label : coordinate_label (coordinate_index k) ≡ k = omega arith in
+      subst (λ i. IsLine (cone_of p) (coordinate_index k) (primitive_column d i p.n)) label
+      (line_from_left (coordinate_index k) (subst (Contains d.key) (sym label) h.0)))
 
 pub elimination_leaves_lines : EliminationLeavesLines
 elimination_leaves_lines p d is a e = record { free = free_columns p d is e a; lines = free_lines p d is e }

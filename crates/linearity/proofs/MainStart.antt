@@ -14,12 +14,11 @@ use Rattle.poly_model.proofs.RowLemmas.{row_from_one}
 use Rattle.poly_model.specs.FreeColumns.{AreFreeColumns}
 use Rattle.poly_model.specs.Cones.{coordinate}
 use Rattle.poly_model.specs.Spaces.{equations, is_member, is_left, labels_of, cut_space, prepare_space, main_space, IsStartCobasis}
-use Rattle.poly_model.specs.Labels.{coordinate_label, is_row}
+use Rattle.poly_model.specs.Labels.{coordinates_from, IsRow, IsCoordinate, is_row, coordinate_label, coordinate_index}
 use Rattle.poly_model.specs.Dictionaries.{Table}
 use Rattle.dictionary_laws.specs.Coordinates.{coordinate_key}
-use Rattle.poly_model.specs.Equations.{HasPointOn}
+use Rattle.poly_model.specs.Equations.{HasPointOn, equation_labels}
 use Rattle.dictionary_laws.specs.Points.{AreSettled}
-use Rattle.poly_model.specs.Equations.{equation_labels}
 use Rattle.dictionary_laws.specs.MainSpace.{stays, CanEnterMain, EntersMain}
 use Rattle.dictionary_laws.proofs.Members.{contains_or}
 use Rattle.dictionary_laws.proofs.Filters.{filter_only, filter_kept, range_only, member_only, member_has}
@@ -37,7 +36,7 @@ use Rattle.linearity.proofs.KeyColumns.{column_of_label, column_only}
 use Rattle.linearity.proofs.StartCobasis.{is_start}
 
 -- ---- labels
-labels_ascend : (m j n : ℕ) → m < 8192 → IsAscending (labels_of m j n)
+labels_ascend : (m j n : ℕ) → m < coordinates_from → IsAscending (labels_of m j n)
 labels_ascend m j n few =
     ascending_joined (range_with_len 1 m) (coordinate_key j n) (ascending_range 1 m) (coordinate_keys j n).ascending
     (λ k l c d. let h = (range_only 1 m k c).1 in let g = (coordinate_keys j n).coordinates l d in omega arith)
@@ -47,10 +46,10 @@ row_label m j n k c e =
     ⊎_elim
     (λ (d : Contains (range_with_len 1 m) k). let l = range_only 1 m k d in (omega arith, omega arith))
     (λ (d : Contains (coordinate_key j n) k).
-    let g = (coordinate_keys j n).coordinates k d in let l = ltb-true k 8192 e in absurd (omega arith))
+    let g = (coordinate_keys j n).coordinates k d in let l = ltb-true k coordinates_from e in absurd (omega arith))
     (Contains-append_cases (range_with_len 1 m) (coordinate_key j n) k c)
 
-cut_labels_ascend : (kind : Kind) (p : Polyhedron) → length (cone_of p).rows < 8192 →
+cut_labels_ascend : (kind : Kind) (p : Polyhedron) → length (cone_of p).rows < coordinates_from →
     IsAscending (cut_space kind p []).labels
 cut_labels_ascend H p few =
     labels_ascend (length (file_rows p)) 1 p.n
@@ -71,12 +70,12 @@ main_labels H p fixed = refl
 main_labels V p fixed = refl
 
 -- ---- a dictionary of the file's rows
-module _ (p : Polyhedron) (few : length (cone_of p).rows < 8192) (d : Dictionary)
+module _ (p : Polyhedron) (few : length (cone_of p).rows < coordinates_from) (d : Dictionary)
     (is : IsDictionaryIn (prepare_space p) d) where
   abbrev rows : List Row
   rows = (cone_of p).rows
 
-  pub few_in_file : length p.rows < 8192
+  pub few_in_file : length p.rows < coordinates_from
   few_in_file = omega (arith, few, count_of_rows p, length-append (file_rows p) (added_row p.kind p.n (file_rows p)))
 
   key_label : (k : ℕ) → Contains d.key k → Contains (prepare_space p).labels k
@@ -107,13 +106,13 @@ module _ (p : Polyhedron) (few : length (cone_of p).rows < 8192) (d : Dictionary
       ap (λ (row : Row). row.linear) (row_in_cone p i q.some (omega (arith, count_of_rows p))) ∙ q.linear
 
   -- the same of a label of the dictionary
-  pub row_within : (i : ℕ) → Contains d.labels i → i < 8192 → i < length rows + 1
+  pub row_within : (i : ℕ) → Contains d.labels i → IsRow i → i < length rows + 1
   row_within i c l =
-      let h = (cut_row_label p.kind p i (subst (λ ks. Contains ks i) is.labels c) (lt-ltb i 8192 l)).1 in omega arith
+      let h = (cut_row_label p.kind p i (subst (λ ks. Contains ks i) is.labels c) (lt-ltb i coordinates_from l)).1 in omega arith
 
-  pub row_is_equation : (i : ℕ) → Contains d.labels i → i < 8192 → (row_of rows i).linear ≡ true →
+  pub row_is_equation : (i : ℕ) → Contains d.labels i → IsRow i → (row_of rows i).linear ≡ true →
       Contains (equation_labels p) i
-  row_is_equation i c l e = is_equation i (subst (λ ks. Contains ks i) is.labels c) (lt-ltb i 8192 l) e
+  row_is_equation i c l e = is_equation i (subst (λ ks. Contains ks i) is.labels c) (lt-ltb i coordinates_from l) e
 
   -- a label of the key that is no equation stands behind every equation
   behind_equation : (i k : ℕ) → Contains (equation_labels p) i → Contains d.key k →
@@ -125,11 +124,11 @@ module _ (p : Polyhedron) (few : length (cone_of p).rows < 8192) (d : Dictionary
         false_from_ne_true (row_of rows k).linear (λ e. n (is_equation k (key_label k m) r e)),
         inl (linear_equation i c),
       ))
-      (λ (r : is_row k ≡ false). inl (let l = ltb-false k 8192 r in omega arith))
+      (λ (r : is_row k ≡ false). inl (let l = ltb-false k coordinates_from r in omega arith))
       (cases_Bool (is_row k))
 
   -- where the linear rows have been tried, the equations are settled
-  pub equations_settled : ((i : ℕ) → Contains d.labels i → i < 8192 → (row_of rows i).linear ≡ true →
+  pub equations_settled : ((i : ℕ) → Contains d.labels i → IsRow i → (row_of rows i).linear ≡ true →
       IsSettled rows d i) →
       AreSettled d.key (table_of d) (equation_labels p)
   equations_settled tried i k c m n =
@@ -195,24 +194,24 @@ module _ (p : Polyhedron) (few : length (cone_of p).rows < 8192) (d : Dictionary
           Contains main_key k
       row_stays k c r e =
           filter_kept (stays p free) d.key k c
-          (cond-true (is_row k) (not (row_of rows k).linear) (not (is_member (k - 8192) free)) r
+          (cond-true (is_row k) (not (row_of rows k).linear) (not (is_member (coordinate_index k) free)) r
           ∙ not_from_false (row_of rows k).linear e)
 
       -- a coordinate stays where its column is not free
-      pub coordinate_stays : (k : ℕ) → Contains d.key k → 8192 ≤ k → (Contains free (k - 8192) → ⊥) →
+      pub coordinate_stays : (k : ℕ) → Contains d.key k → IsCoordinate k → (Contains free (coordinate_index k) → ⊥) →
           Contains main_key k
       coordinate_stays k c high n =
           filter_kept (stays p free) d.key k c
-          (cond-false (is_row k) (not (row_of rows k).linear) (not (is_member (k - 8192) free)) (le-ltb k 8192 high)
-          ∙ not_from_false (is_member (k - 8192) free)
-          (false_from_ne_true (is_member (k - 8192) free) (λ e. n (member_only (k - 8192) free e))))
+          (cond-false (is_row k) (not (row_of rows k).linear) (not (is_member (coordinate_index k) free)) (le-ltb k coordinates_from high)
+          ∙ not_from_false (is_member (coordinate_index k) free)
+          (false_from_ne_true (is_member (coordinate_index k) free) (λ e. n (member_only (coordinate_index k) free e))))
 
       -- a row that has been tried and is outside the key is 0 at the labels behind it
       pub main_settled : (i : ℕ) → Contains labels i → is_row i ≡ true → i < from → (Contains main_key i → ⊥) →
           (k : ℕ) → Contains d.key k → IsBehind rows i k → Table.entry (table_of d) i k ≡ pos 0
       main_settled i c r l n k m behind =
           let here = left_row i c r in
-          tried.settled i (dict_label i here.0) (ltb-true i 8192 r) (inr l) (λ q. n (row_stays i q r here.1)) k m behind
+          tried.settled i (dict_label i here.0) (ltb-true i coordinates_from r) (inr l) (λ q. n (row_stays i q r here.1)) k m behind
 
   -- ---- all rows have been tried
   module _ (ascending : IsAscending d.key) (free : AreFreeColumns (cone_of p) (columns_in d.key))
@@ -236,12 +235,12 @@ module _ (p : Polyhedron) (few : length (cone_of p).rows < 8192) (d : Dictionary
           h.0,
           r,
           not-true (row_of rows k).linear
-              (sym (cond-true (is_row k) (not (row_of rows k).linear) (not (is_member (k - 8192) columns)) r) ∙ h.1),
+              (sym (cond-true (is_row k) (not (row_of rows k).linear) (not (is_member (coordinate_index k) columns)) r) ∙ h.1),
         ))
         (λ (r : is_row k ≡ false).
-        let free = member_has (k - 8192) columns (column_of_label d.key k h.0 r) in
-        let gone = cond-false (is_row k) (not (row_of rows k).linear) (not (is_member (k - 8192) columns)) r
-        ∙ not_from_true (is_member (k - 8192) columns) free in
+        let free = member_has (coordinate_index k) columns (column_of_label d.key k h.0 r) in
+        let gone = cond-false (is_row k) (not (row_of rows k).linear) (not (is_member (coordinate_index k) columns)) r
+        ∙ not_from_true (is_member (coordinate_index k) columns) free in
         absurd (true≢false (sym h.1 ∙ gone)))
         (cases_Bool (is_row k))
 
@@ -249,7 +248,7 @@ module _ (p : Polyhedron) (few : length (cone_of p).rows < 8192) (d : Dictionary
         (k : ℕ) → Contains key k → i < k → Table.entry (table_of d) i k ≡ pos 0
     settled i c r n k m l =
         let there = stays_row k m in
-        let within = row_within k (key_in_labels k there.0) (ltb-true k 8192 there.1) in
+        let within = row_within k (key_in_labels k there.0) (ltb-true k coordinates_from there.1) in
         main_settled columns free (column_only d.key) point (length rows + 1) done i c r (omega arith) n k there.0
         (inr (there.2, inr l))
 

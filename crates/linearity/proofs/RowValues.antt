@@ -11,7 +11,7 @@ use Rattle.poly_model.specs.Systems.{no_row, row_of, Polyhedron, cone_of}
 use Rattle.poly_model.proofs.RowLemmas.{row_from_one}
 use Rattle.poly_model.specs.Cones.{at, coordinate, IsTight}
 use Rattle.poly_model.specs.Spaces.{label_form}
-use Rattle.poly_model.specs.Labels.{coordinate_label, is_row}
+use Rattle.poly_model.specs.Labels.{coordinates_from, IsRow, is_row, coordinate_label, coordinate_index}
 use Rattle.linear_laws.proofs.Entries.{coordinate_reads}
 use Rattle.linear_laws.proofs.Tails.{dot_to_entry}
 use Rattle.cone_laws.proofs.FeasibleLemmas.{first_unit_reads}
@@ -38,9 +38,9 @@ combined j D z g l h beyond v =
 
 module _ (p : Polyhedron) where
   -- the form of a row and of a coordinate
-  pub row_form : (i : ℕ) → i < 8192 → label_form (cone_of p).rows i ≡ (row_of (cone_of p).rows i).entries
+  pub row_form : (i : ℕ) → IsRow i → label_form (cone_of p).rows i ≡ (row_of (cone_of p).rows i).entries
   row_form i l =
-      cond-true (is_row i) (row_of (cone_of p).rows i).entries (coordinate (i - 8192)) (lt-ltb i 8192 l)
+      cond-true (is_row i) (row_of (cone_of p).rows i).entries (coordinate (coordinate_index i)) (lt-ltb i coordinates_from l)
 
   pub coordinate_value : (j : ℕ) (w : Vector) → label_form (cone_of p).rows (coordinate_label j) · w ≡ at j w
   coordinate_value j w = ap (λ g. g · w) (coordinate_form (cone_of p).rows j) ∙ coordinate_reads j w

@@ -8,7 +8,7 @@ use Rattle.poly_num.proofs.Order.{zero_factor, mul_nonzero, positive_nonzero}
 use Rattle.poly_model.specs.Systems.{row_of, Row, Polyhedron, cone_of}
 use Rattle.poly_model.specs.FreeColumns.{AreFreeColumns, IsFree}
 use Rattle.poly_model.specs.Spaces.{Space, prepare_space, main_space, IsStartCobasis}
-use Rattle.poly_model.specs.Labels.{is_row, coordinate_label}
+use Rattle.poly_model.specs.Labels.{coordinates_from, IsRow, is_row, coordinate_label, coordinate_index}
 use Rattle.poly_model.specs.Dictionaries.{Table, IsCobasis, Writes}
 use Rattle.poly_model.specs.Equations.{HasPointOn, equation_labels}
 use Rattle.dictionary_laws.proofs.Members.{contains_or}
@@ -21,7 +21,7 @@ use Rattle.linearity.specs.Elimination.{IsBehind, IsEliminated}
 use Rattle.linearity.proofs.StartCobasis.{start_has}
 use Rattle.linearity.proofs.MainStart.{key_in_labels, enters, main_key, rows_ascend, row_is_left, row_stays, coordinate_stays, main_settled}
 
-module _ (p : Polyhedron) (few : length (cone_of p).rows < 8192) (d : Dictionary)
+module _ (p : Polyhedron) (few : length (cone_of p).rows < coordinates_from) (d : Dictionary)
     (is : IsDictionaryIn (prepare_space p) d) (free : List ℕ) (columns : AreFreeColumns (cone_of p) free)
     (inside : (j : ℕ) → Contains free j → Contains d.key (coordinate_label j))
     (point : HasPointOn (prepare_space p) (equation_labels p)) (from : ℕ)
@@ -60,9 +60,9 @@ module _ (p : Polyhedron) (few : length (cone_of p).rows < 8192) (d : Dictionary
       (contains_or key j)
 
   -- a row that has entered
-  pub entered_in_start : (k : ℕ) → Contains d.key k → k < 8192 → (row_of rows k).linear ≡ false → Contains start k
+  pub entered_in_start : (k : ℕ) → Contains d.key k → IsRow k → (row_of rows k).linear ≡ false → Contains start k
   entered_in_start k c low e =
-      let r = lt-ltb k 8192 low in
+      let r = lt-ltb k coordinates_from low in
       let m = row_stays p few d is free columns inside point from tried k c r e in
       let w = dual_of space key cobasis k m in
       let earlier : k < from =
@@ -76,19 +76,19 @@ module _ (p : Polyhedron) (few : length (cone_of p).rows < 8192) (d : Dictionary
       w.here
 
   -- the row that is tried next
-  pub next_in_start : (k : ℕ) → Contains d.labels from → from < 8192 → (row_of rows from).linear ≡ false →
-      IsLeastColumn d from k → (IsFree (cone_of p) (k - 8192) → ⊥) → Contains start from
+  pub next_in_start : (k : ℕ) → Contains d.labels from → IsRow from → (row_of rows from).linear ≡ false →
+      IsLeastColumn d from k → (IsFree (cone_of p) (coordinate_index k) → ⊥) → Contains start from
   next_in_start k label low e column n =
-      let r = lt-ltb from 8192 low in
+      let r = lt-ltb from coordinates_from low in
       let high = column.coordinate in
       let m = coordinate_stays p few d is free columns inside point from tried k column.inside high
-      (λ c. n ((columns.exactly (k - 8192)).1 c)) in
+      (λ c. n ((columns.exactly (coordinate_index k)).1 c)) in
       let w = dual_of space key cobasis k m in
       let left = row_is_left p few d is free columns inside point from tried from label r e in
       start_has space start is_start (rows_ascend p few d is free columns inside point from tried) from left r
       w.vector w.direction
       (zero_before from k (omega arith) column.inside m
-      (λ j s less. (inl high, λ f. let l = ltb-true j 8192 s in omega arith)) w)
+      (λ j s less. (inl high, λ f. let l = ltb-true j coordinates_from s in omega arith)) w)
       (λ z. mul_nonzero (Table.entry (table_of d) from k) (space.form k · w.vector) column.nonzero w.here
       (sym (value_at space key cobasis (table_of d) writes from left k m w)
       ∙ times_zero d.denominator (space.form from · w.vector) z))

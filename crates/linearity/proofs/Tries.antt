@@ -2,6 +2,7 @@
 use Rattle.std.specs.Prelude.{Result, IfOk, IfErr}
 use Rattle.std.proofs.Common.{◌≡◌, ◌≢◌, ◌⊎◌, ⊎_elim, Ok, Err, Bool, ℕ, ◌+◌, ◌<◌, ◌≤◌, length, refl, sym, subst, ◌∙◌, arith}
 use Rattle.std.specs.List.{Contains}
+use Rattle.poly_model.specs.Labels.{IsRow}
 use Rattle.poly_model.specs.declared.overflow.Overflow.{Overflow}
 use Rattle.poly_model.specs.declared.overflow.Phase.TheVariants.{Cone, Prepare}
 use Rattle.poly_model.specs.Systems.{System, Polyhedron, row_of}
@@ -26,7 +27,7 @@ shape_then a b c s t = record {
   fewer = λ k i high. s.fewer k (t.fewer k i high) high;
 }
 
-pivot_shape : (old new : Dictionary) (i k : ℕ) → i < 8192 → IsPivot old i k new → KeepsShape old new
+pivot_shape : (old new : Dictionary) (i k : ℕ) → IsRow i → IsPivot old i k new → KeepsShape old new
 pivot_shape old new i k few p = record {
   phase = p.phase;
   labels = p.labels;
@@ -36,7 +37,7 @@ pivot_shape old new i k few p = record {
       (p.key.exchanges.only j c);
 }
 
-entered_shape : (old new : Dictionary) (i : ℕ) → i < 8192 → IsEntered old i new → KeepsShape old new
+entered_shape : (old new : Dictionary) (i : ℕ) → IsRow i → IsEntered old i new → KeepsShape old new
 entered_shape old new i few h =
     ⊎_elim
     (λ (e : (k : ℕ) × EntersFor old i k new). pivot_shape old new i e.0 few e.1.pivot)
@@ -44,7 +45,7 @@ entered_shape old new i few h =
     h
 
 -- whether the row has entered, or nothing has changed
-pub shape_after : {T : Type 0} (old new : Dictionary) (i : ℕ) (result : Result T Overflow) → i < 8192 →
+pub shape_after : {T : Type 0} (old new : Dictionary) (i : ℕ) (result : Result T Overflow) → IsRow i →
     IfOk result (λ _. IsEntered old i new) → IfErr result (λ _. new ≡ old) → KeepsShape old new
 shape_after old new i (Ok x) few h e = entered_shape old new i few h
 shape_after old new i (Err o) few h e = subst (KeepsShape old) (sym e) (shape_stays old)
@@ -121,7 +122,7 @@ module _ (sys : System) (others : Bool) where
     eliminated = λ p file h e. passed_over sys.rows others i d e is;
   }
 
-  module _ (i : ℕ) (few : i < 8192) (n : (row_of sys.rows i).linear ≢ others) (old : Dictionary) where
+  module _ (i : ℕ) (few : IsRow i) (n : (row_of sys.rows i).linear ≢ others) (old : Dictionary) where
     stays : IsZeroAtCoordinates old i → Eliminates sys others i (i + 1) old old
     stays none = record {
       dictionary = λ p file h. h;

@@ -2,6 +2,7 @@
 use Rattle.std.proofs.Common.{◌≡◌, ◌≢◌, ◌⊎◌, ⊎_elim, inl, inr, Bool, true, false, ℕ, ◌+◌, ◌<◌, ◌≤◌, pos, List, sym, subst, arith}
 use Rattle.std.specs.List.{Contains}
 use Rattle.std.proofs.lemmas.Bool.{cases_eq, cases_lt, cases_order, both_ways, true_from_ne_false}
+use Rattle.poly_model.specs.Labels.{coordinates_from, IsRow, IsCoordinate}
 use Rattle.poly_model.specs.Systems.{Row, row_of}
 use Rattle.poly_model.specs.Spaces.{Space, HasPoints}
 use Rattle.poly_model.specs.Dictionaries.{Table}
@@ -50,7 +51,7 @@ module _ (rows : List Row) (i : ℕ) where
 
 -- ---- the dictionary stays
 module _ (rows : List Row) (others : Bool) (i : ℕ) (d : Dictionary) (e : IsEliminated rows others i d) where
-  stays : (Contains d.labels i → i < 8192 → IsTried rows others (i + 1) i → IsSettled rows d i) →
+  stays : (Contains d.labels i → IsRow i → IsTried rows others (i + 1) i → IsSettled rows d i) →
       IsEliminated rows others (i + 1) d
   stays settled = record {
     settled = λ j l few h.
@@ -72,16 +73,16 @@ module _ (rows : List Row) (others : Bool) (i : ℕ) (d : Dictionary) (e : IsEli
   no_column n none =
       stays (λ l few h outside k c behind.
       ⊎_elim
-      (λ (b : 8192 ≤ k). none k c b)
+      (λ (b : IsCoordinate k). none k c b)
       (λ (b : ((row_of rows k).linear ≡ false) × (((row_of rows i).linear ≡ true) ⊎ (i < k))).
       ⊎_elim
-      (λ (f : k < 8192). absurd (none_behind rows i others n k (e.taken k c f) b.0 b.1))
-      (λ (f : 8192 ≤ k). none k c f)
-      (cases_lt k 8192))
+      (λ (f : IsRow k). absurd (none_behind rows i others n k (e.taken k c f) b.0 b.1))
+      (λ (f : IsCoordinate k). none k c f)
+      (cases_lt k coordinates_from))
       behind)
 
 -- ---- the row enters for the least coordinate at which it is not 0
-module _ (rows : List Row) (others : Bool) (r : ℕ) (few : r < 8192) (old new : Dictionary) (s : ℕ)
+module _ (rows : List Row) (others : Bool) (r : ℕ) (few : IsRow r) (old new : Dictionary) (s : ℕ)
     (e : IsEliminated rows others r old) (space : Space) (points : HasPoints space) (is : IsDictionaryIn space old)
     (column : IsLeastColumn old r s) (can : CanPivot old r s) (pivot : IsPivot old r s new) where
   abbrev exchanges : Exchanges old.key new.key r s
@@ -103,7 +104,7 @@ module _ (rows : List Row) (others : Bool) (r : ℕ) (few : r < 8192) (old new :
   zero_now = zero_after space points old new r s is can pivot
 
   -- a row that was outside and tried before is 0 at the coordinate, and at what was behind it
-  settled_before : (i : ℕ) → Contains new.labels i → i < 8192 → IsTried rows others r i → IsSettled rows new i
+  settled_before : (i : ℕ) → Contains new.labels i → IsRow i → IsTried rows others r i → IsSettled rows new i
   settled_before i l low h outside k c behind =
       let label = old_label i l in
       let out : Contains old.key i → ⊥ = λ m. outside (exchanges.kept i m (let f = column.coordinate in omega arith)) in
@@ -112,7 +113,7 @@ module _ (rows : List Row) (others : Bool) (r : ℕ) (few : r < 8192) (old new :
       (zero_by_row (table_of old) r s i k (old_settled s column.inside (inl column.coordinate))
       (λ n. only (before i k) k c (λ f. absurd (n f)) (λ m q. old_settled k m behind)))
 
-  settled : (i : ℕ) → Contains new.labels i → i < 8192 → IsTried rows others (r + 1) i → IsSettled rows new i
+  settled : (i : ℕ) → Contains new.labels i → IsRow i → IsTried rows others (r + 1) i → IsSettled rows new i
   settled i l low h outside =
       ⊎_elim
       (λ (b : IsTried rows others r i). settled_before i l low b outside)
@@ -120,7 +121,7 @@ module _ (rows : List Row) (others : Bool) (r : ℕ) (few : r < 8192) (old new :
       (tried_before rows r others i h)
 
   -- what stands at a coordinate that is left: before the one that leaves, the row is 0; behind it, the others are
-  leftmost : (j k : ℕ) → Contains new.labels j → Contains new.key k → 8192 ≤ k → k < j →
+  leftmost : (j k : ℕ) → Contains new.labels j → Contains new.key k → IsCoordinate k → k < j →
       Table.entry (table_of new) j k ≡ pos 0
   leftmost j k l c high less =
       let label = old_label j l in

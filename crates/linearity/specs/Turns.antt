@@ -1,6 +1,7 @@
 -- What becomes of a dictionary while rows enter its cobasis.
 use Rattle.std.specs.Prelude.{◌≡◌, ◌≢◌, ◌⊎◌, ℕ, ◌<◌, ◌≤◌, Bool, length}
 use Rattle.std.specs.List.{Contains}
+use Rattle.poly_model.specs.Labels.{IsCoordinate}
 use Rattle.poly_model.specs.declared.overflow.Overflow.{Overflow}
 use Rattle.poly_model.specs.Systems.{System, Polyhedron, row_of, cone_of}
 use Rattle.dictionary.specs.Views.{Dictionary, CanPivot, IsPivot, IsOverflow}
@@ -12,7 +13,7 @@ pub record KeepsShape (old new : Dictionary) : Type 0 where
   pub phase : new.phase ≡ old.phase
   pub labels : new.labels ≡ old.labels
   pub width : length new.columns ≡ length old.columns
-  pub fewer : (k : ℕ) → Contains new.key k → 8192 ≤ k → Contains old.key k
+  pub fewer : (k : ℕ) → Contains new.key k → IsCoordinate k → Contains old.key k
 
 -- row i has entered the cobasis for coordinate k, the least at which it is not 0
 pub record EntersFor (old : Dictionary) (i k : ℕ) (new : Dictionary) : Type 0 where

@@ -1,6 +1,7 @@
 //! Gauss's elimination in a dictionary: rows enter the cobasis, each for the least coordinate at which it is not 0.
 ghost use Rattle.std.specs.Prelude.{◌≡◌, ◌≢◌, ◌↔◌, ◌≤◌, ◌<◌, ◌+◌, ℕ, IsTrue, IsFalse, IsNone, IfSome, IfOk, IfErr, IsErrOf, pos, length};
 ghost use Rattle.std.specs.List.{Contains};
+ghost use Rattle.poly_model.specs.Labels.{IsRow, IsCoordinate};
 ghost use Rattle.poly_model.specs.declared.overflow.Overflow.{Overflow as Passed};
 ghost use Rattle.poly_model.specs.Dictionaries.{Table};
 ghost use Rattle.poly_model.specs.Overflows.{Passes};
@@ -36,28 +37,28 @@ impl Pass {
 
 // Whether a label of the cobasis is a coordinate at which a row is not 0: then the row can take its place.
 fn is_column(at: &Dict, row: Label, label: Label) -> bool
-    requires label { Contains at.now.labels row.0 }
-    requires row { row.0 < 8192 }
-    requires column { Contains at.now.key label.0 }
-    ensures coordinate { IsTrue result → 8192 ≤ label.0 }
-    ensures pivots { IsTrue result → CanPivot at.now row.0 label.0 }
-    ensures zero { IsFalse result → 8192 ≤ label.0 → Table.entry (table_of at.now) row.0 label.0 ≡ pos 0 }
+    requires label { Contains at.now.labels row }
+    requires row { IsRow row }
+    requires column { Contains at.now.key label }
+    ensures coordinate { IsTrue result → IsCoordinate label }
+    ensures pivots { IsTrue result → CanPivot at.now row label }
+    ensures zero { IsFalse result → IsCoordinate label → Table.entry (table_of at.now) row label ≡ pos 0 }
 {
-    label.0 >= 8192 && at.entry(row, label).get() != 0
+    label.is_coordinate() && at.entry(row, label).get() != 0
 }
 
 // The least coordinate in the cobasis at which a row is not 0, if any: then the row can take its place.
 fn least_column(at: &Dict, row: Label) -> Option<Label>
-    requires label { Contains at.now.labels row.0 }
-    requires row { row.0 < 8192 }
-    ensures some { IfSome result (λ k. IsLeastColumn at.now row.0 k.0) }
-    ensures pivots { IfSome result (λ k. CanPivot at.now row.0 k.0) }
-    ensures none { IsNone result → IsZeroAtCoordinates at.now row.0 }
+    requires label { Contains at.now.labels row }
+    requires row { IsRow row }
+    ensures some { IfSome result (λ k. IsLeastColumn at.now row k) }
+    ensures pivots { IfSome result (λ k. CanPivot at.now row k) }
+    ensures none { IsNone result → IsZeroAtCoordinates at.now row }
 {
     let key = at.key();
     'labels: for label in key.labels() {
-        if is_column(at, row, Label(*label)) {
-            return Some(Label(*label));
+        if is_column(at, row, *label) {
+            return Some(*label);
         }
     }
     None
@@ -65,11 +66,11 @@ fn least_column(at: &Dict, row: Label) -> Option<Label>
 
 // A row enters the cobasis for that coordinate, where there is one. Where the pivot overflows, nothing has changed.
 fn enter(at: &mut Dict, row: Label) -> Result<(), Overflow>
-    requires label { Contains at.old.labels row.0 }
-    requires row { row.0 < 8192 }
-    ensures entered { IfOk result (λ _. IsEntered at.old row.0 at.new) }
+    requires label { Contains at.old.labels row }
+    requires row { IsRow row }
+    ensures entered { IfOk result (λ _. IsEntered at.old row at.new) }
     ensures unchanged { IfErr result (λ _. at.new ≡ at.old) }
-    ensures overflows { IfErr result (λ o. (k : ℕ) × OverflowsFor at.old row.0 k o) }
+    ensures overflows { IfErr result (λ o. (k : ℕ) × OverflowsFor at.old row k o) }
 {
     match least_column(at, row) {
         Some(col) => at.pivot(row, col),
@@ -81,19 +82,19 @@ fn enter(at: &mut Dict, row: Label) -> Result<(), Overflow>
 fn is_tried(at: &Dict, sys: &System, i: u32, pass: Pass) -> bool
     requires from_one { 0 < i }
     requires within { i ≤ length sys.now.rows }
-    requires few { i < 8192 }
+    requires few { IsRow i }
     ensures label { IsTrue result → Contains at.now.labels i }
     ensures kind { IsTrue result → (row_of sys.now.rows i).linear ≢ tries_others pass }
     ensures otherwise { IsFalse result → Contains at.now.labels i → (row_of sys.now.rows i).linear ≡ tries_others pass }
 {
-    at.has_label(Label(i as u16)) && pass.tries(sys.is_linear(i))
+    at.has_label(Label::row(i)) && pass.tries(sys.is_linear(i))
 }
 
 // Tries a row in a pass. Where its pivot overflows, nothing has changed.
 fn try_row(at: &mut Dict, sys: &System, i: u32, pass: Pass) -> Result<(), Overflow>
     requires from_one { 0 < i }
     requires within { i ≤ length sys.now.rows }
-    requires few { i < 8192 }
+    requires few { IsRow i }
     ensures tried { IfOk result (λ _. Eliminates sys.now (tries_others pass) i (i + 1) at.old at.new) }
     ensures shape { KeepsShape at.old at.new }
     ensures unchanged { IfErr result (λ _. at.new ≡ at.old) }
@@ -104,7 +105,7 @@ fn try_row(at: &mut Dict, sys: &System, i: u32, pass: Pass) -> Result<(), Overfl
     ensures phase { (o : Passed) → IsErrOf result o → o.phase ≡ at.old.phase }
 {
     if is_tried(at, sys, i, pass) {
-        enter(at, Label(i as u16))
+        enter(at, Label::row(i))
     } else {
         Ok(())
     }
@@ -119,7 +120,7 @@ pub fn enter_rows(at: &mut Dict, sys: &System, pass: Pass) -> Result<(), Overflo
         IsEliminated sys.now.rows (tries_others pass) 1 at.old →
         IsDictionaryOf p at.new × IsEliminated sys.now.rows (tries_others pass) (length sys.now.rows + 1) at.new) }
     ensures stopped { IfErr result (λ o. (i : ℕ) × StopsAt sys.now (tries_others pass) i at.old at.new o) }
-    ensures fewer { (k : ℕ) → Contains at.new.key k → 8192 ≤ k → Contains at.old.key k }
+    ensures fewer { (k : ℕ) → Contains at.new.key k → IsCoordinate k → Contains at.old.key k }
     ensures phase { at.new.phase ≡ at.old.phase }
     ensures labels { at.new.labels ≡ at.old.labels }
     ensures width { length at.new.columns ≡ length at.old.columns }

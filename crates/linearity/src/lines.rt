@@ -5,36 +5,27 @@ ghost use Rattle.poly_model.specs.Limits.{most_columns};
 ghost use Rattle.poly_model.specs.Keys.{IsAscending};
 ghost use Rattle.hull_lift.specs.Facets.{primitive_column};
 ghost use Rattle.linearity.specs.Columns.{columns_in, coordinate_vectors};
-ghost use Rattle.poly_model.specs.Labels.{is_coordinate};
 
 use dictionary::Dict;
 use hull_lift::facet_row;
-use poly_model::{Label, Lines, OutOfMemory, Vector};
+use poly_model::{FreeColumns, Label, Lines, OutOfMemory, Vector};
 use poly_num::Num;
 use std::alloc::Global;
 
-// Whether a label is that of a coordinate.
-fn is_coordinate(label: u16) -> bool
-    ensures value { result ≡ is_coordinate label }
-    ensures above { IsTrue result → 8192 ≤ label }
-{
-    label >= 8192
-}
-
 /// The columns of the coordinates in the cobasis, ascending. Once all rows have been tried they are the free columns.
 /// Takes memory for the list.
-pub fn free_columns(alloc: Global, at: &Dict) -> Result<Vec<u32>, OutOfMemory>
-    ensures columns { IfOk result (λ v. v.items ≡ columns_in at.now.key) }
-    ensures ascending { IfOk result (λ v. IsAscending at.now.key) }
+pub fn free_columns(alloc: Global, at: &Dict) -> Result<FreeColumns, OutOfMemory>
+    ensures columns { IfOk result (λ free. free ≡ columns_in at.now.key) }
+    ensures ascending { IfOk result (λ free. IsAscending at.now.key) }
 {
     let key = at.key();
-    let mut free = Vec::new(alloc);
+    let mut columns = Vec::new(alloc);
     'labels: for label in key.labels() {
-        if is_coordinate(*label) {
-            free.push(u32::from(*label) - 8192)?;
+        if label.is_coordinate() {
+            columns.push(label.coordinate_index())?;
         }
     }
-    Ok(free)
+    Ok(FreeColumns::from_vec(columns))
 }
 
 /// For each coordinate in the cobasis, by ascending column, the vector of n entries without common divisor along its
@@ -47,8 +38,8 @@ pub fn lines_of(alloc: Global, at: &Dict, n: u32) -> Result<Lines, OutOfMemory>
     let key = at.key();
     let mut lines = Vec::new(alloc);
     'labels: for label in key.labels() {
-        if is_coordinate(*label) {
-            lines.push(line_at(alloc, at, Label(*label), n)?)?;
+        if label.is_coordinate() {
+            lines.push(line_at(alloc, at, *label, n)?)?;
         }
     }
     Ok(Lines::from_vec(lines))
@@ -56,9 +47,9 @@ pub fn lines_of(alloc: Global, at: &Dict, n: u32) -> Result<Lines, OutOfMemory>
 
 // The vector of a column.
 fn line_at(alloc: Global, at: &Dict, col: Label, n: u32) -> Result<Vector, OutOfMemory>
-    requires column { Contains at.now.key col.0 }
+    requires column { Contains at.now.key col }
     requires narrow { n ≤ most_columns }
-    ensures { IfOk result (λ line. line ≡ primitive_column at.now col.0 n) }
+    ensures { IfOk result (λ line. line ≡ primitive_column at.now col n) }
 {
     let mut vector = Vec::new(alloc);
     vector.resize(n as usize, Num::ZERO)?;

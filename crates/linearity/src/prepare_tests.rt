@@ -3,7 +3,7 @@ ghost use Rattle.std.specs.Prelude.{◌≡◌, ◌<◌};
 
 use crate::{PrepareStop, Prepared, prepare};
 use hull_lift::system_of;
-use poly_model::{Kind, Lines, MOST_COLUMNS, MOST_FILE_ROWS, OutOfMemory, Poly};
+use poly_model::{Key, Kind, Lines, MOST_COLUMNS, MOST_FILE_ROWS, OutOfMemory, Poly};
 use poly_num::Num;
 use std::alloc::Global;
 use std::test::Fail;
@@ -279,10 +279,19 @@ fn answer_to(alloc: Global, case: Case) -> Result<Answer, Fail> {
 fn answer_of(alloc: Global, prepared: &Prepared) -> Result<Answer, OutOfMemory> {
     Ok(Answer {
         end: End::Prepared,
-        start: Vec::from_slice(alloc, prepared.start().labels())?,
-        free: Vec::from_slice(alloc, prepared.free())?,
+        start: numbers_of(alloc, prepared.start())?,
+        free: Vec::from_slice(alloc, prepared.free().as_slice())?,
         lines: entries_of(alloc, prepared.lines())?,
     })
+}
+
+/// The rows of a start cobasis.
+fn numbers_of(alloc: Global, start: Key) -> Result<Vec<u16>, OutOfMemory> {
+    let mut numbers = Vec::new(alloc);
+    for label in start.labels() {
+        numbers.push(label.number())?;
+    }
+    Ok(numbers)
 }
 
 fn stopped(alloc: Global, end: End) -> Answer {

@@ -2,7 +2,7 @@
 ghost use Rattle.std.specs.Prelude.{◌≡◌};
 
 use dictionary::Dict;
-use poly_model::{Key, Lines};
+use poly_model::{FreeColumns, Key, Lines};
 use std::marker::Model;
 
 /// The lines of a cone, its free columns, and the dictionary of the start cobasis in the phase `Main`: of what
@@ -10,7 +10,7 @@ use std::marker::Model;
 #[derive(Drop)]
 pub struct Prepared {
     pub(crate) lines: Lines,
-    pub(crate) free: Vec<u32>,
+    pub(crate) free: FreeColumns,
     pub(crate) dict: Dict,
 }
 
@@ -19,7 +19,7 @@ impl Model for Prepared {
 
     ghost Value = { Preparation };
 
-    ghost view = { λ r. record { lines = r.lines; free = r.free.items; dictionary = r.dict } };
+    ghost view = { λ r. record { lines = r.lines; free = r.free; dictionary = r.dict } };
 }
 
 impl Prepared {
@@ -31,7 +31,7 @@ impl Prepared {
     }
 
     /// The free columns, ascending.
-    pub fn free(&self) -> &[u32]
+    pub fn free(&self) -> &FreeColumns
         ensures { result.now ≡ self.now.free }
     {
         &self.free

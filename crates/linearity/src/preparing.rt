@@ -43,7 +43,7 @@ pub fn prepare(alloc: Global, sys: &System) -> Result<Prepared, PrepareStop>
     ensures overflow { (o : Passed) → IsErrOf result (PrepareStop.Overflow o) →
         (p : Polyhedron) → sys.now ≡ cone_of p → IsDue p o (IsAskedBefore p o) }
 {
-    let (_n, _rows) = (sys.n(), sys.rows());
+    sys.keeps_limits();
     let Ok(mut at) = Dict::new(alloc, sys, Phase::Prepare) else {
         return Err(PrepareStop::Memory);
     };
@@ -96,7 +96,7 @@ fn is_consistent_at(at: &Dict, sys: &System, i: u32) -> bool
     ensures { IsTrue result ↔ (Contains at.now.labels i → (row_of sys.now.rows i).linear ≡ true →
         Table.constant (table_of at.now) i ≡ pos 0) }
 {
-    let row = Label(i as u16);
+    let row = Label::row(i);
     if at.has_label(row) && sys.is_linear(i) {
         at.constant(row).get() == 0
     } else {

@@ -1,9 +1,10 @@
 //! Elimination worked out by hand.
-ghost use Rattle.std.specs.Prelude.{◌≡◌, length};
+ghost use Rattle.std.specs.Prelude.{◌≡◌, ◌<◌, length};
+ghost use Rattle.poly_model.specs.Labels.{coordinates_from};
 
 use crate::{Pass, enter_rows};
 use dictionary::Dict;
-use poly_model::{Key, Kind, MOST_CONE_ROWS, Phase, RowKind, System};
+use poly_model::{Key, Kind, Label, MOST_CONE_ROWS, Phase, RowKind, System};
 use poly_num::Num;
 use std::alloc::Global;
 use std::test::Fail;
@@ -15,8 +16,8 @@ struct Case {
     name: &'static str,
     entries: &'static [i128],
     linear: &'static [bool],
-    first: Option<[u16; 3]>,
-    both: Option<[u16; 3]>,
+    first: Option<[Label; 3]>,
+    both: Option<[Label; 3]>,
 }
 
 #[derive(Clone, Copy, PartialEq, Eq, Debug)]
@@ -27,50 +28,68 @@ struct Passes {
 
 const LARGE: i128 = 1 << 100;
 
-#[test]
-fn rows_enter_the_cobasis(rt: HostRuntime) -> Result<(), Fail> {
-    for case in [
+fn cases() -> [Case; 4] {
+    [
         Case {
             name: "the equation enters before the row above it",
             entries: &[0, 0, 1, 0, 1, 1, 1, 0, 0],
             linear: &[false, true, false],
-            first: Some([2, 8192, 8194]),
-            both: Some([1, 2, 3]),
+            first: Some([row(2), x(0), x(2)]),
+            both: Some([row(1), row(2), row(3)]),
         },
         Case {
             name: "an equation twice, and a free column",
             entries: &[0, 1, 1, 0, 2, 2, 1, 0, 0],
             linear: &[true, true, false],
-            first: Some([1, 8192, 8194]),
-            both: Some([1, 3, 8194]),
+            first: Some([row(1), x(0), x(2)]),
+            both: Some([row(1), row(3), x(2)]),
         },
         Case {
             name: "an equation of 0, and a row that is 0 where the other has entered",
             entries: &[0, 0, 0, 0, -3, 2, 0, 6, -4],
             linear: &[true, false, false],
-            first: Some([8192, 8193, 8194]),
-            both: Some([2, 8192, 8194]),
+            first: Some([x(0), x(1), x(2)]),
+            both: Some([row(2), x(0), x(2)]),
         },
         Case {
             name: "rows of 200 bits",
             entries: &[1, 0, 0, 0, LARGE, 1, 0, 1, LARGE],
             linear: &[true, false, false],
-            first: Some([1, 8193, 8194]),
+            first: Some([row(1), x(1), x(2)]),
             both: None,
         },
-    ] {
+    ]
+}
+
+#[test]
+fn rows_enter_the_cobasis(rt: HostRuntime) -> Result<(), Fail> {
+    let cases = cases();
+    for case in &cases {
         let alloc = rt.alloc();
         let cone = cone_of(alloc, case.entries, case.linear)?;
         let mut at = Dict::new(alloc, &cone, Phase::Cone)?;
         let first = pass(&mut at, &cone, Pass::Linear);
         let both = pass(&mut at, &cone, Pass::Others);
         let want = Passes {
-            first: key_of(case.first),
-            both: key_of(case.both),
+            first: key_of(&case.first),
+            both: key_of(&case.both),
         };
         assert_eq!(rt; Passes { first, both }, want, "{}", case.name);
     }
     Ok(())
+}
+
+fn row(i: u32) -> Label
+    requires positive { 0 < i }
+    requires within { i < coordinates_from }
+{
+    Label::row(i)
+}
+
+fn x(j: u32) -> Label
+    requires { j < coordinates_from }
+{
+    Label::coordinate(j)
 }
 
 fn pass(at: &mut Dict, cone: &System, which: Pass) -> Option<Key> {
@@ -80,8 +99,11 @@ fn pass(at: &mut Dict, cone: &System, which: Pass) -> Option<Key> {
     }
 }
 
-fn key_of(labels: Option<[u16; 3]>) -> Option<Key> {
-    Key::from_ascending(&labels?)
+fn key_of(labels: &Option<[Label; 3]>) -> Option<Key> {
+    match labels {
+        Some(labels) => Key::from_ascending(labels),
+        None => None,
+    }
 }
 
 fn cone_of(alloc: Global, entries: &[i128], linear: &[bool]) -> Result<System, Fail> {

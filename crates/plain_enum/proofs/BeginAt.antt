@@ -12,7 +12,7 @@ use Rattle.poly_model.specs.Systems.{Row, row_of, no_row, System, Polyhedron, co
 use Rattle.poly_model.specs.Cones.{IsTight}
 use Rattle.poly_model.specs.FreeColumns.{IsFree, IsZeroAtFree, AreFreeColumns, AreLinesOf, AreLines}
 use Rattle.poly_model.specs.Spaces.{IsSpaceOf, is_member, cone_space}
-use Rattle.poly_model.specs.Labels.{coordinate_label, is_row}
+use Rattle.poly_model.specs.Labels.{coordinates_from, IsRow, IsCoordinate, is_row, coordinate_label, coordinate_index}
 use Rattle.poly_model.specs.Dictionaries.{Table}
 use Rattle.poly_model.proofs.RowLemmas.{row_from_one}
 use Rattle.linear_laws.proofs.AllLemmas.{all_from_map, all_to_map}
@@ -92,10 +92,10 @@ module _ (p : Polyhedron) (at last : Dictionary) (free : List ℕ) (b : IsBegun 
   fixed_are k c = (λ f. (fixed_only k f).1, λ e. fixed_has k c e)
 
   -- the rows of the key are linear, so they are fixed
-  row_is_linear : (k : ℕ) → Contains at.key k → k < 8192 → (row_of rows k).linear ≡ true
+  row_is_linear : (k : ℕ) → Contains at.key k → IsRow k → (row_of rows k).linear ≡ true
   row_is_linear k c l = (b.linear.taken k c l).0
 
-  row_is_fixed : (k : ℕ) → Contains at.key k → k < 8192 → Contains fixed k
+  row_is_fixed : (k : ℕ) → Contains at.key k → IsRow k → Contains fixed k
   row_is_fixed k c l =
       fixed_has k c (row_stays rows free k l ∙ not_from_true (row_of rows k).linear (row_is_linear k c l))
 
@@ -103,52 +103,52 @@ module _ (p : Polyhedron) (at last : Dictionary) (free : List ℕ) (b : IsBegun 
   free_is_fixed : (j : ℕ) → IsFree (cone_of p) j → Contains fixed (coordinate_label j)
   free_is_fixed j f =
       let c = (free_columns.exactly j).0 f in
-      let high : 8192 ≤ coordinate_label j = omega arith in
-      let there : coordinate_label j - 8192 ≡ j = omega arith in
+      let high : IsCoordinate (coordinate_label j) = omega arith in
+      let there : coordinate_index (coordinate_label j) ≡ j = omega arith in
       fixed_has (coordinate_label j)
       (b.later (coordinate_label j) (column_only last.key j (subst (λ ks. Contains ks j) b.columns c)) high)
       (coordinate_stays rows free (coordinate_label j) high
-      ∙ not_from_true (is_member (coordinate_label j - 8192) free)
-      (member_has (coordinate_label j - 8192) free (subst (Contains free) (sym there) c)))
+      ∙ not_from_true (is_member (coordinate_index (coordinate_label j)) free)
+      (member_has (coordinate_index (coordinate_label j)) free (subst (Contains free) (sym there) c)))
 
   -- ---- which labels are left
-  left_only : (k : ℕ) → Contains left k → Contains at.key k × (8192 ≤ k) × (is_member (k - 8192) free ≡ false)
+  left_only : (k : ℕ) → Contains left k → Contains at.key k × (IsCoordinate k) × (is_member (coordinate_index k) free ≡ false)
   left_only k c =
       let h = filter_only (is_kept free) at.key k c in
       ⊎_elim
-      (λ (l : k < 8192).
-      absurd (true≢false (sym h.1 ∙ cond-true (is_row k) false (not (is_member (k - 8192) free)) (lt-ltb k 8192 l))))
-      (λ (l : 8192 ≤ k). (
+      (λ (l : IsRow k).
+      absurd (true≢false (sym h.1 ∙ cond-true (is_row k) false (not (is_member (coordinate_index k) free)) (lt-ltb k coordinates_from l))))
+      (λ (l : IsCoordinate k). (
         h.0,
         l,
-        not-true (is_member (k - 8192) free)
-            (sym (cond-false (is_row k) false (not (is_member (k - 8192) free)) (le-ltb k 8192 l)) ∙ h.1),
+        not-true (is_member (coordinate_index k) free)
+            (sym (cond-false (is_row k) false (not (is_member (coordinate_index k) free)) (le-ltb k coordinates_from l)) ∙ h.1),
       ))
-      (cases_lt k 8192)
+      (cases_lt k coordinates_from)
 
-  pub left_has : (k : ℕ) → Contains at.key k → 8192 ≤ k → is_member (k - 8192) free ≡ false → Contains left k
+  pub left_has : (k : ℕ) → Contains at.key k → IsCoordinate k → is_member (coordinate_index k) free ≡ false → Contains left k
   left_has k c l e =
       filter_kept (is_kept free) at.key k c
-      (cond-false (is_row k) false (not (is_member (k - 8192) free)) (le-ltb k 8192 l)
-      ∙ not_from_false (is_member (k - 8192) free) e)
+      (cond-false (is_row k) false (not (is_member (coordinate_index k) free)) (le-ltb k coordinates_from l)
+      ∙ not_from_false (is_member (coordinate_index k) free) e)
 
   -- each label of the key is one or the other
   fixed_or_left : (P : Type 0) (k : ℕ) → Contains at.key k → (Contains fixed k → P) → (Contains left k → P) → P
   fixed_or_left P k c f g =
       ⊎_elim
-      (λ (l : k < 8192). f (row_is_fixed k c l))
-      (λ (l : 8192 ≤ k). ⊎_elim
-      (λ (e : is_member (k - 8192) free ≡ true).
-      f (fixed_has k c (coordinate_stays rows free k l ∙ not_from_true (is_member (k - 8192) free) e)))
-      (λ (e : is_member (k - 8192) free ≡ false). g (left_has k c l e))
-      (cases_Bool (is_member (k - 8192) free)))
-      (cases_lt k 8192)
+      (λ (l : IsRow k). f (row_is_fixed k c l))
+      (λ (l : IsCoordinate k). ⊎_elim
+      (λ (e : is_member (coordinate_index k) free ≡ true).
+      f (fixed_has k c (coordinate_stays rows free k l ∙ not_from_true (is_member (coordinate_index k) free) e)))
+      (λ (e : is_member (coordinate_index k) free ≡ false). g (left_has k c l e))
+      (cases_Bool (is_member (coordinate_index k) free)))
+      (cases_lt k coordinates_from)
 
   apart : (k : ℕ) → Contains fixed k → Contains left k → ⊥
   apart k c d =
       let h = left_only k d in
       true≢false
-      (sym (coordinate_stays rows free k h.1 ∙ not_from_false (is_member (k - 8192) free) h.2) ∙ (fixed_only k c).1)
+      (sym (coordinate_stays rows free k h.1 ∙ not_from_false (is_member (coordinate_index k) free) h.2) ∙ (fixed_only k c).1)
 
   -- ---- where the fixed labels are 0
   abbrev cone : ListedCone
@@ -164,27 +164,27 @@ module _ (p : Polyhedron) (at last : Dictionary) (free : List ℕ) (b : IsBegun 
     linear_is_zero : AreZeroAt p fixed z → (i : ℕ) → 1 ≤ i → i ≤ length rows → (row_of rows i).linear ≡ true →
         form_of p i · z ≡ pos 0
     linear_is_zero zeros i some within linear =
-        let low : i < 8192 = let few = b.at_of.few in omega arith in
+        let low : IsRow i = let few = b.at_of.few in omega arith in
         ⊎_elim
         (λ (c : Contains at.key i). zeros i (row_is_fixed i c low))
         (λ (n : Contains at.key i → ⊥).
         zero_by_terms p at.key is.dictionary.cobasis (table_of at) is.dictionary.writes i (row_label i some within)
         z width
         (λ k c. ⊎_elim
-        (λ (l : k < 8192).
+        (λ (l : IsRow k).
         times_zero (Table.entry (table_of at) i k) (form_of p k · z) (zeros k (row_is_fixed k c l)))
-        (λ (l : 8192 ≤ k).
+        (λ (l : IsCoordinate k).
         zero_times (Table.entry (table_of at) i k) (form_of p k · z)
         (b.linear.settled i (subst (λ ks. Contains ks i) (sym is.labels) (row_label i some within)) low
         (linear, omega arith) n k c (inl l)))
-        (cases_lt k 8192)))
+        (cases_lt k coordinates_from)))
         (contains_or at.key i)
 
     linear_rows_are_tight : AreZeroAt p fixed z → All (λ row. row.linear ≡ true → IsTight z row) rows
     linear_rows_are_tight zeros m none l =
         subst (λ (row : Row). row.linear ≡ true → IsTight z row) (get_or_default rows m no_row none l)
         (λ e.
-        let low : suc m < 8192 = let few = b.at_of.few in omega arith in
+        let low : suc m < coordinates_from = let few = b.at_of.few in omega arith in
         sym (ap (λ g. g · z) (row_form p (suc m) low))
         ∙ linear_is_zero zeros (suc m) (omega arith) (omega arith) e)
 
@@ -196,7 +196,7 @@ module _ (p : Polyhedron) (at last : Dictionary) (free : List ℕ) (b : IsBegun 
     fixed_are_zero free_zero tight k c =
         let h = fixed_only k c in
         ⊎_elim
-        (λ (l : k < 8192).
+        (λ (l : IsRow k).
         let r = cone_labels.rows_only k (key_label k h.0) l in
         let some = r.0 in
         let within = r.1 in
@@ -204,13 +204,13 @@ module _ (p : Polyhedron) (at last : Dictionary) (free : List ℕ) (b : IsBegun 
         ap (λ g. g · z) (row_form p k l)
         ∙ ap (λ (row : Row). row.entries · z) here
         ∙ tight (k - 1) no_row (omega arith) (ap (λ (row : Row). row.linear) (sym here) ∙ row_is_linear k h.0 l))
-        (λ (l : 8192 ≤ k).
-        let j : ℕ = k - 8192 in
+        (λ (l : IsCoordinate k).
+        let j : ℕ = coordinate_index k in
         let member = not-false (is_member j free) (sym (coordinate_stays rows free k l) ∙ h.1) in
         let label : coordinate_label j ≡ k = omega arith in
         subst (λ i. form_of p i · z ≡ pos 0) label
         (coordinate_value p j z ∙ free_zero j ((free_columns.exactly j).1 (member_only j free member))))
-        (cases_lt k 8192)
+        (cases_lt k coordinates_from)
 
     base_is_zero : Vanish cone.base z → AreZeroAt p fixed z
     base_is_zero v = all_at (λ k. form_of p k · z ≡ pos 0) fixed (all_from_map (λ g. g · z ≡ pos 0) (form_of p) fixed v)

@@ -3,6 +3,7 @@ use Rattle.std.proofs.Common.{◌≡◌, Err, inl, ℕ, ◌+◌, ◌<◌, ◌≤
 use Rattle.std.specs.List.{Contains, range_with_len}
 use Rattle.std.specs.Result.{IsErrOf}
 use Rattle.std.proofs.lemmas.List.Elements.{Contains-append_left}
+use Rattle.poly_model.specs.Labels.{IsCoordinate}
 use Rattle.poly_model.specs.Limits.{most_columns, most_cone_rows}
 use Rattle.poly_model.specs.declared.overflow.Overflow.{Overflow as Passed}
 use Rattle.poly_model.specs.declared.overflow.Phase.TheVariants.{Cone}
@@ -55,7 +56,7 @@ module _ (sys : System) (new : Dictionary) (is_new : IsNew sys Cone new) {n rows
 
   -- both have passed
   pub is_begun : (at last : Dictionary) (free : List ℕ) → TriesAll sys p false new at → TriesAll sys p true at last →
-      at.phase ≡ new.phase → ((k : ℕ) → Contains last.key k → 8192 ≤ k → Contains at.key k) → IsAscending last.key →
+      at.phase ≡ new.phase → ((k : ℕ) → Contains last.key k → IsCoordinate k → Contains at.key k) → IsAscending last.key →
       free ≡ columns_in last.key → IsBegun p at last free
   is_begun at last free first second phase later ascending columns =
       let linear = first begun.0 begun.1 in

@@ -6,7 +6,7 @@ use Rattle.std.proofs.lemmas.Bool.{lt-ltb, le-ltb, cond-true, cond-false, false_
 use Rattle.std.proofs.lemmas.List.Elements.{Contains-append_left, Contains-append_cases}
 use Rattle.poly_model.specs.Systems.{Row, row_of, Polyhedron}
 use Rattle.poly_model.specs.Spaces.{is_member}
-use Rattle.poly_model.specs.Labels.{is_row}
+use Rattle.poly_model.specs.Labels.{coordinates_from, IsRow, IsCoordinate, is_row, coordinate_index}
 use Rattle.dictionary.specs.Views.{Dictionary}
 use Rattle.dictionary.specs.MainPhase.{stays_in}
 use Rattle.listing_laws.specs.ListedCone.{ListedCone}
@@ -22,13 +22,13 @@ FixedAre rows free d fixed = (k : ℕ) → Contains d.key k → Contains fixed k
 
 module _ (rows : List Row) (free : List ℕ) where
   -- ---- the test of labels
-  pub row_stays : (k : ℕ) → k < 8192 → stays_in rows free k ≡ not (row_of rows k).linear
+  pub row_stays : (k : ℕ) → IsRow k → stays_in rows free k ≡ not (row_of rows k).linear
   row_stays k l =
-      cond-true (is_row k) (not (row_of rows k).linear) (not (is_member (k - 8192) free)) (lt-ltb k 8192 l)
+      cond-true (is_row k) (not (row_of rows k).linear) (not (is_member (coordinate_index k) free)) (lt-ltb k coordinates_from l)
 
-  pub coordinate_stays : (k : ℕ) → 8192 ≤ k → stays_in rows free k ≡ not (is_member (k - 8192) free)
+  pub coordinate_stays : (k : ℕ) → IsCoordinate k → stays_in rows free k ≡ not (is_member (coordinate_index k) free)
   coordinate_stays k l =
-      cond-false (is_row k) (not (row_of rows k).linear) (not (is_member (k - 8192) free)) (le-ltb k 8192 l)
+      cond-false (is_row k) (not (row_of rows k).linear) (not (is_member (coordinate_index k) free)) (le-ltb k coordinates_from l)
 
   -- ---- a label of the key
   module _ (d : Dictionary) (fixed : List ℕ) (are : FixedAre rows free d fixed) (k : ℕ) (c : Contains d.key k) where
@@ -39,17 +39,17 @@ module _ (rows : List Row) (free : List ℕ) where
     not_fixed_if_stays b same e f =
         let both : true ≡ false = sym (same ∙ not_from_false b e) ∙ (are k c).0 f in cc
 
-    row_not_linear : k < 8192 → (Contains fixed k → ⊥) → (row_of rows k).linear ≡ false
+    row_not_linear : IsRow k → (Contains fixed k → ⊥) → (row_of rows k).linear ≡ false
     row_not_linear l = stays_if_not_fixed (row_of rows k).linear (row_stays k l)
 
-    row_not_fixed : k < 8192 → (row_of rows k).linear ≡ false → Contains fixed k → ⊥
+    row_not_fixed : IsRow k → (row_of rows k).linear ≡ false → Contains fixed k → ⊥
     row_not_fixed l = not_fixed_if_stays (row_of rows k).linear (row_stays k l)
 
-    coordinate_not_free : 8192 ≤ k → (Contains fixed k → ⊥) → is_member (k - 8192) free ≡ false
-    coordinate_not_free l = stays_if_not_fixed (is_member (k - 8192) free) (coordinate_stays k l)
+    coordinate_not_free : IsCoordinate k → (Contains fixed k → ⊥) → is_member (coordinate_index k) free ≡ false
+    coordinate_not_free l = stays_if_not_fixed (is_member (coordinate_index k) free) (coordinate_stays k l)
 
-    coordinate_not_fixed : 8192 ≤ k → is_member (k - 8192) free ≡ false → Contains fixed k → ⊥
-    coordinate_not_fixed l = not_fixed_if_stays (is_member (k - 8192) free) (coordinate_stays k l)
+    coordinate_not_fixed : IsCoordinate k → is_member (coordinate_index k) free ≡ false → Contains fixed k → ⊥
+    coordinate_not_fixed l = not_fixed_if_stays (is_member (coordinate_index k) free) (coordinate_stays k l)
 
 -- ---- where a dictionary stands
 module _ (p : Polyhedron) (cone : ListedCone) (d : Dictionary) (fixed left : List ℕ) (marks : List Bool)
@@ -57,7 +57,7 @@ module _ (p : Polyhedron) (cone : ListedCone) (d : Dictionary) (fixed left : Lis
   pub left_in_key : (k : ℕ) → Contains left k → Contains d.key k
   left_in_key k c = s.key.back k (in_third fixed (marked_labels marks) left k c)
 
-  taken_low : (k : ℕ) → Contains (marked_labels marks) k → k < 8192
+  taken_low : (k : ℕ) → Contains (marked_labels marks) k → IsRow k
   taken_low k c = omega (arith, taken_within p cone d fixed left marks s k c, as_many p cone s.over, s.over.few)
 
   -- what is not fixed is a row taken, or left
@@ -76,18 +76,18 @@ module _ (p : Polyhedron) (cone : ListedCone) (d : Dictionary) (fixed left : Lis
         (λ f. distinct_apart fixed (marked_labels marks ++ left) s.distinct k f
         (Contains-append_left (marked_labels marks) left k c))
 
-    pub is_taken : (k : ℕ) → Contains d.key k → k < 8192 → (row_of rows k).linear ≡ false → Contains (marked_labels marks) k
+    pub is_taken : (k : ℕ) → Contains d.key k → IsRow k → (row_of rows k).linear ≡ false → Contains (marked_labels marks) k
     is_taken k c low e =
         not_fixed_cases (Contains (marked_labels marks) k) k c (row_not_fixed rows free d fixed are k c low e) (λ t. t)
         (λ l. absurd (let high = s.coordinates k l in omega arith))
 
     -- the coordinates of the key that are not free are left
-    pub left_not_free : (k : ℕ) → Contains left k → is_member (k - 8192) free ≡ false
+    pub left_not_free : (k : ℕ) → Contains left k → is_member (coordinate_index k) free ≡ false
     left_not_free k c =
         coordinate_not_free rows free d fixed are k (left_in_key k c) (s.coordinates k c)
         (λ f. left_is_not_fixed p cone d fixed left marks s k f c)
 
-    pub is_left : (k : ℕ) → Contains d.key k → 8192 ≤ k → is_member (k - 8192) free ≡ false → Contains left k
+    pub is_left : (k : ℕ) → Contains d.key k → IsCoordinate k → is_member (coordinate_index k) free ≡ false → Contains left k
     is_left k c high e =
         not_fixed_cases (Contains left k) k c (coordinate_not_fixed rows free d fixed are k c high e)
         (λ t. absurd (let low = taken_low k t in omega arith)) (λ l. l)

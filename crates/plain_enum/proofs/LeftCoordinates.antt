@@ -3,6 +3,7 @@ use Rattle.std.proofs.Common.{◌≡◌, false, ℕ, zero, suc, ◌+◌, ◌-◌
 use Rattle.std.proofs.lemmas.List.{get_or_default}
 use Rattle.std.proofs.lemmas.List.Elements.{Contains-get_or}
 use Rattle.std.specs.List.{Contains}
+use Rattle.poly_model.specs.Labels.{IsCoordinate, coordinate_index}
 use Rattle.poly_model.specs.Keys.{IsAscending}
 use Rattle.poly_model.specs.Spaces.{is_member}
 use Rattle.linear_laws.proofs.Members.{all_at}
@@ -28,20 +29,20 @@ module _ (free labels : List ℕ) where
   -- col is such a coordinate, and no other one before place i is above it
   pub record IsLastBefore (i col : ℕ) : Type 0 where
     pub inside : Contains labels col
-    pub coordinate : 8192 ≤ col
-    pub not_free : is_member (col - 8192) free ≡ false
-    pub last : (k : ℕ) (c : Contains labels k) → c.0 < i → 8192 ≤ k → is_member (k - 8192) free ≡ false → k ≤ col
+    pub coordinate : IsCoordinate col
+    pub not_free : is_member (coordinate_index col) free ≡ false
+    pub last : (k : ℕ) (c : Contains labels k) → c.0 < i → IsCoordinate k → is_member (coordinate_index k) free ≡ false → k ≤ col
 
   -- there is none before place i
   abbrev pub NoneBefore : ℕ → Type 0
-  NoneBefore i = (k : ℕ) (c : Contains labels k) → c.0 < i → 8192 ≤ k → is_member (k - 8192) free ≡ false → ⊥
+  NoneBefore i = (k : ℕ) (c : Contains labels k) → c.0 < i → IsCoordinate k → is_member (coordinate_index k) free ≡ false → ⊥
 
   -- ---- the label at place i
   module _ (ascending : IsAscending labels) (i : ℕ) (here : i < length labels) where
     abbrev label : ℕ
     label = get_or labels i 0
 
-    pub is_last : 8192 ≤ label → is_member (label - 8192) free ≡ false → IsLastBefore (i + 1) label
+    pub is_last : IsCoordinate label → is_member (coordinate_index label) free ≡ false → IsLastBefore (i + 1) label
     is_last high out = record {
       inside = Contains-get_or labels i 0 here;
       coordinate = high;
@@ -49,18 +50,18 @@ module _ (free labels : List ℕ) where
       last = λ k c l a b. at_most labels ascending i here k c (omega arith);
     }
 
-  module _ (i : ℕ) (other : 8192 ≤ get_or labels i 0 → is_member (get_or labels i 0 - 8192) free ≡ false → ⊥) where
+  module _ (i : ℕ) (other : IsCoordinate (get_or labels i 0) → is_member (coordinate_index (get_or labels i 0)) free ≡ false → ⊥) where
     pub stays_last : (col : ℕ) → IsLastBefore i col → IsLastBefore (i + 1) col
     stays_last col h = record {
       inside = h.inside;
       coordinate = h.coordinate;
       not_free = h.not_free;
-      last = with_next (λ k. 8192 ≤ k → is_member (k - 8192) free ≡ false → k ≤ col) labels i h.last
+      last = with_next (λ k. IsCoordinate k → is_member (coordinate_index k) free ≡ false → k ≤ col) labels i h.last
           (λ a b. absurd (other a b));
     }
 
     pub still_none : NoneBefore i → NoneBefore (i + 1)
-    still_none h = with_next (λ k. 8192 ≤ k → is_member (k - 8192) free ≡ false → ⊥) labels i h other
+    still_none h = with_next (λ k. IsCoordinate k → is_member (coordinate_index k) free ≡ false → ⊥) labels i h other
 
 -- ---- behind the last label
 module _ (d : Dictionary) (free labels : List ℕ) (same : labels ≡ d.key) (i : ℕ) (behind : length labels ≤ i) where

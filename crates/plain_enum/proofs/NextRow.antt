@@ -4,6 +4,7 @@ use Rattle.std.specs.List.{Contains}
 use Rattle.std.proofs.lemmas.Bool.{false_from_ne_true, not_from_false}
 use Rattle.std.proofs.lemmas.List.{get_or-map}
 use Rattle.poly_num.specs.Vectors.{Vector, ◌·◌}
+use Rattle.poly_model.specs.Labels.{IsRow}
 use Rattle.poly_model.specs.declared.overflow.Overflow.{Overflow}
 use Rattle.poly_model.specs.Independence.{Vanish, Follows, IsNew}
 use Rattle.poly_model.specs.Systems.{Row, row_of, no_row, System, Polyhedron}
@@ -115,7 +116,7 @@ module _ (sys : System) (free : List ℕ) (d : Dictionary) (i depth : ℕ) (p : 
           pivot_takes p cone d new fixed left marks here.stands k (is_left k column)
           (subst (λ j. IsPivot d j k new) here.next pivot) before
 
-      low : i < 8192
+      low : IsRow i
       low = let few = here.stands.over.few in omega (arith, as_many p cone here.stands.over, before, here.next)
 
       -- the row that enters is neither fixed nor linear

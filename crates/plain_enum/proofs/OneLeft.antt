@@ -13,7 +13,8 @@ use Rattle.linear_laws.proofs.Members.{Contains-first}
 use Rattle.dictionary_laws.specs.Numbers.{IsOwnRow}
 use Rattle.dictionary_laws.proofs.Values.{is_label, own_row}
 use Rattle.dictionary.specs.Views.{Dictionary, table_of}
-use Rattle.hull_lift.specs.Facets.{constant_label, column_of}
+use Rattle.hull_lift.specs.Facets.{column_of}
+use Rattle.poly_model.specs.Labels.{constant_label}
 use Rattle.listing_laws.specs.ListedCone.{ListedCone, row_at}
 use Rattle.listing_laws.specs.Prefixes.{marked_labels}
 use Rattle.listing_laws.specs.Directions.{DualVector, IsLeft, LeavesOne}

@@ -9,7 +9,7 @@ use Rattle.poly_model.specs.Independence.{Vanish, taken}
 use Rattle.poly_model.specs.Systems.{Row, row_of, no_row, Polyhedron, cone_of}
 use Rattle.poly_model.specs.Cones.{coordinate}
 use Rattle.poly_model.specs.Spaces.{cone_space}
-use Rattle.poly_model.specs.Labels.{is_row, coordinate_label}
+use Rattle.poly_model.specs.Labels.{coordinates_from, IsRow, is_row, coordinate_label, coordinate_index}
 use Rattle.poly_model.proofs.RowLemmas.{row_from_one}
 use Rattle.linear_laws.proofs.Members.{Contains-nil, Contains-first, Contains-later}
 use Rattle.dictionary_laws.proofs.Filters.{range_has}
@@ -60,11 +60,11 @@ module _ (p : Polyhedron) (cone : ListedCone) (over : HasRowsOf p cone) where
   pub row_form : (i : ℕ) → 0 < i → i ≤ length cone.rows → row_at cone i ≡ form_of p i
   row_form i a b =
       let within : i - 1 < length (cone_of p).rows = omega (arith, as_many) in
-      let below : i < 8192 = omega (arith, as_many, over.few) in
+      let below : IsRow i = omega (arith, as_many, over.few) in
       ap (λ gs. get_or gs (i - 1) []) over.rows
       ∙ get_or-map (λ (row : Row). row.entries) (cone_of p).rows (i - 1) no_row [] within
       ∙ ap (λ (row : Row). row.entries) (sym (row_from_one (cone_of p).rows i a))
-      ∙ sym (cond-true (is_row i) (row_of (cone_of p).rows i).entries (coordinate (i - 8192)) (lt-ltb i 8192 below))
+      ∙ sym (cond-true (is_row i) (row_of (cone_of p).rows i).entries (coordinate (coordinate_index i)) (lt-ltb i coordinates_from below))
 
   pub next_form : (marks : List Bool) → length marks < length cone.rows →
       next_row cone marks ≡ form_of p (length marks + 1)

@@ -6,7 +6,7 @@ use Rattle.poly_model.specs.Keys.{IsAscending}
 use Rattle.poly_num.specs.Vectors.{Vector}
 use Rattle.poly_model.specs.Systems.{Row, System, Polyhedron, cone_of}
 use Rattle.poly_model.specs.Spaces.{is_member}
-use Rattle.poly_model.specs.Labels.{is_row}
+use Rattle.poly_model.specs.Labels.{IsCoordinate, is_row, coordinate_index}
 use Rattle.dictionary.specs.MainPhase.{stays_in}
 use Rattle.dictionary.specs.Views.{Dictionary}
 use Rattle.linearity.specs.Columns.{columns_in}
@@ -23,7 +23,7 @@ pub record IsBegun (p : Polyhedron) (at last : Dictionary) (free : List ℕ) : T
   pub linear : IsEliminated (cone_of p).rows false (length (cone_of p).rows + 1) at
   pub last_of : IsDictionaryOf p last
   pub all : IsEliminated (cone_of p).rows true (length (cone_of p).rows + 1) last
-  pub later : (k : ℕ) → Contains last.key k → 8192 ≤ k → Contains at.key k
+  pub later : (k : ℕ) → Contains last.key k → IsCoordinate k → Contains at.key k
   pub ascending : IsAscending last.key
   pub columns : free ≡ columns_in last.key
 
@@ -37,7 +37,7 @@ begun_cone p free d = cone_over (map (form_of p) (fixed_in (cone_of p).rows free
 
 -- a coordinate that is not free
 abbrev pub is_kept : List ℕ → ℕ → Bool
-is_kept free k = if is_row k then false else not (is_member (k - 8192) free)
+is_kept free k = if is_row k then false else not (is_member (coordinate_index k) free)
 
 -- the labels of a key that are left
 abbrev pub left_in : List ℕ → List ℕ → List ℕ

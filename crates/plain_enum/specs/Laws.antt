@@ -7,7 +7,8 @@ use Rattle.poly_model.specs.Spaces.{cone_space}
 use Rattle.poly_model.specs.Dictionaries.{Table}
 use Rattle.dictionary_laws.proofs.Members.{without}
 use Rattle.dictionary.specs.Views.{Dictionary, IsDictionaryIn, IsPivot, table_of}
-use Rattle.hull_lift.specs.Facets.{constant_label, column_of}
+use Rattle.hull_lift.specs.Facets.{column_of}
+use Rattle.poly_model.specs.Labels.{constant_label}
 use Rattle.listing_laws.specs.ListedCone.{ListedCone}
 use Rattle.listing_laws.specs.Prefixes.{taken_at, next_row, marked_labels}
 use Rattle.listing_laws.specs.Directions.{PassesLocalTest}

@@ -3,6 +3,7 @@
 use Rattle.std.specs.Prelude.{◌≡◌, ◌↔◌, ℕ, ◌<◌, ◌≤◌, Bool, pos, List, ◌++◌, map, length}
 use Rattle.std.specs.List.{Contains}
 use Rattle.poly_num.specs.Vectors.{Vector, ◌·◌}
+use Rattle.poly_model.specs.Labels.{coordinates_from, IsCoordinate}
 use Rattle.poly_model.specs.Independence.{Vanish}
 use Rattle.poly_model.specs.Systems.{Polyhedron, cone_of}
 use Rattle.poly_model.specs.Spaces.{label_form, cone_space}
@@ -26,7 +27,7 @@ AreZeroAt p labels z = (k : ℕ) → Contains labels k → form_of p k · z ≡ 
 pub record HasRowsOf (p : Polyhedron) (cone : ListedCone) : Type 0 where
   pub width : cone.n ≡ p.n
   pub rows : cone.rows ≡ map (λ row. row.entries) (cone_of p).rows
-  pub few : length (cone_of p).rows < 8192
+  pub few : length (cone_of p).rows < coordinates_from
 
 -- the labels of the base, then those of the rows taken, then those that are left
 abbrev pub parted : List ℕ → List Bool → List ℕ → List ℕ
@@ -41,7 +42,7 @@ pub record StandsAt (p : Polyhedron) (cone : ListedCone) (d : Dictionary) (fixed
   pub within : length marks ≤ length cone.rows
   pub key : HaveSameLabels d.key (parted fixed marks left)
   pub distinct : AreDistinct (parted fixed marks left)
-  pub coordinates : (k : ℕ) → Contains left k → 8192 ≤ k
+  pub coordinates : (k : ℕ) → Contains left k → IsCoordinate k
   pub base : (z : Vector) → length z ≡ p.n → Vanish cone.base z ↔ AreZeroAt p fixed z
   pub count : length cone.base ≡ length fixed
 

@@ -15,7 +15,7 @@ use crate::answers::FeasibleStop;
 use crate::side::is_kept;
 use dictionary::Dict;
 use linearity::{Pass, enter_rows, free_columns};
-use poly_model::{Label, Phase, System};
+use poly_model::{FreeColumns, Label, Phase, System};
 use poly_num::Num;
 use std::alloc::{AllocError, Global};
 
@@ -27,7 +27,7 @@ pub(crate) struct Beginning {
     /// The same once all rows have been tried.
     pub last: Dict,
     /// The free columns, ascending.
-    pub free: Vec<u32>,
+    pub free: FreeColumns,
     pub room: Room,
 }
 
@@ -41,12 +41,12 @@ pub(crate) struct Room {
 
 /// What the listing of a system begins with.
 pub(crate) fn begin(alloc: Global, sys: &System) -> Result<Beginning, FeasibleStop>
-    ensures begun { IfOk result (λ b. (p : Polyhedron) → sys.now ≡ cone_of p → IsBegun p b.at b.last b.free.items) }
-    ensures room { IfOk result (λ b. HasRoomForAll sys.now b.free.items b.at b.room.deeper.items b.room.vector.items) }
+    ensures begun { IfOk result (λ b. (p : Polyhedron) → sys.now ≡ cone_of p → IsBegun p b.at b.last b.free) }
+    ensures room { IfOk result (λ b. HasRoomForAll sys.now b.free b.at b.room.deeper.items b.room.vector.items) }
     ensures overflow { (o : Passed) → IsErrOf result (FeasibleStop.Overflow o) → (p : Polyhedron) →
         sys.now ≡ cone_of p → PassesInCone p o }
 {
-    keeps_limits(sys);
+    sys.keeps_limits();
     let Ok(mut at) = Dict::new(alloc, sys, Phase::Cone) else {
         return Err(FeasibleStop::Memory);
     };
@@ -65,24 +65,14 @@ pub(crate) fn begin(alloc: Global, sys: &System) -> Result<Beginning, FeasibleSt
     }
 }
 
-// A system keeps the limits of a cone. Nothing is done: the clauses are told.
-fn keeps_limits(sys: &System)
-    ensures some { 0 < sys.now.n }
-    ensures narrow { sys.now.n ≤ most_columns }
-    ensures few { length sys.now.rows ≤ most_cone_rows }
-{
-    sys.n();
-    sys.rows();
-}
-
 // The free columns, and room for a listing from these dictionaries. The answer is `Err` only for want of memory.
 fn with_room(alloc: Global, sys: &System, at: Dict, last: Dict) -> Result<Beginning, AllocError>
     ensures at { IfOk result (λ b. b.at ≡ at) }
     ensures last { IfOk result (λ b. b.last ≡ last) }
-    ensures columns { IfOk result (λ b. b.free.items ≡ columns_in last.key) }
+    ensures columns { IfOk result (λ b. b.free ≡ columns_in last.key) }
     ensures ascending { IfOk result (λ b. IsAscending last.key) }
     ensures shapes { IfOk result (λ b. All (HasShapeOf at) b.room.deeper.items) }
-    ensures depth { IfOk result (λ b. length b.room.deeper.items ≡ length (left_in b.free.items at.key) - 1) }
+    ensures depth { IfOk result (λ b. length b.room.deeper.items ≡ length (left_in b.free at.key) - 1) }
     ensures vector { IfOk result (λ b. length b.room.vector.items ≡ sys.now.n) }
 {
     let free = free_columns(alloc, &last)?;
@@ -119,13 +109,13 @@ fn zero_vector(alloc: Global, n: u32) -> Result<Vec<Num>, AllocError>
 }
 
 // How many coordinates in the cobasis are not free.
-fn count_left(at: &Dict, free: &[u32]) -> usize
+fn count_left(at: &Dict, free: &FreeColumns) -> usize
     ensures { result ≡ length (left_in free.now at.now.key) }
 {
     let key = at.key();
     let mut count: usize = 0;
     'labels: for label in key.labels() {
-        if is_kept(free, Label(*label)) {
+        if is_kept(free, *label) {
             count += 1;
         }
     }

@@ -1,6 +1,6 @@
 //! Where a search stands.
 use dictionary::Dict;
-use poly_model::{Overflow, System};
+use poly_model::{FreeColumns, Overflow, System};
 
 /// A prefix of the rows of a system: those before the label `from`, of which exactly the ones in the cobasis of `at`
 /// are taken, beside the labels that are fixed there: linear rows, and coordinates that are free. `free` are the free
@@ -8,7 +8,7 @@ use poly_model::{Overflow, System};
 #[derive(Drop)]
 pub struct Prefix<'a> {
     pub sys: &'a System,
-    pub free: &'a [u32],
+    pub free: &'a FreeColumns,
     pub at: &'a Dict,
     pub from: u32,
 }

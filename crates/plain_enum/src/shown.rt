@@ -16,9 +16,9 @@ use poly_num::{Num, negate};
 /// The side on which a column is shown, if any.
 pub fn shown_side(sys: &System, at: &Dict, col: Label) -> Option<Side>
     requires rows { HasRows (length sys.now.rows) at.now }
-    requires column { Contains at.now.key col.0 }
-    ensures some { IfSome result (IsShownOn sys.now at.now col.0) }
-    ensures none { IsNone result → (side : AnySide) → IsShownOn sys.now at.now col.0 side → ⊥ }
+    requires column { Contains at.now.key col }
+    ensures some { IfSome result (IsShownOn sys.now at.now col) }
+    ensures none { IsNone result → (side : AnySide) → IsShownOn sys.now at.now col side → ⊥ }
 {
     let rows = sys.rows();
     let side = side_of(at, rows, col)?;
@@ -31,9 +31,9 @@ pub fn shown_side(sys: &System, at: &Dict, col: Label) -> Option<Side>
 
 /// Writes the vector without common divisor of a column, or its opposite.
 pub fn write_direction(at: &Dict, col: Label, side: Side, vector: &mut [Num])
-    requires column { Contains at.now.key col.0 }
+    requires column { Contains at.now.key col }
     requires narrow { length vector.old ≤ most_columns }
-    ensures value { vector.new ≡ vector_on side (primitive_column at.now col.0 (length vector.old)) }
+    ensures value { vector.new ≡ vector_on side (primitive_column at.now col (length vector.old)) }
     ensures width { length vector.new ≡ length vector.old }
 {
     facet_row(at, col, vector);

@@ -65,10 +65,10 @@ fn visit_left<O, E, V: Visit<O, E>>(
 // Makes the next dictionary the one of the cobasis in which a row has taken the place of a column. Where that
 // overflows, the next one is as this one.
 fn take_row(at: &Dict, row: Label, col: Label, next: &mut Dict) -> Result<(), Overflow>
-    requires can { CanPivot at.now row.0 col.0 }
+    requires can { CanPivot at.now row col }
     requires shape { HasShapeOf at.now next.old }
-    ensures pivoted { IfOk result (λ _. IsPivot at.now row.0 col.0 next.new) }
-    ensures passes { IfErr result (λ o. IsOverflow at.now row.0 col.0 o) }
+    ensures pivoted { IfOk result (λ _. IsPivot at.now row col next.new) }
+    ensures passes { IfErr result (λ o. IsOverflow at.now row col o) }
     ensures shape { HasShapeOf at.now next.new }
 {
     at.copy_into(next);
@@ -102,7 +102,7 @@ pub fn visit_under<O, E, V: Visit<O, E>>(
         Some((next, others)) => {
             let mut visitor = visitor;
             'rows: for i in prefix.from..prefix.sys.rows() + 1 {
-                let row = Label(i as u16);
+                let row = Label::row(i);
                 if let Some(col) = column_of(prefix.at, prefix.free, row) {
                     if let Err(overflow) = take_row(prefix.at, row, col, next) {
                         return Err(Ended::Overflow(overflow));

@@ -1,11 +1,11 @@
 //! The names of the rows and columns of a dictionary.
 ghost use Rattle.std.specs.Prelude.{◌≡◌, ◌↔◌, ◌<◌, IsTrue};
-ghost use Rattle.poly_model.specs.Labels.{first_coordinate, IsRow, IsCoordinate, coordinate_label, coordinate_index, is_row};
+ghost use Rattle.poly_model.specs.Labels.{coordinates_from, constant_label, IsRow, IsCoordinate, coordinate_label, coordinate_index, is_row};
 
 use std::marker::Model;
 
-/// The number of the label of coordinate 0.
-pub const FIRST_COORDINATE: u16 = 8192;
+/// From this number on labels are those of coordinates, below it those of rows.
+pub const COORDINATES_FROM: u16 = 8192;
 
 /// The number of the label of the constant column.
 pub const CONSTANT: u16 = 65535;
@@ -37,7 +37,7 @@ impl Label {
     /// Row i, counted from 1.
     pub fn row(i: u32) -> Label
         requires positive { 0 < i }
-        requires within { i < first_coordinate }
+        requires within { i < coordinates_from }
         ensures { result ≡ i }
     {
         Label { number: i as u16 }
@@ -45,11 +45,11 @@ impl Label {
 
     /// Coordinate j, counted from 0.
     pub fn coordinate(j: u32) -> Label
-        requires { j < first_coordinate }
+        requires { j < coordinates_from }
         ensures { result ≡ coordinate_label j }
     {
         Label {
-            number: FIRST_COORDINATE + j as u16,
+            number: COORDINATES_FROM + j as u16,
         }
     }
 
@@ -65,14 +65,21 @@ impl Label {
         ensures row { IsTrue result ↔ IsRow self }
         ensures value { result ≡ is_row self }
     {
-        self.number < FIRST_COORDINATE
+        self.number < COORDINATES_FROM
     }
 
     /// Whether it is a coordinate's; the constant column counts as one.
     pub fn is_coordinate(self) -> bool
         ensures { IsTrue result ↔ IsCoordinate self }
     {
-        self.number >= FIRST_COORDINATE
+        self.number >= COORDINATES_FROM
+    }
+
+    /// Whether it is the constant column's.
+    pub fn is_constant(self) -> bool
+        ensures { IsTrue result ↔ (self ≡ constant_label) }
+    {
+        self.number == CONSTANT
     }
 
     /// Which coordinate it is, counted from 0.
@@ -80,7 +87,7 @@ impl Label {
         requires { IsCoordinate self }
         ensures { result ≡ coordinate_index self }
     {
-        u32::from(self.number - FIRST_COORDINATE)
+        u32::from(self.number - COORDINATES_FROM)
     }
 
     /// Whether both are one: `==` as a call that says so.

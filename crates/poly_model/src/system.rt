@@ -81,6 +81,16 @@ impl System {
         linear.len() as u32
     }
 
+    /// A system keeps the limits of a cone. Nothing is done: a call of this tells the proofs of the caller.
+    pub fn keeps_limits(&self)
+        ensures some { 0 < self.now.n }
+        ensures narrow { self.now.n ≤ most_columns }
+        ensures few { length self.now.rows ≤ most_cone_rows }
+    {
+        self.n();
+        self.rows();
+    }
+
     /// Row i, counted from 1: n numbers.
     pub fn row(&self, i: u32) -> &[Num]
         requires from_one { 0 < i }

@@ -14,6 +14,7 @@ loop-j-preserved c =
     let l = c.loop-j-test.true in
     record {
       labels = c.in_ok-push.ensures.items
+          ∙ ap (λ k. c.loop-j.labels.items ++ k ∷ []) c.coordinate.ensures
           ∙ ap (λ ks. ks ++ coordinate_label j ∷ []) h.labels
           ∙ sym (map-range_with_len_more coordinate_label first (j - first) j (omega (arith, h.from_first)))
           ∙ ap (λ n. map coordinate_label (range_with_len first n)) (omega (arith, h.from_first));

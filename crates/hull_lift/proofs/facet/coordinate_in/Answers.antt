@@ -11,7 +11,7 @@ use Rattle.hull_lift.proofs.facet.coordinate_in.Goals as goal
 pub returns-else-has_label : goal.returns-else-has_label
 returns-else-has_label c =
     let d = c.args.dict.now in
-    let col = c.args.col.0 in
+    let col = c.args.col in
     let k = coordinate_label c.args.j in
     let outside : is_member k d.labels ≡ false =
     false_from_ne_true (is_member k d.labels)

@@ -15,5 +15,5 @@ coordinates-preserved c =
         c.coordinates.invariant.written,
         c.coordinate_in.ensures,
       )
-          (sym (map-range_with_len_more (coordinate_in c.args.dict.now c.args.col.0) 0 j j (omega arith)));
+          (sym (map-range_with_len_more (coordinate_in c.args.dict.now c.args.col) 0 j j (omega arith)));
     }

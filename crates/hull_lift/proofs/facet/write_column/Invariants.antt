@@ -7,5 +7,5 @@ abbrev pub invariant-coordinates : goal.invariant-coordinates
 invariant-coordinates l =
     record {
       width : length l.out ≡ length l.initial.out;
-      written : take l.j l.out ≡ column_of l.dict l.col.0 l.j;
+      written : take l.j l.out ≡ column_of l.dict l.col l.j;
     }

@@ -6,7 +6,7 @@ pub returns-in-Some-clause-entered : goal.returns-in-Some-clause-entered
 returns-in-Some-clause-entered c =
     IfOk-weaker c.pivot.result _ _
     (λ _ p. inl (
-      c.in-Some.col.0,
+      c.in-Some.col,
       record { column = c.in-Some.ensures.some; can = c.in-Some.ensures.pivots; pivot = p },
     ))
     c.pivot.ensures.pivoted
@@ -14,5 +14,5 @@ returns-in-Some-clause-entered c =
 pub returns-in-Some-clause-overflows : goal.returns-in-Some-clause-overflows
 returns-in-Some-clause-overflows c =
     IfErr-weaker c.pivot.result _ _
-    (λ o h. (c.in-Some.col.0, record { column = c.in-Some.ensures.some; can = c.in-Some.ensures.pivots; overflow = h }))
+    (λ o h. (c.in-Some.col, record { column = c.in-Some.ensures.some; can = c.in-Some.ensures.pivots; overflow = h }))
     c.pivot.ensures.passes

@@ -1,4 +1,4 @@
-use Rattle.std.proofs.Common.{List, ℕ, arith, sym, subst, ◌∙◌, take_all}
+use Rattle.std.proofs.Common.{◌<◌, List, ℕ, arith, sym, subst, ◌∙◌, take_all}
 use Rattle.std.specs.List.{Contains}
 use Rattle.linearity.proofs.LeastLabels.{stands_before}
 use Rattle.linearity.proofs.eliminate.least_column.Goals as goal
@@ -14,8 +14,9 @@ returns-then-is_column-clause-some c =
       nonzero = can.nonzero;
       least = λ j m high less.
           c.labels.invariant.none j
-          (stands_before items c.labels.label-index j c.labels-label-items.ensures.key.ascending c.labels-test.true
-          (subst (λ (ks : List ℕ). Contains ks j) (sym same) m) less)
+          (stands_before items c.labels.label-index j _ c.labels-label-items.ensures.key.ascending c.labels-test.true
+          (subst (λ (ks : List ℕ). Contains ks j) (sym same) m)
+          (subst (λ k. j < k) c.label-item.is less))
           high;
     }
 

@@ -1,5 +1,6 @@
 use Rattle.std.proofs.Common.{◌≡◌, ℕ, ◌≤◌, pos, take}
 use Rattle.std.specs.List.{Contains}
+use Rattle.poly_model.specs.Labels.{IsCoordinate}
 use Rattle.poly_model.specs.Dictionaries.{Table}
 use Rattle.dictionary.specs.Views.{table_of}
 use Rattle.linearity.proofs.eliminate.least_column.Given as goal
@@ -8,6 +9,6 @@ use Rattle.linearity.proofs.eliminate.least_column.Given as goal
 abbrev pub invariant-labels : goal.invariant-labels
 invariant-labels l =
     record {
-      none : (k : ℕ) → Contains (take l.label-index l.label-items) k → 8192 ≤ k →
-          Table.entry (table_of l.at) l.row.0 k ≡ pos 0;
+      none : (k : ℕ) → Contains (take l.label-index l.label-items) k → IsCoordinate k →
+          Table.entry (table_of l.at) l.row k ≡ pos 0;
     }

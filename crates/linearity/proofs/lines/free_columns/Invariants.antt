@@ -4,4 +4,4 @@ use Rattle.linearity.proofs.lines.free_columns.Given as goal
 
 -- the columns of the labels before this one
 abbrev pub invariant-labels : goal.invariant-labels
-invariant-labels l = l.free.items ≡ columns_in (take l.label-index l.label-items)
+invariant-labels l = l.columns.items ≡ columns_in (take l.label-index l.label-items)

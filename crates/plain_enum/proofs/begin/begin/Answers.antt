@@ -36,10 +36,10 @@ returns-in-Ok-with_room-clause-begun c p file =
     let at = c.enter_rows.new.at in
     let last = c.enter_rows-2.new.at in
     let room = c.in-Ok-with_room.ensures in
-    subst (λ d. IsBegun p d c.in-Ok-with_room.begun.last c.in-Ok-with_room.begun.free.items) (sym room.at)
-    (subst (λ d. IsBegun p at d c.in-Ok-with_room.begun.free.items) (sym room.last)
+    subst (λ d. IsBegun p d c.in-Ok-with_room.begun.last c.in-Ok-with_room.begun.free) (sym room.at)
+    (subst (λ d. IsBegun p at d c.in-Ok-with_room.begun.free) (sym room.last)
     (is_begun c.args.sys.now c.in-Ok.at c.in-Ok.ensures refl c.keeps_limits.ensures.some c.keeps_limits.ensures.narrow
-    refl c.keeps_limits.ensures.few p file at last c.in-Ok-with_room.begun.free.items
+    refl c.keeps_limits.ensures.few p file at last c.in-Ok-with_room.begun.free
     (c.in_default-enter_rows.ensures.entered p file)
     (subst (λ d. TriesAll c.args.sys.now p true d last) c.in-Ok-copy.ensures
     (c.in_default-enter_rows-2.ensures.entered p file))
@@ -52,7 +52,7 @@ returns-in-Ok-with_room-clause-room c =
     let at = c.enter_rows.new.at in
     let begun = c.in-Ok-with_room.begun in
     let room = c.in-Ok-with_room.ensures in
-    subst (λ d. HasRoomForAll c.args.sys.now begun.free.items d begun.room.deeper.items begun.room.vector.items)
+    subst (λ d. HasRoomForAll c.args.sys.now begun.free d begun.room.deeper.items begun.room.vector.items)
     (sym room.at)
     (record {
       room = record {

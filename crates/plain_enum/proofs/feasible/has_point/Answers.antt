@@ -9,14 +9,12 @@ use Rattle.plain_enum.proofs.feasible.has_point.Goals as goal
 pub returns-in-Ok-clause-answer : goal.returns-in-Ok-clause-answer
 returns-in-Ok-clause-answer c p file =
     c.in-Ok.ensures.answer p c.in_ok-at.field-0.last file
-    (subst (IsBegun p c.in_ok-at.field-0.at c.in_ok-at.field-0.last) (sym c.deref.ensures.value)
-    (c.in_ok-at.ensures.begun p file))
+    (c.in_ok-at.ensures.begun p file)
 
 pub returns-clause-overflow : goal.returns-clause-overflow
 returns-clause-overflow c o h p file =
     c.in-Err.ensures.passes o (ap (λ x. Err x) (same_overflow c.in-Err.overflow o h)) p c.in_ok-at.field-0.last file
-    (subst (IsBegun p c.in_ok-at.field-0.at c.in_ok-at.field-0.last) (sym c.deref.ensures.value)
-    (c.in_ok-at.ensures.begun p file))
+    (c.in_ok-at.ensures.begun p file)
 
 pub returns-in_err-at-clause-overflow : goal.returns-in_err-at-clause-overflow
 returns-in_err-at-clause-overflow c o h p file =

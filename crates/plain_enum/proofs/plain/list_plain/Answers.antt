@@ -31,6 +31,5 @@ pub returns-in-Err-Overflow-print-clause-overflow : goal.returns-in-Err-Overflow
 returns-in-Err-Overflow-print-clause-overflow g c o e p file =
     let passes = rw c.in-Err-Overflow-print.field-0-is at c.in-Err-Overflow-print.ensures.passes in
     let found = passes c.in-Err-Overflow-print.overflow refl p c.in-Ok.begun.last file
-    (subst (IsBegun p c.in-Ok.begun.at c.in-Ok.begun.last) (sym c.deref.ensures.value)
-    (c.in-Ok.ensures.begun p file)) in
+    (c.in-Ok.ensures.begun p file) in
     subst (λ (x : Overflow). PassesInCone p x) (same_overflow c.in-Err-Overflow-print.overflow o e) found

@@ -1,5 +1,6 @@
 use Rattle.std.proofs.Common.{◌≡◌, ℕ, ◌-◌, ◌≤◌, false, pos, take, IsNone, IfSome}
 use Rattle.std.specs.List.{Contains}
+use Rattle.poly_model.specs.Labels.{IsCoordinate, coordinate_index}
 use Rattle.poly_model.specs.Dictionaries.{Table}
 use Rattle.poly_model.specs.Spaces.{is_member}
 use Rattle.dictionary.specs.Views.{table_of, CanPivot}
@@ -11,8 +12,8 @@ use Rattle.plain_enum.proofs.side.column_of.Given as goal
 abbrev pub invariant-labels : goal.invariant-labels
 invariant-labels l =
     record {
-      some : IfSome l.found (λ k. IsColumnOf l.at l.free l.row.0 k.0);
-      pivots : IfSome l.found (λ k. CanPivot l.at l.row.0 k.0);
-      none : IsNone l.found → (k : ℕ) → Contains (take l.label-index l.label-items) k → 8192 ≤ k →
-          is_member (k - 8192) l.free ≡ false → Table.entry (table_of l.at) l.row.0 k ≡ pos 0;
+      some : IfSome l.found (λ k. IsColumnOf l.at l.free l.row k);
+      pivots : IfSome l.found (λ k. CanPivot l.at l.row k);
+      none : IsNone l.found → (k : ℕ) → Contains (take l.label-index l.label-items) k → IsCoordinate k →
+          is_member (coordinate_index k) l.free ≡ false → Table.entry (table_of l.at) l.row k ≡ pos 0;
     }

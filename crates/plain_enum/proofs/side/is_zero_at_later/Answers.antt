@@ -1,5 +1,7 @@
-use Rattle.std.proofs.Common.{◌≡◌, false, ◌<◌, pos, refl, sym, subst, arith}
+use Rattle.std.proofs.Common.{◌≡◌, ℕ, false, ◌<◌, pos, refl, sym, subst, arith, ◌∙◌}
+use Rattle.std.proofs.lemmas.Grind.{get_or_default_zero}
 use Rattle.std.specs.List.{Contains}
+use Rattle.poly_model.specs.Labels.{IsRow}
 use Rattle.poly_model.specs.Dictionaries.{Table}
 use Rattle.poly_model.specs.Systems.{row_of}
 use Rattle.dictionary.specs.Views.{table_of}
@@ -8,10 +10,11 @@ use Rattle.plain_enum.proofs.side.is_zero_at_later.Goals as goal
 
 pub labels-preserved : goal.labels-preserved
 labels-preserved c =
-    with_next (λ k. k < 8192 → (row_of c.args.sys.now.rows k).linear ≡ false → c.args.row.0 < k →
-    Table.entry (table_of c.args.at.now) c.args.row.0 k ≡ pos 0)
-    c.args.labels.now c.labels.label-index c.labels.invariant
-    (c.is_zero_if_later.ensures.0 c.if-not-is_zero_if_later.false)
+    let IsZeroIfLater : ℕ → Type 0 = λ k. IsRow k → (row_of c.args.sys.now.rows k).linear ≡ false → c.args.row < k →
+    Table.entry (table_of c.args.at.now) c.args.row k ≡ pos 0 in
+    with_next IsZeroIfLater c.args.labels.now c.labels.label-index c.labels.invariant
+    (subst IsZeroIfLater (c.label-item.is ∙ get_or_default_zero c.args.labels.now c.labels.label-index _ c.labels-test.true)
+    (c.is_zero_if_later.ensures.0 c.if-not-is_zero_if_later.false))
 
 pub returns : goal.returns
 returns c = (

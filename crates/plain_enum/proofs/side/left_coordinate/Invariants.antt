@@ -6,6 +6,6 @@ use Rattle.plain_enum.proofs.side.left_coordinate.Given as goal
 abbrev pub invariant-labels : goal.invariant-labels
 invariant-labels l =
     record {
-      some : IfSome l.found (λ k. IsLastBefore l.free l.label-items l.label-index k.0);
+      some : IfSome l.found (λ k. IsLastBefore l.free l.label-items l.label-index k);
       none : IsNone l.found → NoneBefore l.free l.label-items l.label-index;
     }

@@ -2,9 +2,10 @@ use Rattle.std.proofs.Common.{◌≡◌, ◌+◌, ◌∷◌, Err, List, length, 
 use Rattle.std.proofs.lemmas.Result.{err_from_is_err_and}
 use Rattle.poly_num.specs.Vectors.{Vector}
 use Rattle.poly_model.specs.declared.overflow.Overflow.{Overflow}
-use Rattle.dictionary.specs.Views.{Dictionary, IsOverflow}
+use Rattle.dictionary.specs.Views.{Dictionary, CanPivot, IsPivot, IsOverflow}
 use Rattle.listing_laws.specs.Prefixes.{IsCornerUnder}
 use Rattle.plain_enum.specs.declared.prefix.Ended.TheVariants as Ended
+use Rattle.plain_enum.specs.Columns.{IsColumnOf, HasNoColumn}
 use Rattle.plain_enum.specs.Listed.{HasRoomFor, IsAt}
 use Rattle.plain_enum.specs.Visits.{HasVisited, VisitsEach, VisitsSome}
 use Rattle.plain_enum.proofs.VisitLemmas.{some_none, some_all, some_stopped, some_then, some_broke}
@@ -41,10 +42,11 @@ returns-in-Err-clause-passes g t c o e p cone fixed left marks at =
     let same : c.in-Err.overflow ≡ o = cc in
     overflows g.V.Visit.visits g.V.Visit.ends prefix.sys.now prefix.free.now prefix.at.now (length c.args.deeper.now)
     c.args.visitor c.args.out.now c.rows.visitor c.rows.out c.rows.i p cone fixed left marks
-    (c.rows.invariant.visited p cone fixed left marks at) c.in-Some-column_of.col.0 o
-    c.in-Some-column_of.ensures.pivots
-    (subst (λ (v : Overflow). IsOverflow prefix.at.now c.rows.i c.in-Some-column_of.col.0 v) same
-    c.in-Err.ensures.passes)
+    (c.rows.invariant.visited p cone fixed left marks at) c.in-Some-column_of.col o
+    (subst (λ k. CanPivot prefix.at.now k c.in-Some-column_of.col) c.row-row.ensures c.in-Some-column_of.ensures.pivots)
+    (subst (λ (v : Overflow). IsOverflow prefix.at.now c.rows.i c.in-Some-column_of.col v) same
+    (subst (λ k. IsOverflow prefix.at.now k c.in-Some-column_of.col c.in-Err.overflow) c.row-row.ensures
+    c.in-Err.ensures.passes))
 
 pub returns-in-Err-clause-room : goal.returns-in-Err-clause-room
 returns-in-Err-clause-room g t c =
@@ -63,8 +65,9 @@ visit_under-requires g t c κs within = (
         (
           omega arith,
           room_below c.args.prefix.now.sys.now c.args.prefix.now.at.now c.rows.next c.take_row.new.next c.rows.others
-              _ c.rows.i c.in-Some-column_of.col.0 c.rows.invariant.room c.in_default-take_row.ensures.shape
-              c.in_default-take_row.ensures.pivoted,
+              _ c.rows.i c.in-Some-column_of.col c.rows.invariant.room c.in_default-take_row.ensures.shape
+              (subst (λ k. IsPivot c.args.prefix.now.at.now k c.in-Some-column_of.col c.take_row.new.next) c.row-row.ensures
+    c.in_default-take_row.ensures.pivoted),
         ),
       ),
     ),
@@ -81,8 +84,10 @@ returns-in_err-visitor-in-Some-clause-visited g t c p cone fixed left marks at =
     (breaks g.V.Visit.visits g.V.Visit.ends prefix.sys.now prefix.free.now prefix.at.now (length c.args.deeper.now)
     c.args.visitor c.args.out.now c.rows.visitor c.rows.out c.rows.i p cone fixed left marks
     (c.rows.invariant.visited p cone fixed left marks at) (omega (arith, c.rows-test.true, c.rows-i-end.ensures.value))
-    c.in-Some-column_of.col.0 c.in-Some-column_of.ensures.some c.take_row.new.next
-    c.in_default-take_row.ensures.pivoted (length c.rows.others) (omega (arith, c.rows.invariant.depth))
+    c.in-Some-column_of.col (subst (λ k. IsColumnOf prefix.at.now prefix.free.now k c.in-Some-column_of.col) c.row-row.ensures
+    c.in-Some-column_of.ensures.some) c.take_row.new.next
+    (subst (λ k. IsPivot prefix.at.now k c.in-Some-column_of.col c.take_row.new.next) c.row-row.ensures
+    c.in_default-take_row.ensures.pivoted) (length c.rows.others) (omega (arith, c.rows.invariant.depth))
     c.visit_under.new.out c.in_err-visitor-in-Some.field-0.0 c.in_err-visitor-in-Some.ensures.visited)
 
 pub returns-in_err-visitor-in-Some-clause-passes : goal.returns-in_err-visitor-in-Some-clause-passes
@@ -95,8 +100,10 @@ returns-in_err-visitor-in-Some-clause-passes g t c o e p cone fixed left marks a
     (deeper g.V.Visit.visits g.V.Visit.ends prefix.sys.now prefix.free.now prefix.at.now (length c.args.deeper.now)
     c.args.visitor c.args.out.now c.rows.visitor c.rows.out c.rows.i p cone fixed left marks
     (c.rows.invariant.visited p cone fixed left marks at) (omega (arith, c.rows-test.true, c.rows-i-end.ensures.value))
-    c.in-Some-column_of.col.0 c.in-Some-column_of.ensures.some c.take_row.new.next
-    c.in_default-take_row.ensures.pivoted (length c.rows.others) (omega (arith, c.rows.invariant.depth)))
+    c.in-Some-column_of.col (subst (λ k. IsColumnOf prefix.at.now prefix.free.now k c.in-Some-column_of.col) c.row-row.ensures
+    c.in-Some-column_of.ensures.some) c.take_row.new.next
+    (subst (λ k. IsPivot prefix.at.now k c.in-Some-column_of.col c.take_row.new.next) c.row-row.ensures
+    c.in_default-take_row.ensures.pivoted) (length c.rows.others) (omega (arith, c.rows.invariant.depth)))
 
 pub returns-in_err-visitor-in-Some-clause-room : goal.returns-in_err-visitor-in-Some-clause-room
 returns-in_err-visitor-in-Some-clause-room g t c =
@@ -130,8 +137,10 @@ rows-preserved g t c =
             (goes_on g.V.Visit.visits g.V.Visit.ends prefix.sys.now prefix.free.now prefix.at.now
             (length c.args.deeper.now) c.args.visitor c.args.out.now c.rows.visitor c.rows.out c.rows.i
             p cone fixed left marks (c.rows.invariant.visited p cone fixed left marks at)
-            (omega (arith, c.rows-test.true, c.rows-i-end.ensures.value)) w.in-Some-column_of.col.0
-            w.in-Some-column_of.ensures.some w.take_row.new.next w.in_default-take_row.ensures.pivoted
+            (omega (arith, c.rows-test.true, c.rows-i-end.ensures.value)) w.in-Some-column_of.col
+            (subst (λ k. IsColumnOf prefix.at.now prefix.free.now k w.in-Some-column_of.col) c.row-row.ensures
+    w.in-Some-column_of.ensures.some) w.take_row.new.next (subst (λ k. IsPivot prefix.at.now k w.in-Some-column_of.col w.take_row.new.next) c.row-row.ensures
+    w.in_default-take_row.ensures.pivoted)
             (length c.rows.others) (omega (arith, c.rows.invariant.depth)) w.visit_under.new.out
             w.in_ok-visitor-in-Some.visitor w.in_ok-visitor-in-Some.ensures.visited));
         some = subst (λ v. HasVisited g.V.Visit.visits c.args.visitor c.args.out.now v c.match-column_of.out)
@@ -160,7 +169,8 @@ rows-preserved g t c =
             (skipped g.V.Visit.visits g.V.Visit.ends prefix.sys.now prefix.free.now prefix.at.now
             (length c.args.deeper.now) c.args.visitor c.args.out.now c.rows.visitor c.rows.out c.rows.i
             p cone fixed left marks (c.rows.invariant.visited p cone fixed left marks at)
-            (omega (arith, c.rows-test.true, c.rows-i-end.ensures.value)) (w.in_default.ensures.none refl)));
+            (omega (arith, c.rows-test.true, c.rows-i-end.ensures.value)) (subst (λ k. HasNoColumn prefix.at.now prefix.free.now k) c.row-row.ensures
+            (w.in_default.ensures.none refl))));
         some = subst (λ v. HasVisited g.V.Visit.visits c.args.visitor c.args.out.now v c.match-column_of.out)
             (sym w.visitor-is)
             (subst (λ o. HasVisited g.V.Visit.visits c.args.visitor c.args.out.now c.rows.visitor o) (sym w.out-is)

@@ -20,14 +20,14 @@ returns-in_default-shown_side-clause-visited g c p cone fixed left marks at =
     let prefix = c.args.prefix.now in
     visits_none g.V.Visit.visits g.V.Visit.ends c.args.visitor c.args.out.now (IsCornerUnder cone marks)
     (nothing_here prefix.sys.now prefix.free.now prefix.at.now prefix.from p cone fixed left marks at
-    c.requires.room.narrow c.in-Some.col.0
+    c.requires.room.narrow c.in-Some.col
     c.in-Some.ensures.some (c.in_default-shown_side.ensures.none refl))
 
 pub returns-in-Ok-clause-visited : goal.returns-in-Ok-clause-visited
 returns-in-Ok-clause-visited g c p cone fixed left marks at =
     let prefix = c.args.prefix.now in
     let side = c.in-Some-shown_side.side in
-    let col = c.in-Some.col.0 in
+    let col = c.in-Some.col in
     let now = prefix.at.now in
     let same : vector_on side (primitive_column now col prefix.sys.now.n) ≡ c.write_direction.new.vector =
     ap (λ w. vector_on side (primitive_column now col w)) (sym c.requires.room.width)
@@ -43,7 +43,7 @@ pub returns-in-Err-clause-visited : goal.returns-in-Err-clause-visited
 returns-in-Err-clause-visited g c p cone fixed left marks at =
     let prefix = c.args.prefix.now in
     let side = c.in-Some-shown_side.side in
-    let col = c.in-Some.col.0 in
+    let col = c.in-Some.col in
     let now = prefix.at.now in
     let same : vector_on side (primitive_column now col prefix.sys.now.n) ≡ c.write_direction.new.vector =
     ap (λ w. vector_on side (primitive_column now col w)) (sym c.requires.room.width)

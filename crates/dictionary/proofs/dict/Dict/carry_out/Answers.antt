@@ -15,7 +15,7 @@ use Rattle.dictionary.proofs.dict.Dict.carry_out.Goals as goal
 
 pub exchange_cells-self-inside-requires-clause-column : goal.exchange_cells-self-inside-requires-clause-column
 exchange_cells-self-inside-requires-clause-column c =
-    column_bound c.args.self.now c.args.row.0 c.args.col.0
+    column_bound c.args.self.now c.args.row c.args.col
     (subst (λ (d : Dictionary). IsWhole d) c.self.view_is c.self.invariant.1) c.requires.can
     c.args.x.now c.requires.exchange
 
@@ -31,20 +31,20 @@ exchange_cells-self-inside-requires-clause-unit c =
     subst (λ (v : List ℤ). HasUnitRow c.args.x.now v)
     (sym (c.deref_mut.ensures.value ∙ ap (λ (d : Dictionary). d.cells) c.self.view_is))
     (subst (λ (x : Exchange). HasUnitRow x now.cells) (sym c.requires.exchange)
-    (has_unit_row now c.args.row.0 c.args.col.0
+    (has_unit_row now c.args.row c.args.col
     (subst (λ (d : Dictionary). IsWhole d) c.self.view_is c.self.invariant.1) c.requires.can))
 
 pub index_mut-requires : goal.index_mut-requires
 index_mut-requires c =
-    place_bound c.args.self.now c.args.row.0 c.args.col.0
+    place_bound c.args.self.now c.args.row c.args.col
     (subst (λ (d : Dictionary). IsWhole d) c.self.view_is c.self.invariant.1) c.requires.can
     c.args.x.now c.requires.exchange (vec_len c.self.inside.columns)
     (ap (λ (d : Dictionary). length d.columns) (sym c.self.view_is) ∙ sym c.self.inside.columns.ok.0)
 
 pub invariant_of-self : goal.invariant_of-self
 invariant_of-self c =
-    let row = c.args.row.0 in
-    let col = c.args.col.0 in
+    let row = c.args.row in
+    let col = c.args.col in
     let v = c.self.inside in
     let d : Dictionary = record { phase = v.phase; labels = v.labels.items; key = v.key; columns = v.columns.items; denominator = v.denominator; cells = v.cells.items } in
     let whole : IsWhole d = c.self.invariant.1 in
@@ -75,8 +75,8 @@ invariant_of-self c =
 
 pub returns : goal.returns
 returns c =
-    let row = c.args.row.0 in
-    let col = c.args.col.0 in
+    let row = c.args.row in
+    let col = c.args.col in
     let v = c.self.inside in
     let d : Dictionary = record { phase = v.phase; labels = v.labels.items; key = v.key; columns = v.columns.items; denominator = v.denominator; cells = v.cells.items } in
     let whole : IsWhole d = c.self.invariant.1 in

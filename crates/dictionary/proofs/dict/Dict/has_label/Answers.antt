@@ -6,5 +6,5 @@ use Rattle.dictionary.proofs.dict.Dict.has_label.Goals as goal
 
 pub returns : goal.returns
 returns c =
-    subst (λ (ks : List ℕ). IsTrue c.has.result ↔ Contains ks c.args.label.0)
+    subst (λ (ks : List ℕ). IsTrue c.has.result ↔ Contains ks c.args.label)
     (c.deref.ensures.value ∙ ap (λ (d : Dictionary). d.labels) c.self.view_is) c.has.ensures

@@ -6,5 +6,5 @@ use Rattle.dictionary.proofs.dict.Dict.in_cobasis.Goals as goal
 
 pub returns : goal.returns
 returns c =
-    subst (λ (ks : List ℕ). IsTrue c.has.result ↔ Contains ks c.args.label.0)
+    subst (λ (ks : List ℕ). IsTrue c.has.result ↔ Contains ks c.args.label)
     (c.labels.ensures.value ∙ ap (λ (d : Dictionary). d.key) c.self.view_is) c.has.ensures

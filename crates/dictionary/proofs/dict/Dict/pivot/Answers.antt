@@ -6,7 +6,7 @@ use Rattle.dictionary.proofs.dict.Dict.pivot.Goals as goal
 
 pub passing_unless-requires-clause-column : goal.passing_unless-requires-clause-column
 passing_unless-requires-clause-column c =
-    column_bound c.args.self.now c.args.row.0 c.args.col.0
+    column_bound c.args.self.now c.args.row c.args.col
     (subst (λ (d : Dictionary). IsWhole d) c.self.view_is c.self.invariant.1) c.requires
     c.exchange_of-x.result c.exchange_of-x.ensures
 

@@ -1,4 +1,4 @@
-use Rattle.std.proofs.Common.{◌≤◌, suc, [], length, arith, sym, ap, subst, ◌∙◌}
+use Rattle.std.proofs.Common.{◌≡◌, ℕ, List, ◌≤◌, suc, [], length, arith, sym, ap, subst, ◌∙◌}
 use Rattle.std.proofs.lemmas.Bool.{false≢true}
 use Rattle.std.specs.List.{filter}
 use Rattle.poly_model.specs.Limits.{most_cone_rows}
@@ -13,7 +13,7 @@ use Rattle.dictionary.proofs.dict.Dict.to_main.Goals.{In_ok-resize}
 
 pub kept_cells-requires-clause-rows : goal.kept_cells-requires-clause-rows
 kept_cells-requires-clause-rows c =
-    kept_within (stays_in c.args.sys.now.rows []) c.deref.result.now c.args.self.labels c.deref-3.result.now
+    kept_within (stays_in c.args.sys.now.rows c.from_vec-none.result) c.deref.result.now c.args.self.labels c.deref-3.result.now
     (c.deref-3.ensures.value ∙ c.in_ok-rows.ensures)
     (c.deref.ensures.value ∙ ap (λ (d : Dictionary). d.labels) c.self.view_is)
 
@@ -40,7 +40,9 @@ made c =
     let view = c.self.view_is in
     let labels = ap (λ (d : Dictionary). d.labels) view in
     let columns = ap (λ (d : Dictionary). d.columns) view in
+    let none : c.from_vec-none.result ≡ [] = c.from_vec-none.ensures ∙ c.new.ensures.items in
     let places = c.deref-3.ensures.value ∙ c.in_ok-rows.ensures
+    ∙ ap (λ (f : List ℕ). places_from 0 (stays_in rows f) c.deref.result.now) none
     ∙ ap (λ ks. places_from 0 (stays_in rows []) ks) (c.deref.ensures.value ∙ labels) in
     let column_places = c.deref-4.ensures.value ∙ c.in_ok-places.ensures
     ∙ ap (λ ks. places_from 0 (stays_in rows free) ks) (c.deref-2.ensures.value ∙ columns) in
@@ -48,8 +50,9 @@ made c =
     made_main old c.args.sys.now free c.in_ok-labels.labels.items c.key_of-key.result c.in_ok-columns.columns.items
     c.self.inside.denominator c.in_ok-denominator.denominator c.in_ok-cells.cells.items c.divide_out.new.cells.items
     (subst (λ (d : Dictionary). IsWhole d) view c.self.invariant.1)
-    (subst (λ n. n ≤ most_cone_rows) c.rows-rows.ensures.value c.rows-rows.ensures.few)
-    (c.in_ok-labels.ensures ∙ ap (λ ks. filter (stays_in rows []) ks) (c.deref-5.ensures.value ∙ labels))
+    c.keeps_limits.ensures.few
+    (c.in_ok-labels.ensures ∙ ap (λ (f : List ℕ). filter (stays_in rows f) c.deref-5.result.now) none
+    ∙ ap (λ ks. filter (stays_in rows []) ks) (c.deref-5.ensures.value ∙ labels))
     (c.key_of-key.ensures ∙ c.deref-7.ensures.value ∙ c.in_ok-key_labels.ensures
     ∙ ap (λ ks. filter (stays_in rows free) ks) (c.labels.ensures.value ∙ ap (λ (d : Dictionary). d.key) view))
     (c.in_ok-columns.ensures ∙ ap (λ ks. filter (stays_in rows free) ks) (c.deref-6.ensures.value ∙ columns))
