@@ -113,7 +113,8 @@ fn gives_the_rows(rt: HostRuntime) -> Result<(), Fail> {
             linear: &[false, false],
         },
         Accepted {
-            text: "V-representation\nlinearity 1 3 2\nlinearity 2 1 3\nH-representation\nbegin\n3 1 rational 0 -7 5/10 end\n",
+            text: "V-representation\nlinearity 1 3 2\nlinearity 2 1 3\nH-representation\n\
+                   begin\n3 1 rational 0 -7 5/10 end\n",
             kind: Kind::H,
             n: 1,
             entries: &[0, -1, 1],

@@ -21,8 +21,10 @@ returns-in-Ok-clause-answers g c =
     let text = text_of_source _ _ poly c.in-Ok.ensures.ok in
     let listing = c.print_listing.ensures in
     record {
-      done = λ rows lines e.
-          (c.in-Ok.ensures.ok.ends, described (WritesWhole old new rows lines) poly source text (listing.done rows lines e));
+      done = λ rows lines e. (
+        c.in-Ok.ensures.ok.ends,
+        described (WritesWhole old new rows lines) poly source text (listing.done rows lines e),
+      );
       infeasible = λ e. described (λ p. IsFeasible (cone_of p) → ⊥) poly source text (listing.infeasible e);
       overflow = λ o e. described (λ p. PassesInCone p o) poly source text (listing.overflow o e);
       stopped = λ s. described (WritesPart old new) poly source text (listing.stopped s);
