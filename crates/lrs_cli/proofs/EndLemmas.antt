@@ -31,8 +31,8 @@ not_overflow (Some text) k o t =
 
 -- of a polyhedron's answers those are left that end
 module _ (source : Option (List ℕ)) (known : Knows source HasNoObstacle) where
-  pub ends : (s : Status) → ComesOfPolyhedron s → (s ≡ WriteFault → ⊥) → ((o : Passed) → s ≡ Overflow o → Told source (HasOverflow o)) →
-      Ends s
+  pub ends : (s : Status) → ComesOfPolyhedron s → (s ≡ WriteFault → ⊥) →
+      ((o : Passed) → s ≡ Overflow o → Told source (HasOverflow o)) → Ends s
   ends (Done rows lines) l w d = tt
   ends Infeasible l w d = tt
   ends OutOfMemory l w d = tt

@@ -1,4 +1,5 @@
--- What is told of a text: the polyhedron, or the first fault, of what was taken from a source is that of all that it had.
+-- What is told of a text: the polyhedron, or the first fault, of what was taken from a source is that of all that it
+-- had.
 use Rattle.std.proofs.Common.{◌≡◌, ◌++◌, ◌+◌, ◌⊎◌, inl, inr, true, ℕ, List, [], length, arith, refl, sym, ◌∙◌, Option, Some, None, Err, length-append, append-nil}
 use Rattle.std.specs.Prelude.{nat_lt}
 use Rattle.std.proofs.lemmas.Bool.{lt-ltb}
@@ -18,13 +19,15 @@ unfolding reading
 reading_of_long text e = rw e refl
 
 -- more bytes behind a text that is too long change nothing
-fault_of_long : (text rest : List ℕ) (f : BadFile) → length text ≡ most_file_bytes + 1 → reading text ≡ Err f → reading (text ++ rest) ≡ Err f
+fault_of_long : (text rest : List ℕ) (f : BadFile) → length text ≡ most_file_bytes + 1 → reading text ≡ Err f →
+    reading (text ++ rest) ≡ Err f
 fault_of_long text rest f l e =
     reading_of_long (text ++ rest) (lt-ltb _ _ (omega (arith, length-append text rest)))
     ∙ sym (reading_of_long text (lt-ltb _ _ (omega arith)))
     ∙ e
 
-fault_of_all : (text rest : List ℕ) (f : BadFile) → (rest ≡ []) ⊎ (length text ≡ most_file_bytes + 1) → reading text ≡ Err f → reading (text ++ rest) ≡ Err f
+fault_of_all : (text rest : List ℕ) (f : BadFile) → (rest ≡ []) ⊎ (length text ≡ most_file_bytes + 1) →
+    reading text ≡ Err f → reading (text ++ rest) ≡ Err f
 fault_of_all text rest f (inl end) e = rw (end, append-nil text) e
 fault_of_all text rest f (inr long) e = fault_of_long text rest f long e
 
@@ -34,13 +37,15 @@ fault_of_source (Some whole) None f h = absurd h.taken
 fault_of_source (Some whole) (Some rest) f h = rw h.taken (fault_of_all h.text rest f h.enough h.read)
 
 -- the polyhedron that was found is that of all that the source had
-pub text_of_source : (old new : Option (List ℕ)) (p : Polyhedron) → FindsPolyhedron old new p → Told old (λ text. IsFileOf text p)
+pub text_of_source : (old new : Option (List ℕ)) (p : Polyhedron) → FindsPolyhedron old new p →
+    Told old (λ text. IsFileOf text p)
 text_of_source None new p h = tt
 text_of_source (Some whole) None p h = absurd h.taken
 text_of_source (Some whole) (Some rest) p h = rw (h.taken, h.ends, append-nil p.text) h.read
 
 -- what holds of the polyhedron of a text
-pub described : (P : Polyhedron → Type 0) (p : Polyhedron) (source : Option (List ℕ)) → Told source (λ text. IsFileOf text p) → P p →
+pub described : (P : Polyhedron → Type 0) (p : Polyhedron) (source : Option (List ℕ)) →
+    Told source (λ text. IsFileOf text p) → P p →
     Told source (Describes P)
 described P p None t h = tt
 described P p (Some text) t h = record { polyhedron = p; read = t; holds = h }

@@ -38,7 +38,8 @@ pub record AnswersConvert (before after : Streams) (Unwritten : Type 0) (answer 
   pub infeasible : answer ≡ Infeasible → Told before.left IsInfeasibleFile
   -- overflow: a product that a pivot needs passes, at a dictionary of its cone
   pub overflow : (o : Passed) → answer ≡ Overflow o → Told before.left (HasOverflow o)
-  -- an overflow, a write fault: what was written is the beginning of a listing. It is none, or the polyhedron has a point
+  -- an overflow, a write fault: what was written is the beginning of a listing. It is none, or the polyhedron has a
+  -- point
   pub stopped : StopsListing answer → Told before.left (IsPartlyListed before.written after.written)
   pub printed : StopsListing answer → Unwritten ⊎ Told before.left IsFeasibleFile
   -- bad file: the text describes no polyhedron, and that is its first fault
@@ -56,7 +57,8 @@ pub record AnswersConvert (before after : Streams) (Unwritten : Type 0) (answer 
       ¬ (Rose before.write_faults after.write_faults) → Ends answer
 
 -- The answer to some words. `Unread` says that the input is as it was.
-pub record Answers (words : List (List ℕ)) (before after : Streams) (Unread Unwritten : Type 0) (answer : Status) : Type 0 where
+pub record Answers (words : List (List ℕ)) (before after : Streams) (Unread Unwritten : Type 0)
+    (answer : Status) : Type 0 where
   -- usage: the words are no accepted line. Then nothing was read or written. Only want of memory hides it
   pub usage : answer ≡ Usage → ¬ (IsAccepted words)
   pub accepted : ¬ (answer ≡ Usage) → ¬ (answer ≡ OutOfMemory) → IsAccepted words

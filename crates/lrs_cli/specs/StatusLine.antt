@@ -31,16 +31,20 @@ kind_text kinds.WideRow = codes "WideRow"
 
 -- the four places
 abbrev pub places_text : Overflow → List ℕ
-places_text o = place_text o.a ++ (codes " " ++ (place_text o.b ++ (codes " " ++ (place_text o.c ++ (codes " " ++ place_text o.d)))))
+places_text o =
+    place_text o.a
+    ++ (codes " " ++ (place_text o.b ++ (codes " " ++ (place_text o.c ++ (codes " " ++ place_text o.d)))))
 
 -- the phase, the key, and the places of the two products
 abbrev pub overflow_text : Overflow → List ℕ
 overflow_text o = phase_text o.phase ++ (codes " " ++ (key_text o.key ++ (codes " " ++ places_text o)))
 
 unfoldable pub status_text : Status → List ℕ
-status_text (Done rows lines) = codes "lrs: done " ++ (decimal rows ++ (codes " rows " ++ (decimal lines ++ codes " lines\n")))
+status_text (Done rows lines) =
+    codes "lrs: done " ++ (decimal rows ++ (codes " rows " ++ (decimal lines ++ codes " lines\n")))
 status_text Usage = codes "lrs: usage: lrs convert / run LEDGER / resume LEDGER / status LEDGER / job / demo KIND N\n"
-status_text (BadFile bad) = codes "lrs: bad file: " ++ (kind_text bad.kind ++ (codes " at line " ++ (decimal bad.line ++ codes "\n")))
+status_text (BadFile bad) =
+    codes "lrs: bad file: " ++ (kind_text bad.kind ++ (codes " at line " ++ (decimal bad.line ++ codes "\n")))
 status_text Infeasible = codes "lrs: infeasible\n"
 status_text (Overflowed o) = codes "lrs: overflow " ++ (overflow_text o ++ codes "\n")
 status_text ReadFault = codes "lrs: read fault\n"

@@ -38,7 +38,8 @@ pub fn convert<I: Source, O: Sink>(alloc: Global, input: &mut I, out: &mut O) ->
 // Prints the listing of a polyhedron, once it is known that it has a point.
 fn print_listing<O: Sink>(alloc: Global, poly: &Poly, out: &mut O) -> Status
     ensures lists { ComesOfPolyhedron result }
-    ensures done { (rows lines : ℕ) → result ≡ Status.Done rows lines → WritesWhole (O.written out.old) (O.written out.new) rows lines poly.now }
+    ensures done { (rows lines : ℕ) → result ≡ Status.Done rows lines →
+        WritesWhole (O.written out.old) (O.written out.new) rows lines poly.now }
     ensures infeasible { result ≡ Status.Infeasible → IsFeasible (cone_of poly.now) → ⊥ }
     ensures overflow { (o : Passed) → result ≡ Status.Overflow o → PassesInCone poly.now o }
     ensures stopped { StopsListing result → WritesPart (O.written out.old) (O.written out.new) poly.now }

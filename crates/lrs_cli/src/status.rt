@@ -1,12 +1,11 @@
 //! How a call of the program ends: its number and its line.
 ghost use Rattle.std.specs.Prelude.{◌≡◌, ◌∷◌, ◌++◌, codes, decimal};
-ghost use Rattle.poly_io.specs.Causes.{HasCause};
-ghost use Rattle.poly_io.specs.Written.{WritesText};
+ghost use Rattle.poly_io.specs.Written.{Prints};
 ghost use Rattle.poly_model.specs.LabelText.{label_text, labels_text, key_text, place_text, phase_text};
 ghost use Rattle.lrs_cli.specs.StatusLine.{status_text, status_number, kind_text, overflow_text, places_text};
 
 use poly_io::{Sink, WriteFault, write_all, write_count};
-use poly_model::{Key, Overflow, Phase, Place};
+use poly_model::{Key, Label, Overflow, Phase, Place};
 use poly_reader::{BadFile, BadKind};
 
 /// How a call of the program ended.
@@ -51,8 +50,7 @@ impl Status {
 /// Writes the line of a status, with its line feed.
 #[tactic(auto, unfolding(crate::specs::StatusLine::status_text))]
 pub fn status_line<S: Sink>(status: &Status, out: &mut S) -> Result<(), WriteFault>
-    ensures text { WritesText (S.written out.old) (S.written out.new) result (status_text status.now) }
-    ensures cause { HasCause (S.faults out.old) (S.faults out.new) result }
+    ensures { Prints S.Sink out.old out.new result (status_text status.now) }
 {
     match status {
         Status::Done { rows, lines } => done_line(*rows, *lines, out),
@@ -70,8 +68,7 @@ pub fn status_line<S: Sink>(status: &Status, out: &mut S) -> Result<(), WriteFau
 }
 
 fn done_line<S: Sink>(rows: u64, lines: u32, out: &mut S) -> Result<(), WriteFault>
-    ensures text { WritesText (S.written out.old) (S.written out.new) result (status_text (Status.Done rows lines)) }
-    ensures cause { HasCause (S.faults out.old) (S.faults out.new) result }
+    ensures { Prints S.Sink out.old out.new result (status_text (Status.Done rows lines)) }
 {
     write_all(out, b"lrs: done ")?;
     write_count(rows, out)?;
@@ -81,8 +78,7 @@ fn done_line<S: Sink>(rows: u64, lines: u32, out: &mut S) -> Result<(), WriteFau
 }
 
 fn bad_file_line<S: Sink>(bad: BadFile, out: &mut S) -> Result<(), WriteFault>
-    ensures text { WritesText (S.written out.old) (S.written out.new) result (status_text (Status.BadFile bad)) }
-    ensures cause { HasCause (S.faults out.old) (S.faults out.new) result }
+    ensures { Prints S.Sink out.old out.new result (status_text (Status.BadFile bad)) }
 {
     write_all(out, b"lrs: bad file: ")?;
     write_kind(bad.kind, out)?;
@@ -92,8 +88,7 @@ fn bad_file_line<S: Sink>(bad: BadFile, out: &mut S) -> Result<(), WriteFault>
 }
 
 fn write_kind<S: Sink>(kind: BadKind, out: &mut S) -> Result<(), WriteFault>
-    ensures text { WritesText (S.written out.old) (S.written out.new) result (kind_text kind) }
-    ensures cause { HasCause (S.faults out.old) (S.faults out.new) result }
+    ensures { Prints S.Sink out.old out.new result (kind_text kind) }
 {
     match kind {
         BadKind::TooLong => write_all(out, b"TooLong"),
@@ -119,8 +114,7 @@ fn write_kind<S: Sink>(kind: BadKind, out: &mut S) -> Result<(), WriteFault>
 }
 
 fn overflow_line<S: Sink>(overflow: &Overflow, out: &mut S) -> Result<(), WriteFault>
-    ensures text { WritesText (S.written out.old) (S.written out.new) result (status_text (Status.Overflow overflow.now)) }
-    ensures cause { HasCause (S.faults out.old) (S.faults out.new) result }
+    ensures { Prints S.Sink out.old out.new result (status_text (Status.Overflow overflow.now)) }
 {
     write_all(out, b"lrs: overflow ")?;
     write_overflow(overflow, out)?;
@@ -128,8 +122,7 @@ fn overflow_line<S: Sink>(overflow: &Overflow, out: &mut S) -> Result<(), WriteF
 }
 
 fn write_overflow<S: Sink>(overflow: &Overflow, out: &mut S) -> Result<(), WriteFault>
-    ensures text { WritesText (S.written out.old) (S.written out.new) result (overflow_text overflow.now) }
-    ensures cause { HasCause (S.faults out.old) (S.faults out.new) result }
+    ensures { Prints S.Sink out.old out.new result (overflow_text overflow.now) }
 {
     write_phase(overflow.phase, out)?;
     write_all(out, b" ")?;
@@ -139,8 +132,7 @@ fn write_overflow<S: Sink>(overflow: &Overflow, out: &mut S) -> Result<(), Write
 }
 
 fn write_phase<S: Sink>(phase: Phase, out: &mut S) -> Result<(), WriteFault>
-    ensures text { WritesText (S.written out.old) (S.written out.new) result (phase_text phase) }
-    ensures cause { HasCause (S.faults out.old) (S.faults out.new) result }
+    ensures { Prints S.Sink out.old out.new result (phase_text phase) }
 {
     match phase {
         Phase::Cone => write_all(out, b"cone"),
@@ -151,8 +143,7 @@ fn write_phase<S: Sink>(phase: Phase, out: &mut S) -> Result<(), WriteFault>
 }
 
 fn write_key<S: Sink>(key: &Key, out: &mut S) -> Result<(), WriteFault>
-    ensures text { WritesText (S.written out.old) (S.written out.new) result (key_text key.now) }
-    ensures cause { HasCause (S.faults out.old) (S.faults out.new) result }
+    ensures { Prints S.Sink out.old out.new result (key_text key.now) }
 {
     let labels = key.labels();
     write_count(labels.len() as u64, out)?;
@@ -160,9 +151,8 @@ fn write_key<S: Sink>(key: &Key, out: &mut S) -> Result<(), WriteFault>
 }
 
 // The labels, each after a blank.
-fn write_labels<S: Sink>(labels: &[u16], out: &mut S) -> Result<(), WriteFault>
-    ensures text { WritesText (S.written out.old) (S.written out.new) result (labels_text labels.now) }
-    ensures cause { HasCause (S.faults out.old) (S.faults out.new) result }
+fn write_labels<S: Sink>(labels: &[Label], out: &mut S) -> Result<(), WriteFault>
+    ensures { Prints S.Sink out.old out.new result (labels_text labels.now) }
 {
     for label in labels {
         write_next_label(*label, out)?;
@@ -170,17 +160,15 @@ fn write_labels<S: Sink>(labels: &[u16], out: &mut S) -> Result<(), WriteFault>
     Ok(())
 }
 
-fn write_next_label<S: Sink>(label: u16, out: &mut S) -> Result<(), WriteFault>
-    ensures text { WritesText (S.written out.old) (S.written out.new) result (codes " " ++ label_text label) }
-    ensures cause { HasCause (S.faults out.old) (S.faults out.new) result }
+fn write_next_label<S: Sink>(label: Label, out: &mut S) -> Result<(), WriteFault>
+    ensures { Prints S.Sink out.old out.new result (codes " " ++ label_text label) }
 {
     write_all(out, b" ")?;
     write_label(label, out)
 }
 
 fn write_places<S: Sink>(overflow: &Overflow, out: &mut S) -> Result<(), WriteFault>
-    ensures text { WritesText (S.written out.old) (S.written out.new) result (places_text overflow.now) }
-    ensures cause { HasCause (S.faults out.old) (S.faults out.new) result }
+    ensures { Prints S.Sink out.old out.new result (places_text overflow.now) }
 {
     write_place(overflow.a, out)?;
     write_all(out, b" ")?;
@@ -192,29 +180,29 @@ fn write_places<S: Sink>(overflow: &Overflow, out: &mut S) -> Result<(), WriteFa
 }
 
 fn write_place<S: Sink>(place: Place, out: &mut S) -> Result<(), WriteFault>
-    ensures text { WritesText (S.written out.old) (S.written out.new) result (place_text place) }
-    ensures cause { HasCause (S.faults out.old) (S.faults out.new) result }
+    ensures { Prints S.Sink out.old out.new result (place_text place) }
 {
-    write_label(place.row.0, out)?;
+    write_label(place.row, out)?;
     write_all(out, b",")?;
-    write_label(place.col.0, out)
+    write_label(place.col, out)
 }
 
-fn write_label<S: Sink>(label: u16, out: &mut S) -> Result<(), WriteFault>
-    ensures text { WritesText (S.written out.old) (S.written out.new) result (label_text label) }
-    ensures cause { HasCause (S.faults out.old) (S.faults out.new) result }
+fn write_label<S: Sink>(label: Label, out: &mut S) -> Result<(), WriteFault>
+    ensures { Prints S.Sink out.old out.new result (label_text label) }
 {
-    match label {
-        0 => write_all(out, b"t"),
-        1..8192 => write_count(u64::from(label), out),
-        65535 => write_all(out, b"c"),
-        _ => write_coordinate(label - 8192, out),
+    if label.is_same(Label::EXTRA) {
+        write_all(out, b"t")
+    } else if label.is_row() {
+        write_count(u64::from(label.number()), out)
+    } else if label.is_same(Label::CONSTANT) {
+        write_all(out, b"c")
+    } else {
+        write_coordinate(label.coordinate_index(), out)
     }
 }
 
-fn write_coordinate<S: Sink>(j: u16, out: &mut S) -> Result<(), WriteFault>
-    ensures text { WritesText (S.written out.old) (S.written out.new) result (codes "x" ++ decimal j) }
-    ensures cause { HasCause (S.faults out.old) (S.faults out.new) result }
+fn write_coordinate<S: Sink>(j: u32, out: &mut S) -> Result<(), WriteFault>
+    ensures { Prints S.Sink out.old out.new result (codes "x" ++ decimal j) }
 {
     write_all(out, b"x")?;
     write_count(u64::from(j), out)

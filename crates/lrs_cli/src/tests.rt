@@ -24,284 +24,206 @@ fn sorted_lines<'a>(alloc: Global, text: &'a [u8]) -> Result<Vec<&'a [u8]>, Allo
     Ok(lines)
 }
 
-/// What a file is answered with.
-#[derive(Clone, Copy)]
-enum Answer {
-    /// This listing, its rows in some order, and how many rows and lines it has.
-    Listing {
-        text: &'static str,
-        rows: u64,
-        lines: u32,
-    },
-    /// There is no point, and nothing is written.
-    Infeasible,
-    /// A product of the cone's dictionaries passes, before anything is written.
-    Overflow,
+/// What the program answers to a file, which it reads whole and whose listing it can write.
+fn answer(alloc: Global, file: &str, out: &mut MemSink) -> Status {
+    let mut input = MemSource::new(file.as_bytes(), &[]);
+    lrs(alloc, ["convert"].as_slice(), &mut input, out)
 }
 
-#[derive(Clone, Copy)]
-struct Row {
-    file: &'static str,
-    answer: Answer,
+#[test]
+fn lists_files(rt: HostRuntime) -> Result<(), Fail> {
+    let alloc = rt.alloc();
+    // A file, its listing with the rows in some order, and how many rows and lines that has.
+    let files = [
+        (SQUARE, SQUARE_LISTING, 4, 0),
+        // A row twice, and a row of zeros.
+        (
+            "H-representation\nbegin\n6 3 integer\n0 1 0\n0 1 0\n0 0 1\n1 -1 0\n1 0 -1\n0 0 0\nend\n",
+            SQUARE_LISTING,
+            4,
+            0,
+        ),
+        // A vertex and two rays.
+        (
+            "H-representation\nbegin\n2 3 integer\n0 1 0\n0 0 1\nend\n",
+            "V-representation\nbegin\n***** 3 rational\n 1 0 0\n 0 1 0\n 0 0 1\nend\n",
+            3,
+            0,
+        ),
+        // The half plane with its line, and the plane without rows.
+        (
+            "H-representation\nbegin\n1 3 integer\n0 1 0\nend\n",
+            "V-representation\nlinearity 1 1\nbegin\n***** 3 rational\n 0 0 1\n 1 0 0\n 0 1 0\nend\n",
+            2,
+            1,
+        ),
+        (
+            "H-representation\nbegin\n0 3 integer\nend\n",
+            "V-representation\nlinearity 2 1 2\nbegin\n***** 3 rational\n 0 1 0\n 0 0 1\n 1 0 0\nend\n",
+            1,
+            2,
+        ),
+        // The point of the space without coordinates.
+        (
+            "H-representation\nbegin\n1 1 integer\n5\nend\n",
+            "V-representation\nbegin\n***** 1 rational\n 1\nend\n",
+            1,
+            0,
+        ),
+        (
+            "H-representation\nbegin\n3 3 integer\n0 1 0\n0 0 1\n4 -2 -6\nend\n",
+            "V-representation\nbegin\n***** 3 rational\n 1 0 0\n 1 2 0\n 1 0 2/3\nend\n",
+            3,
+            0,
+        ),
+        // A segment that does not reach the origin.
+        (
+            "H-representation\nbegin\n3 2 integer\n-1 1\n0 1\n2 -1\nend\n",
+            "V-representation\nbegin\n***** 2 rational\n 1 1\n 1 2\nend\n",
+            2,
+            0,
+        ),
+        // No kind, a name, fractions.
+        (
+            "segment\nbegin 2 2 rational 1/2 -1 +0 01 end",
+            "V-representation\nbegin\n***** 2 rational\n 1 0\n 1 1/2\nend\n",
+            2,
+            0,
+        ),
+        // A pyramid over a square.
+        (
+            "H-representation\nbegin\n5 4 integer\n0 0 0 1\n1 -1 0 -1\n1 1 0 -1\n1 0 -1 -1\n1 0 1 -1\nend\n",
+            "V-representation\nbegin\n***** 4 rational\n 1 1 1 0\n 1 1 -1 0\n 1 -1 1 0\n 1 -1 -1 0\n 1 0 0 1\nend\n",
+            5,
+            0,
+        ),
+        // The segment of an equation in the quadrant.
+        (
+            "H-representation\nlinearity 1 1\nbegin\n3 3 integer\n-1 1 1\n0 1 0\n0 0 1\nend\n",
+            "V-representation\nbegin\n***** 3 rational\n 1 1 0\n 1 0 1\nend\n",
+            2,
+            0,
+        ),
+        // A point by as many equations, and a line by one: which is not an axis.
+        (
+            "H-representation\nlinearity 2 1 2\nbegin\n2 3 integer\n-1 1 0\n-2 0 3\nend\n",
+            "V-representation\nbegin\n***** 3 rational\n 1 1 2/3\nend\n",
+            1,
+            0,
+        ),
+        (
+            "H-representation\nlinearity 1 1\nbegin\n1 3 integer\n1 1 -2\nend\n",
+            "V-representation\nlinearity 1 1\nbegin\n***** 3 rational\n 0 2 1\n 1 -1 0\nend\n",
+            1,
+            1,
+        ),
+        // The points of the square with an inner one: four facets, and not `1 0 0`.
+        (
+            "V-representation\nbegin\n5 3 rational\n1 0 0\n1 1 0\n1 0 1\n1 1 1\n1 1/2 1/2\nend\n",
+            "H-representation\nbegin\n***** 3 rational\n 0 1 0\n 0 0 1\n 1 -1 0\n 1 0 -1\nend\n",
+            4,
+            0,
+        ),
+        // The quadrant by its vertex and two rays.
+        (
+            "V-representation\nbegin\n3 3 integer\n1 0 0\n0 1 0\n0 0 1\nend\n",
+            "H-representation\nbegin\n***** 3 rational\n 0 1 0\n 0 0 1\nend\n",
+            2,
+            0,
+        ),
+        // A segment in the plane.
+        (
+            "V-representation\nbegin\n2 3 integer\n1 0 0\n1 1 1\nend\n",
+            "H-representation\nlinearity 1 1\nbegin\n***** 3 rational\n 0 -1 1\n 0 1 0\n 1 -1 0\nend\n",
+            2,
+            1,
+        ),
+        // A half plane by a point, a ray and a line.
+        (
+            "V-representation\nlinearity 1 3\nbegin\n3 3 integer\n1 1 0\n0 1 0\n0 0 1\nend\n",
+            "H-representation\nbegin\n***** 3 rational\n -1 1 0\nend\n",
+            1,
+            0,
+        ),
+        // The point of the space without coordinates, and a ray without a point: the origin is added.
+        (
+            "V-representation\nbegin\n1 1 integer\n1\nend\n",
+            "H-representation\nbegin\n***** 1 rational\nend\n",
+            0,
+            0,
+        ),
+        (
+            "V-representation\nbegin\n1 2 integer\n0 1\nend\n",
+            "H-representation\nbegin\n***** 2 rational\n 0 1\nend\n",
+            1,
+            0,
+        ),
+        // The square without the number of its rows, and with its rows broken.
+        (
+            "H-representation\nbegin\n***** 3 integer\n0 1 0\n0 0 1\n1 -1 0\n1 0 -1\nend\n",
+            SQUARE_LISTING,
+            4,
+            0,
+        ),
+        (
+            "H-representation\r\nbegin\r\n4 3\ninteger 0\n1 0 0\t0 1\n\n1 -1 0 1 0\n-1 end of it\nmaxoutput 3\n",
+            SQUARE_LISTING,
+            4,
+            0,
+        ),
+    ];
+    for (file, listing, rows, lines) in files {
+        let mut out = MemSink::new(alloc, &[]);
+        let status = answer(alloc, file, &mut out);
+        assert_eq!(rt; status, Status::Done { rows, lines }, "{file}");
+        let got = sorted_lines(alloc, out.written())?;
+        let want = sorted_lines(alloc, listing.as_bytes())?;
+        assert!(rt; got == want, "{file}");
+    }
+    Ok(())
 }
 
-impl Answer {
-    /// Whether the program answered and wrote that.
-    fn is_told(self, alloc: Global, status: Status, written: &[u8]) -> Result<bool, AllocError> {
-        match (self, status) {
-            (Answer::Listing { text, rows, lines }, status) => {
-                let got = sorted_lines(alloc, written)?;
-                let want = sorted_lines(alloc, text.as_bytes())?;
-                Ok(status == Status::Done { rows, lines } && got == want)
-            }
-            (Answer::Infeasible, Status::Infeasible) => Ok(written.is_empty()),
-            (Answer::Overflow, Status::Overflow(o)) => {
-                Ok(o.phase == Phase::Cone && written.is_empty())
-            }
-            _ => Ok(false),
-        }
+#[test]
+fn finds_files_without_a_point(rt: HostRuntime) {
+    let files = [
+        "H-representation\nbegin\n2 1 integer\n5\n-5\nend\n",
+        "H-representation\nbegin\n1 1 integer\n-5\nend\n",
+        // At infinity there is a ray.
+        "H-representation\nbegin\n2 2 integer\n-1 0\n0 1\nend\n",
+        "H-representation\nbegin\n2 2 integer\n-1 1\n0 -1\nend\n",
+        // Equations without a common point, and one that no inequality leaves a point of.
+        "H-representation\nlinearity 2 1 2\nbegin\n2 2 integer\n-1 1\n-2 1\nend\n",
+        "H-representation\nlinearity 1 1\nbegin\n1 1 integer\n5\nend\n",
+        "H-representation\nlinearity 1 1\nbegin\n3 3 integer\n1 1 1\n0 1 0\n0 0 1\nend\n",
+    ];
+    for file in files {
+        let mut out = MemSink::new(rt.alloc(), &[]);
+        let status = answer(rt.alloc(), file, &mut out);
+        assert_eq!(rt; status, Status::Infeasible, "{file}");
+        assert_eq!(rt; out.written(), b"".as_slice());
     }
 }
 
 #[test]
-fn answers_files(rt: HostRuntime) -> Result<(), Fail> {
-    for row in [
-        Row {
-            file: SQUARE,
-            answer: Answer::Listing {
-                text: SQUARE_LISTING,
-                rows: 4,
-                lines: 0,
-            },
-        },
-        // A row twice, and a row of zeros.
-        Row {
-            file: "H-representation\nbegin\n6 3 integer\n0 1 0\n0 1 0\n0 0 1\n1 -1 0\n1 0 -1\n0 0 0\nend\n",
-            answer: Answer::Listing {
-                text: SQUARE_LISTING,
-                rows: 4,
-                lines: 0,
-            },
-        },
-        // A vertex and two rays.
-        Row {
-            file: "H-representation\nbegin\n2 3 integer\n0 1 0\n0 0 1\nend\n",
-            answer: Answer::Listing {
-                text: "V-representation\nbegin\n***** 3 rational\n 1 0 0\n 0 1 0\n 0 0 1\nend\n",
-                rows: 3,
-                lines: 0,
-            },
-        },
-        // The half plane with its line, and the plane without rows.
-        Row {
-            file: "H-representation\nbegin\n1 3 integer\n0 1 0\nend\n",
-            answer: Answer::Listing {
-                text: "V-representation\nlinearity 1 1\nbegin\n***** 3 rational\n 0 0 1\n 1 0 0\n 0 1 0\nend\n",
-                rows: 2,
-                lines: 1,
-            },
-        },
-        Row {
-            file: "H-representation\nbegin\n0 3 integer\nend\n",
-            answer: Answer::Listing {
-                text: "V-representation\nlinearity 2 1 2\nbegin\n***** 3 rational\n 0 1 0\n 0 0 1\n 1 0 0\nend\n",
-                rows: 1,
-                lines: 2,
-            },
-        },
-        // The point of the space without coordinates.
-        Row {
-            file: "H-representation\nbegin\n1 1 integer\n5\nend\n",
-            answer: Answer::Listing {
-                text: "V-representation\nbegin\n***** 1 rational\n 1\nend\n",
-                rows: 1,
-                lines: 0,
-            },
-        },
-        Row {
-            file: "H-representation\nbegin\n3 3 integer\n0 1 0\n0 0 1\n4 -2 -6\nend\n",
-            answer: Answer::Listing {
-                text: "V-representation\nbegin\n***** 3 rational\n 1 0 0\n 1 2 0\n 1 0 2/3\nend\n",
-                rows: 3,
-                lines: 0,
-            },
-        },
-        // A segment that does not reach the origin.
-        Row {
-            file: "H-representation\nbegin\n3 2 integer\n-1 1\n0 1\n2 -1\nend\n",
-            answer: Answer::Listing {
-                text: "V-representation\nbegin\n***** 2 rational\n 1 1\n 1 2\nend\n",
-                rows: 2,
-                lines: 0,
-            },
-        },
-        // No kind, a name, fractions.
-        Row {
-            file: "segment\nbegin 2 2 rational 1/2 -1 +0 01 end",
-            answer: Answer::Listing {
-                text: "V-representation\nbegin\n***** 2 rational\n 1 0\n 1 1/2\nend\n",
-                rows: 2,
-                lines: 0,
-            },
-        },
-        // A pyramid over a square.
-        Row {
-            file: "H-representation\nbegin\n5 4 integer\n0 0 0 1\n1 -1 0 -1\n1 1 0 -1\n1 0 -1 -1\n1 0 1 -1\nend\n",
-            answer: Answer::Listing {
-                text: "V-representation\nbegin\n***** 4 rational\n 1 1 1 0\n 1 1 -1 0\n 1 -1 1 0\n 1 -1 -1 0\n 1 0 0 1\nend\n",
-                rows: 5,
-                lines: 0,
-            },
-        },
-        // The segment of an equation in the quadrant.
-        Row {
-            file: "H-representation\nlinearity 1 1\nbegin\n3 3 integer\n-1 1 1\n0 1 0\n0 0 1\nend\n",
-            answer: Answer::Listing {
-                text: "V-representation\nbegin\n***** 3 rational\n 1 1 0\n 1 0 1\nend\n",
-                rows: 2,
-                lines: 0,
-            },
-        },
-        // A point by as many equations, and a line by one: which is not an axis.
-        Row {
-            file: "H-representation\nlinearity 2 1 2\nbegin\n2 3 integer\n-1 1 0\n-2 0 3\nend\n",
-            answer: Answer::Listing {
-                text: "V-representation\nbegin\n***** 3 rational\n 1 1 2/3\nend\n",
-                rows: 1,
-                lines: 0,
-            },
-        },
-        Row {
-            file: "H-representation\nlinearity 1 1\nbegin\n1 3 integer\n1 1 -2\nend\n",
-            answer: Answer::Listing {
-                text: "V-representation\nlinearity 1 1\nbegin\n***** 3 rational\n 0 2 1\n 1 -1 0\nend\n",
-                rows: 1,
-                lines: 1,
-            },
-        },
-        // The points of the square with an inner one: four facets, and not `1 0 0`.
-        Row {
-            file: "V-representation\nbegin\n5 3 rational\n1 0 0\n1 1 0\n1 0 1\n1 1 1\n1 1/2 1/2\nend\n",
-            answer: Answer::Listing {
-                text: "H-representation\nbegin\n***** 3 rational\n 0 1 0\n 0 0 1\n 1 -1 0\n 1 0 -1\nend\n",
-                rows: 4,
-                lines: 0,
-            },
-        },
-        // The quadrant by its vertex and two rays.
-        Row {
-            file: "V-representation\nbegin\n3 3 integer\n1 0 0\n0 1 0\n0 0 1\nend\n",
-            answer: Answer::Listing {
-                text: "H-representation\nbegin\n***** 3 rational\n 0 1 0\n 0 0 1\nend\n",
-                rows: 2,
-                lines: 0,
-            },
-        },
-        // A segment in the plane.
-        Row {
-            file: "V-representation\nbegin\n2 3 integer\n1 0 0\n1 1 1\nend\n",
-            answer: Answer::Listing {
-                text: "H-representation\nlinearity 1 1\nbegin\n***** 3 rational\n 0 -1 1\n 0 1 0\n 1 -1 0\nend\n",
-                rows: 2,
-                lines: 1,
-            },
-        },
-        // A half plane by a point, a ray and a line.
-        Row {
-            file: "V-representation\nlinearity 1 3\nbegin\n3 3 integer\n1 1 0\n0 1 0\n0 0 1\nend\n",
-            answer: Answer::Listing {
-                text: "H-representation\nbegin\n***** 3 rational\n -1 1 0\nend\n",
-                rows: 1,
-                lines: 0,
-            },
-        },
-        // The point of the space without coordinates, and a ray without a point: the origin is added.
-        Row {
-            file: "V-representation\nbegin\n1 1 integer\n1\nend\n",
-            answer: Answer::Listing {
-                text: "H-representation\nbegin\n***** 1 rational\nend\n",
-                rows: 0,
-                lines: 0,
-            },
-        },
-        Row {
-            file: "V-representation\nbegin\n1 2 integer\n0 1\nend\n",
-            answer: Answer::Listing {
-                text: "H-representation\nbegin\n***** 2 rational\n 0 1\nend\n",
-                rows: 1,
-                lines: 0,
-            },
-        },
-        // No point.
-        Row {
-            file: "H-representation\nbegin\n2 1 integer\n5\n-5\nend\n",
-            answer: Answer::Infeasible,
-        },
-        Row {
-            file: "H-representation\nbegin\n1 1 integer\n-5\nend\n",
-            answer: Answer::Infeasible,
-        },
-        // At infinity there is a ray.
-        Row {
-            file: "H-representation\nbegin\n2 2 integer\n-1 0\n0 1\nend\n",
-            answer: Answer::Infeasible,
-        },
-        Row {
-            file: "H-representation\nbegin\n2 2 integer\n-1 1\n0 -1\nend\n",
-            answer: Answer::Infeasible,
-        },
-        // Equations without a common point, and one that no inequality leaves a point of.
-        Row {
-            file: "H-representation\nlinearity 2 1 2\nbegin\n2 2 integer\n-1 1\n-2 1\nend\n",
-            answer: Answer::Infeasible,
-        },
-        Row {
-            file: "H-representation\nlinearity 1 1\nbegin\n1 1 integer\n5\nend\n",
-            answer: Answer::Infeasible,
-        },
-        Row {
-            file: "H-representation\nlinearity 1 1\nbegin\n3 3 integer\n1 1 1\n0 1 0\n0 0 1\nend\n",
-            answer: Answer::Infeasible,
-        },
+fn answers_an_overflow_before_anything_is_written(rt: HostRuntime) {
+    let files = [
         // One extreme point has the denominator 3 * 2^199 - 1.
-        Row {
-            file: "H-representation\nbegin\n4 3 integer\n\
-                   1 -1267650600228229401496703205376 -1\n\
-                   1 -1 -1901475900342344102245054808064\n0 1 0\n0 0 1\nend\n",
-            answer: Answer::Overflow,
-        },
+        "H-representation\nbegin\n4 3 integer\n\
+         1 -1267650600228229401496703205376 -1\n\
+         1 -1 -1901475900342344102245054808064\n0 1 0\n0 0 1\nend\n",
         // Two rows whose exchange needs 2^128.
-        Row {
-            file: "H-representation\nbegin\n2 3 integer\n\
-                   0 18446744073709551616 1\n0 1 18446744073709551616\nend\n",
-            answer: Answer::Overflow,
-        },
-        // The square without the number of its rows, and with its rows broken.
-        Row {
-            file: "H-representation\nbegin\n***** 3 integer\n0 1 0\n0 0 1\n1 -1 0\n1 0 -1\nend\n",
-            answer: Answer::Listing {
-                text: SQUARE_LISTING,
-                rows: 4,
-                lines: 0,
-            },
-        },
-        Row {
-            file: "H-representation\r\nbegin\r\n4 3\ninteger 0\n1 0 0\t0 1\n\n1 -1 0 1 0\n-1 end of it\nmaxoutput 3\n",
-            answer: Answer::Listing {
-                text: SQUARE_LISTING,
-                rows: 4,
-                lines: 0,
-            },
-        },
-    ] {
-        let alloc = rt.alloc();
-        let mut input = MemSource::new(row.file.as_bytes(), &[]);
-        let mut out = MemSink::new(alloc, &[]);
-        let status = lrs(alloc, ["convert"].as_slice(), &mut input, &mut out);
-        let told = row.answer.is_told(alloc, status, out.written())?;
-        assert!(rt; told, "{} was answered with {status:?}", row.file);
+        "H-representation\nbegin\n2 3 integer\n\
+         0 18446744073709551616 1\n0 1 18446744073709551616\nend\n",
+    ];
+    for file in files {
+        let mut out = MemSink::new(rt.alloc(), &[]);
+        let status = answer(rt.alloc(), file, &mut out);
+        assert!(rt;
+            matches!(&status, Status::Overflow(o) if o.phase == Phase::Cone),
+            "{file} was answered with {status:?}"
+        );
+        assert_eq!(rt; out.written(), b"".as_slice());
     }
-    Ok(())
 }
 
 #[test]
@@ -318,9 +240,8 @@ fn says_what_is_wrong_with_a_file(rt: HostRuntime) {
         ("begin\n1 2 real\n 1 1\nend\n", BadKind::UnsupportedType, 2),
     ];
     for (file, kind, line) in rows {
-        let mut input = MemSource::new(file.as_bytes(), &[]);
         let mut out = MemSink::new(alloc, &[]);
-        let status = lrs(alloc, ["convert"].as_slice(), &mut input, &mut out);
+        let status = answer(alloc, file, &mut out);
         assert_eq!(rt; status, Status::BadFile(BadFile { kind, line }), "{file}");
         assert_eq!(rt; out.written(), b"".as_slice());
     }
@@ -401,17 +322,15 @@ fn a_process_says_how_it_ends(rt: HostRuntime) -> Result<(), Fail> {
 
 #[test]
 fn prints_status_lines(rt: HostRuntime) -> Result<(), Fail> {
-    let place = |row, col| Place {
-        row: Label(row),
-        col: Label(col),
-    };
+    let place = |row, col| Place { row, col };
+    let first = Label::coordinate(1);
     let overflow = Overflow {
         phase: Phase::Cone,
-        key: Key::from_ascending(&[3, 8193, 8195]).ok_or("ascending")?,
-        a: place(2, 8193),
-        b: place(0, 65535),
-        c: place(8194, 8193),
-        d: place(2, 3),
+        key: Key::from_ascending(&[Label::row(3), first, Label::coordinate(3)]).ok_or("ascending")?,
+        a: place(Label::row(2), first),
+        b: place(Label::EXTRA, Label::CONSTANT),
+        c: place(Label::coordinate(2), first),
+        d: place(Label::row(2), Label::row(3)),
     };
     let rows = [
         (

@@ -2,8 +2,8 @@
 //! list of tight rows.
 ghost use Rattle.std.specs.Prelude.{◌≡◌, ◌≤◌, ◌++◌, length, IfOk, IsErrOf};
 ghost use Rattle.std.specs.List.{flat_map};
-ghost use Rattle.poly_io.specs.Causes.{HasCause, Rose};
-ghost use Rattle.poly_io.specs.Written.{WritesText};
+ghost use Rattle.poly_io.specs.Causes.{Rose};
+ghost use Rattle.poly_io.specs.Written.{Prints};
 ghost use Rattle.poly_model.specs.Limits.{most_columns};
 ghost use Rattle.poly_model.specs.declared.overflow.Overflow.{Overflow as Passed};
 ghost use Rattle.poly_model.specs.ListingText.{head_text, vector_text};
@@ -105,10 +105,9 @@ fn print_head<S: Sink>(
     out: &mut S,
 ) -> Result<Listing, WriteFault>
     requires { length lines.now ≤ most_columns }
-    ensures text { WritesText (S.written out.old) (S.written out.new) result
+    ensures prints { Prints S.Sink out.old out.new result
         (head_text kind n (length lines.now) ++ flat_map vector_text lines.now) }
     ensures kind { IfOk result (λ l. l ≡ kind) }
-    ensures cause { HasCause (S.faults out.old) (S.faults out.new) result }
 {
     let mut listing = Listing::head(out, kind, n, lines.len() as u32)?;
     'lines: for line in lines {

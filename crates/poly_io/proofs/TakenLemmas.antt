@@ -5,9 +5,13 @@ use Rattle.std.proofs.KnownBytes.{Consumes-trans}
 use Rattle.poly_io.specs.Taken.{Takes, TakesAtMost}
 
 -- they took n bytes
-pub takes_both : (a b c : Option (List ℕ)) (s t : List ℕ) (n : ℕ) → Consumes a b s → Consumes b c t → length s + length t ≡ n → Takes a c n
-takes_both a b c s t n p q e = record { taken = s ++ t; count = simp length-append e; bytes = Consumes-trans a b c s t p q }
+pub takes_both : (a b c : Option (List ℕ)) (s t : List ℕ) (n : ℕ) → Consumes a b s → Consumes b c t →
+    length s + length t ≡ n → Takes a c n
+takes_both a b c s t n p q e =
+    record { taken = s ++ t; count = simp length-append e; bytes = Consumes-trans a b c s t p q }
 
 -- they took at most n bytes
-pub takes_both_at_most : (a b c : Option (List ℕ)) (s t : List ℕ) (n : ℕ) → Consumes a b s → Consumes b c t → length s + length t ≤ n → TakesAtMost a c n
-takes_both_at_most a b c s t n p q le = record { taken = s ++ t; count = simp length-append le; bytes = Consumes-trans a b c s t p q }
+pub takes_both_at_most : (a b c : Option (List ℕ)) (s t : List ℕ) (n : ℕ) → Consumes a b s → Consumes b c t →
+    length s + length t ≤ n → TakesAtMost a c n
+takes_both_at_most a b c s t n p q le =
+    record { taken = s ++ t; count = simp length-append le; bytes = Consumes-trans a b c s t p q }

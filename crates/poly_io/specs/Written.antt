@@ -1,6 +1,8 @@
--- What went out at a call that writes a text.
+-- What went out at a call that prints a text.
 use Rattle.std.specs.Prelude.{◌≡◌, ℕ, List, ◌++◌, Result, OnOk, OnErr, Option}
 use Rattle.std.specs.Io.KnownBytes.{Appends}
+use Rattle.poly_io.specs.declared.sink.Sink.{Ghosts as Sink}
+use Rattle.poly_io.specs.Causes.{HasCause}
 
 -- known bytes grow by the first bytes of a text
 pub record AppendsPart (old new : Option (List ℕ)) (text : List ℕ) : Type 0 where
@@ -9,7 +11,8 @@ pub record AppendsPart (old new : Option (List ℕ)) (text : List ℕ) : Type 0 
   pub split : text ≡ sent ++ unsent
   pub bytes : Appends old new sent
 
--- known bytes grow by the whole text at Ok, and by its first bytes at Err
-pub record WritesText {T E : Type 0} (old new : Option (List ℕ)) (result : Result T E) (text : List ℕ) : Type 0 where
-  pub whole : OnOk result (Appends old new text)
-  pub part : OnErr result (AppendsPart old new text)
+-- a sink's bytes grow by the whole text at Ok, and by its first bytes at Err, which comes where a write has failed
+pub record Prints {O T E : Type 0} (sink : Sink O) (old new : O) (result : Result T E) (text : List ℕ) : Type 0 where
+  pub whole : OnOk result (Appends (sink.written old) (sink.written new) text)
+  pub part : OnErr result (AppendsPart (sink.written old) (sink.written new) text)
+  pub cause : HasCause (sink.faults old) (sink.faults new) result

@@ -10,16 +10,18 @@ mod sink;
 mod source;
 mod standard;
 mod whole;
+mod write;
 
 pub use bytes::Bytes;
 pub use calls::Call;
 pub use fault::{Failed, WriteFault};
 pub use memory::{MemSink, MemSource};
 pub use number::{write_count, write_num};
-pub use sink::{Sink, write_all};
+pub use sink::Sink;
 pub use source::Source;
 pub use standard::{StdinSource, StdoutSink};
 pub use whole::{WholeStop, read_whole};
+pub use write::write_all;
 
 #[cfg(test)]
 mod tests;

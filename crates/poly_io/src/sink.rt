@@ -2,9 +2,8 @@
 ghost use Rattle.std.specs.Prelude.{◌≤◌, ◌<◌, List, ℕ, Option, length, take, IfOk, OnErr};
 ghost use Rattle.std.specs.Io.KnownBytes.{Appends, Keeps};
 ghost use Rattle.poly_io.specs.Causes.{HasCause};
-ghost use Rattle.poly_io.specs.Written.{WritesText};
 
-use crate::{Failed, WriteFault};
+use crate::Failed;
 
 /// A sink of bytes.
 pub trait Sink {
@@ -22,17 +21,4 @@ pub trait Sink {
         ensures bytes { IfOk result (λ n. Appends (written self.old) (written self.new) (take n bytes.now)) }
         ensures failed { OnErr result (Keeps (written self.old) (written self.new)) }
         ensures cause { HasCause (faults self.old) (faults self.new) result };
-}
-
-/// Writes all the bytes, in as many calls as the sink wants. At the first failed call it stops.
-pub fn write_all<S: Sink>(out: &mut S, bytes: &[u8]) -> Result<(), WriteFault>
-    ensures text { WritesText (S.written out.old) (S.written out.new) result bytes.now }
-    ensures cause { HasCause (S.faults out.old) (S.faults out.new) result }
-{
-    let mut rest = bytes;
-    while !rest.is_empty() {
-        let count = out.write(rest)?;
-        rest = &rest[count..];
-    }
-    Ok(())
 }

@@ -1,3 +1,5 @@
+//! Sources and sinks that fail or move little at a call, and those over std: what is read, what goes
+//! out, and how often it failed.
 use super::*;
 use poly_num::Num;
 use std::io::{self, ErrorKind, Read, Write};

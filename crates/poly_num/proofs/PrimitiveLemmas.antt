@@ -79,7 +79,8 @@ pub primitive_left : (v w : Vector) (g : ℕ) → 0 < g → g ≡ gcd_of_all v �
 primitive_left v w g lt e f = (
   λ z. let k = gcd_of_all-zero v (subst IsZero f (zero-scale (pos g) w z)) in omega arith,
   λ d p h.
-      let k : d * g ∣ gcd_of_all v = dvd-gcd_of_all (d * g) v (subst (DividesEach (d * g)) f (DividesEach-scale d g w h)) in
+      let k : d * g ∣ gcd_of_all v = dvd-gcd_of_all (d * g) v
+      (subst (DividesEach (d * g)) f (DividesEach-scale d g w h)) in
       let l : d * g ∣ 1 * g = rw one-mul (subst (λ (n : ℕ). d * g ∣ n) (sym e) k) in
       eq-one_of_dvd-one (dvd_of_mul-dvd-mul_right d lt l),
 )

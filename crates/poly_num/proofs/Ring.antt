@@ -64,7 +64,29 @@ mul-neg a b = *ℤ_comm a (neg_ℤ b) ∙ neg-mul b a ∙ ap neg_ℤ (*ℤ_comm 
 pub ruleset expand = (mul_assoc, mul_left_comm, mul_comm, mul-add, add-mul, neg-mul, mul-neg, neg_ℤ-neg_ℤ, neg_ℤ-+ℤ)
 
 -- std's `ints` without the law of products: each product is an unknown
-pub ruleset lin = (same_out, Apart-out, lt_out, le_out, lt_T, le_T, lt_not, le_not, lt-true, lt-false, le-true, le-false, same_in, below_in, at_most_in, lt_in, le_in, sum_is_lem, neg_is, fits_out, fits_in)
+pub ruleset lin = (
+  same_out,
+  Apart-out,
+  lt_out,
+  le_out,
+  lt_T,
+  le_T,
+  lt_not,
+  le_not,
+  lt-true,
+  lt-false,
+  le-true,
+  le-false,
+  same_in,
+  below_in,
+  at_most_in,
+  lt_in,
+  le_in,
+  sum_is_lem,
+  neg_is,
+  fits_out,
+  fits_in,
+)
 
 pub mul_zero : (a : ℤ) → a *ℤ pos 0 ≡ pos 0
 mul_zero a = omega (arith, ints)

@@ -19,6 +19,7 @@ product_fits a b f g = fits_signed_mul w128 a b (2 ^ 63) (2 ^ 63) (size_of_64 a 
 pub product_at_most : (a b : ℤ) → FitsSigned w64 a → FitsSigned w64 b → (a *ℤ b) ≤ℤ pos (2 ^ 126)
 product_at_most a b f g =
     let h : unsigned_abs (a *ℤ b) ≤ 2 ^ 63 * 2 ^ 63 =
-    rw unsigned_abs-mul (mul-le (unsigned_abs a) (unsigned_abs b) (2 ^ 63) (2 ^ 63) (size_of_64 a f) (size_of_64 b g)) in
+    rw unsigned_abs-mul
+    (mul-le (unsigned_abs a) (unsigned_abs b) (2 ^ 63) (2 ^ 63) (size_of_64 a f) (size_of_64 b g)) in
     let l = at_most_size (a *ℤ b) in
     omega (arith, ints)

@@ -13,8 +13,7 @@ use std::marker::Model;
 
 /// A positive divisor of at most 63 bits. Where it divides a number with a quotient of 64 bits, the
 /// quotient is found with two machine products: the number's low word without the divisor's twos,
-/// times the inverse of the divisor's odd part modulo 2^64 (Jebelean, "An algorithm for exact
-/// division", 1993), and a product that tests it.
+/// times the inverse of the divisor's odd part modulo 2^64, and a product that tests it.
 #[derive(Drop)]
 pub struct Divisor {
     value: i64,

@@ -62,7 +62,7 @@ fn parts_of(alloc: Global, text: &[u8]) -> Result<Parts, ParseStop>
     let rows = extent.count / width;
     let linear = linear_marks(alloc, rows, Lines::new(text))?;
     check_some_row(head.kind, rows, extent.end_line)?;
-    let cells = table(alloc, head.kind, width, &linear, header.words, last)?;
+    let cells = table(alloc, head.kind, header, &linear, last)?;
     Ok(Parts {
         kind: head.kind,
         width,

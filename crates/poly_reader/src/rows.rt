@@ -7,6 +7,7 @@ ghost use Rattle.poly_reader.specs.Scaling.{scaled_entries};
 ghost use Rattle.poly_reader.specs.Rows.{is_zero_fraction, is_one_fraction, first_fault, kind_fault, checked_row, numbers_in, line_of_first, rows_from};
 
 use crate::bad::bad;
+use crate::header::Header;
 use crate::matrix::number_at;
 use crate::scaling::scaled_row;
 use crate::words::Words;
@@ -108,25 +109,25 @@ fn line_of_first(words: &Words, last: u64) -> u64
     }
 }
 
-/// The entries of rows of so many of these words each, one after the other: a row for each mark,
-/// which says whether it is linear. The text ends on line `last`.
+/// The entries of the rows behind a header, one after the other: a row for each mark, which says
+/// whether it is linear. The text ends on line `last`.
 pub fn table(
     alloc: Global,
     kind: Kind,
-    width: usize,
+    header: Header,
     marks: &[bool],
-    words: Words,
     last: u64,
 ) -> Result<Vec<Num>, ParseStop>
-    requires some { 0 < width }
-    requires narrow { width ≤ most_columns }
+    requires some { 0 < header.width }
+    requires narrow { header.width ≤ most_columns }
     requires few { length marks.now ≤ most_file_rows }
-    ensures rows { Parses (λ v. file_rows_in width v.items marks.now) result
-        (rows_from last kind width marks.now words.entry) }
-    ensures full { IfOk result (λ v. length v.items ≡ length marks.now * width) }
+    ensures rows { Parses (λ v. file_rows_in header.entry.width v.items marks.now) result
+        (rows_from last kind header.entry.width marks.now header.entry.words) }
+    ensures full { IfOk result (λ v. length v.items ≡ length marks.now * header.entry.width) }
 {
+    let width = header.width;
     let mut cells = Vec::with_capacity(alloc, marks.len() * width)?;
-    let mut words = words;
+    let mut words = header.words;
     'rows: for mark in marks {
         let line = line_of_first(&words, last);
         let (numbers, rest) = numbers_of(alloc, width, words, last)?;

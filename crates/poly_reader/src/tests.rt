@@ -1,101 +1,80 @@
 //! Texts whose answer is known from the rules of the format.
 ghost use Rattle.std.specs.Prelude.{◌≡◌, ◌<◌};
 
-use crate::{BadFile, BadKind, MOST_FILE_BYTES, ParseStop, ReadStop, poly_of, read_poly};
+use crate::BadKind::*;
+use crate::{BadFile, MOST_FILE_BYTES, ParseStop, ReadStop, poly_of, read_poly};
 use poly_io::{Call, MemSource};
 use poly_model::{Kind, Poly};
 use std::alloc::{AllocFailed, Global};
 use std::test::Fail;
 
-/// A text that is refused, for what, and on which line.
-#[derive(Clone, Copy)]
-struct Refused {
-    text: &'static str,
-    kind: BadKind,
-    line: u64,
-}
-
-const fn case(text: &'static str, kind: BadKind, line: u64) -> Refused {
-    Refused { text, kind, line }
-}
-
 #[test]
 fn refuses_for_the_first_fault(rt: HostRuntime) {
-    for row in [
-        case("", BadKind::NoBegin, 1),
-        case("begin\nx 2 integer\n", BadKind::BadHeader, 2),
-        case("begin\n4097 2 integer\n", BadKind::TooManyRows, 2),
-        case("begin\n1 257 integer\n", BadKind::BadWidth, 2),
-        case("begin\n1 2 real\n 1 1\nend\n", BadKind::UnsupportedType, 2),
-        case("begin\n1 2 integer\n 1 x\nend\n", BadKind::BadNumber, 3),
-        case("begin\n1 2 integer\n 1 2 3\nend\n", BadKind::LongData, 3),
-        case("begin\n1 2 integer\n 1\nend\n", BadKind::ShortData, 4),
-        case(
-            "begin\n***** 2 integer\n 1 2 3\nend\n",
-            BadKind::ShortData,
-            4,
-        ),
-        case("begin\n1 2 integer\n 1 2\n", BadKind::NoEnd, 4),
-        case(
+    // A text that is refused, for what, and on which line.
+    let rows = [
+        ("", NoBegin, 1),
+        ("begin\nx 2 integer\n", BadHeader, 2),
+        ("begin\n4097 2 integer\n", TooManyRows, 2),
+        ("begin\n1 257 integer\n", BadWidth, 2),
+        ("begin\n1 2 real\n 1 1\nend\n", UnsupportedType, 2),
+        ("begin\n1 2 integer\n 1 x\nend\n", BadNumber, 3),
+        ("begin\n1 2 integer\n 1 2 3\nend\n", LongData, 3),
+        ("begin\n1 2 integer\n 1\nend\n", ShortData, 4),
+        ("begin\n***** 2 integer\n 1 2 3\nend\n", ShortData, 4),
+        ("begin\n1 2 integer\n 1 2\n", NoEnd, 4),
+        (
             "begin\n1 2 integer\n 1 170141183460469231731687303715884105728\nend\n",
-            BadKind::WideNumber,
+            WideNumber,
             3,
         ),
-        case(
+        (
             "linearity 2 1\nbegin\n1 2 integer\n 1 2\nend\n",
-            BadKind::BadLinearity,
+            BadLinearity,
             1,
         ),
-        case(
+        (
             "linearity 1 3\nbegin\n1 2 integer\n 1 2\nend\n",
-            BadKind::BadLinearity,
+            BadLinearity,
             1,
         ),
-        case(
+        (
             "begin\n1 2 integer\n 1 2\nend\nlinearity 1 1\n",
-            BadKind::MisplacedLinearity,
+            MisplacedLinearity,
             5,
         ),
-        case(
+        (
             "nonnegative\nbegin\n1 2 integer\n 1 2\nend\n",
-            BadKind::Nonnegative,
+            Nonnegative,
             1,
         ),
-        case(
-            "V-representation\nbegin\n0 2 integer\nend\n",
-            BadKind::NoRows,
-            4,
-        ),
-        case(
+        ("V-representation\nbegin\n0 2 integer\nend\n", NoRows, 4),
+        (
             "V-representation\nbegin\n1 2 integer\n 2 1\nend\n",
-            BadKind::BadFirst,
+            BadFirst,
             4,
         ),
-        case(
+        (
             "V-representation\nlinearity 1 1\nbegin\n1 2 integer\n 1 1\nend\n",
-            BadKind::LinearPoint,
+            LinearPoint,
             5,
         ),
-        case(
-            "begin\n1 2 rational\n 1 1/0\nend\n",
-            BadKind::ZeroDenominator,
-            3,
-        ),
-        case(
+        ("begin\n1 2 rational\n 1 1/0\nend\n", ZeroDenominator, 3),
+        (
             "begin\n1 2 rational\n 1/1267650600228229401496703205376 1/1267650600228229401496703205375\nend\n",
-            BadKind::WideRow,
+            WideRow,
             3,
         ),
-        case("begin\n1 2 rational\n 1 1.5\nend\n", BadKind::BadNumber, 3),
-        case("begins\nbegin\n", BadKind::BadHeader, 3),
-        case("\rbegin\r\n\r1\r2\rinteger\r\n\r\n", BadKind::NoEnd, 4),
-    ] {
-        let want = BadFile {
-            kind: row.kind,
-            line: row.line,
-        };
-        let stop = poly_of(rt.alloc(), row.text.as_bytes()).err();
-        assert_eq!(rt; stop, Some(ParseStop::Bad(want)), "{}", row.text);
+        ("begin\n1 2 rational\n 1 1.5\nend\n", BadNumber, 3),
+        ("begins\nbegin\n", BadHeader, 3),
+        ("\rbegin\r\n\r1\r2\rinteger\r\n\r\n", NoEnd, 4),
+    ];
+    for (text, kind, line) in rows {
+        let stop = poly_of(rt.alloc(), text.as_bytes()).err();
+        assert_eq!(rt;
+            stop,
+            Some(ParseStop::Bad(BadFile { kind, line })),
+            "{text}"
+        );
     }
 }
 
@@ -134,7 +113,8 @@ fn gives_the_rows(rt: HostRuntime) -> Result<(), Fail> {
             linear: &[false, false],
         },
         Accepted {
-            text: "V-representation\nlinearity 1 3 2\nlinearity 2 1 3\nH-representation\nbegin\n3 1 rational 0 -7 5/10 end\n",
+            text: "V-representation\nlinearity 1 3 2\nlinearity 2 1 3\nH-representation\n\
+                   begin\n3 1 rational 0 -7 5/10 end\n",
             kind: Kind::H,
             n: 1,
             entries: &[0, -1, 1],
@@ -210,7 +190,7 @@ fn takes_one_byte_past_the_longest_file(rt: HostRuntime) -> Result<(), Fail> {
     let text: Vec<u8> = Vec::from_elem(rt.alloc(), b'\n', MOST_FILE_BYTES + 3)?;
     let mut source = MemSource::new(&text, &[]);
     let want = BadFile {
-        kind: BadKind::TooLong,
+        kind: TooLong,
         line: 0,
     };
     assert_eq!(rt;

@@ -16,8 +16,11 @@ unfolding numbers_text
 numbers_step i n k e = rw e refl
 
 -- from i on, the next number and the rest
-pub numbers_text-next : (i n : ℕ) → i < n → numbers_text (i + 1) (n - i) ≡ number_text (i + 1) ++ numbers_text (i + 1 + 1) (n - (i + 1))
-numbers_text-next i n lt = let e : n - i ≡ suc (n - (i + 1)) = omega arith in rw (add-one (i + 1)) (numbers_step (i + 1) (n - i) (n - (i + 1)) e)
+pub numbers_text-next : (i n : ℕ) → i < n →
+    numbers_text (i + 1) (n - i) ≡ number_text (i + 1) ++ numbers_text (i + 1 + 1) (n - (i + 1))
+numbers_text-next i n lt =
+    let e : n - i ≡ suc (n - (i + 1)) = omega arith in
+    rw (add-one (i + 1)) (numbers_step (i + 1) (n - i) (n - (i + 1)) e)
 
 pub numbers_text-none : (i n : ℕ) → n ≡ 0 → numbers_text i n ≡ []
 unfolding numbers_text
@@ -29,7 +32,8 @@ pub linearity_text-none : (n : ℕ) → n ≡ 0 → linearity_text n ≡ []
 unfolding linearity_text
 linearity_text-none n e = rw e refl
 
-pub linearity_text-some : (n : ℕ) → n ≢ 0 → linearity_text n ≡ codes "linearity " ++ decimal n ++ numbers_text 1 n ++ 10 ∷ []
+pub linearity_text-some : (n : ℕ) → n ≢ 0 →
+    linearity_text n ≡ codes "linearity " ++ decimal n ++ numbers_text 1 n ++ 10 ∷ []
 unfolding linearity_text
 linearity_text-some zero h = absurd (h refl)
 linearity_text-some (suc k) h = refl
@@ -44,7 +48,8 @@ unfolding entries_text
 entries_step v ys y e = rw e refl
 
 -- from place i on, the entry there and the rest
-pub entries_text-next : (v : List ℤ) (i : ℕ) (y : ℤ) → i < length v → y ≡ get_or v i y → entries_text (drop i v) ≡ entry_text y ++ entries_text (drop (i + 1) v)
+pub entries_text-next : (v : List ℤ) (i : ℕ) (y : ℤ) → i < length v → y ≡ get_or v i y →
+    entries_text (drop i v) ≡ entry_text y ++ entries_text (drop (i + 1) v)
 entries_text-next v i y lt is = entries_step _ _ _ (drop_next v i y lt is)
 
 pub entries_text-none : (v : List ℤ) (i : ℕ) → length v ≤ i → entries_text (drop i v) ≡ []
@@ -53,12 +58,14 @@ entries_text-none v i le = rw (drop_all i v le) refl
 
 -- ---- coordinates
 
-coordinates_step : (first : ℤ) (v ys : List ℤ) (y : ℤ) → v ≡ y ∷ ys → coordinates_text first v ≡ fraction_text (lowest y first) ++ coordinates_text first ys
+coordinates_step : (first : ℤ) (v ys : List ℤ) (y : ℤ) → v ≡ y ∷ ys →
+    coordinates_text first v ≡ fraction_text (lowest y first) ++ coordinates_text first ys
 unfolding coordinates_text
 coordinates_step first v ys y e = rw e refl
 
 -- from place i on, the coordinate there and the rest
-pub coordinates_text-next : (first : ℤ) (v : List ℤ) (i : ℕ) (y : ℤ) → i < length v → y ≡ get_or v i y → coordinates_text first (drop i v) ≡ fraction_text (lowest y first) ++ coordinates_text first (drop (i + 1) v)
+pub coordinates_text-next : (first : ℤ) (v : List ℤ) (i : ℕ) (y : ℤ) → i < length v → y ≡ get_or v i y →
+    coordinates_text first (drop i v) ≡ fraction_text (lowest y first) ++ coordinates_text first (drop (i + 1) v)
 coordinates_text-next first v i y lt is = coordinates_step first _ _ _ (drop_next v i y lt is)
 
 pub coordinates_text-none : (first : ℤ) (v : List ℤ) (i : ℕ) → length v ≤ i → coordinates_text first (drop i v) ≡ []
@@ -102,12 +109,15 @@ front [] first le is = absurd (omega arith)
 front (y ∷ ys) first le is = ap (λ z. z ∷ ys) (sym is)
 
 -- the first entry is positive
-pub row_text-point : (v : List ℤ) (first : ℤ) → 1 ≤ length v → first ≡ get_or v 0 first → pos 0 <ℤ first → row_text H v ≡ point_text (first ∷ drop 1 v)
+pub row_text-point : (v : List ℤ) (first : ℤ) → 1 ≤ length v → first ≡ get_or v 0 first → pos 0 <ℤ first →
+    row_text H v ≡ point_text (first ∷ drop 1 v)
 row_text-point v first le is p = ap (row_text H) (front v first le is) ∙ point_step first (drop 1 v) p
 
 -- the first entry is not positive
-pub row_text-ray : (v : List ℤ) (first : ℤ) → 1 ≤ length v → first ≡ get_or v 0 first → ¬ (pos 0 <ℤ first) → row_text H v ≡ vector_text v
-row_text-ray v first le is other = ap (row_text H) (front v first le is) ∙ ray_step first (drop 1 v) other ∙ ap vector_text (sym (front v first le is))
+pub row_text-ray : (v : List ℤ) (first : ℤ) → 1 ≤ length v → first ≡ get_or v 0 first → ¬ (pos 0 <ℤ first) →
+    row_text H v ≡ vector_text v
+row_text-ray v first le is other =
+    ap (row_text H) (front v first le is) ∙ ray_step first (drop 1 v) other ∙ ap vector_text (sym (front v first le is))
 
 -- there is no first entry
 pub row_text-none : (v : List ℤ) → length v < 1 → row_text H v ≡ vector_text v

@@ -1,6 +1,5 @@
 //! What stands before the rows of a listing.
-ghost use Rattle.poly_io.specs.Causes.{HasCause};
-ghost use Rattle.poly_io.specs.Written.{WritesText};
+ghost use Rattle.poly_io.specs.Written.{Prints};
 ghost use Rattle.poly_model.specs.ListingText.{head_text, title_text, size_text};
 ghost use Rattle.poly_model.specs.ListingText.{linearity_text, number_text, numbers_text};
 
@@ -13,9 +12,7 @@ pub(crate) fn write_head<S: Sink>(
     lines: u32,
     out: &mut S,
 ) -> Result<(), WriteFault>
-    ensures text { WritesText (S.written out.old) (S.written out.new) result
-        (head_text kind n lines) }
-    ensures cause { HasCause (S.faults out.old) (S.faults out.new) result }
+    ensures { Prints S.Sink out.old out.new result (head_text kind n lines) }
 {
     write_title(kind, out)?;
     write_linearity(lines, out)?;
@@ -25,8 +22,7 @@ pub(crate) fn write_head<S: Sink>(
 /// The first line: a listing is of the kind that the input file is not.
 #[tactic(auto, unfolding(poly_model::specs::ListingText::title_text))]
 fn write_title<S: Sink>(kind: Kind, out: &mut S) -> Result<(), WriteFault>
-    ensures text { WritesText (S.written out.old) (S.written out.new) result (title_text kind) }
-    ensures cause { HasCause (S.faults out.old) (S.faults out.new) result }
+    ensures { Prints S.Sink out.old out.new result (title_text kind) }
 {
     match kind {
         Kind::H => write_all(out, b"V-representation\n"),
@@ -36,9 +32,7 @@ fn write_title<S: Sink>(kind: Kind, out: &mut S) -> Result<(), WriteFault>
 
 /// The line that says that the first rows are lines, where there are some.
 fn write_linearity<S: Sink>(lines: u32, out: &mut S) -> Result<(), WriteFault>
-    ensures text { WritesText (S.written out.old) (S.written out.new) result
-        (linearity_text lines) }
-    ensures cause { HasCause (S.faults out.old) (S.faults out.new) result }
+    ensures { Prints S.Sink out.old out.new result (linearity_text lines) }
 {
     if lines == 0 {
         return Ok(());
@@ -51,9 +45,7 @@ fn write_linearity<S: Sink>(lines: u32, out: &mut S) -> Result<(), WriteFault>
 
 /// The numbers from 1 to `count`.
 fn write_numbers<S: Sink>(count: u32, out: &mut S) -> Result<(), WriteFault>
-    ensures text { WritesText (S.written out.old) (S.written out.new) result
-        (numbers_text 1 count) }
-    ensures cause { HasCause (S.faults out.old) (S.faults out.new) result }
+    ensures { Prints S.Sink out.old out.new result (numbers_text 1 count) }
 {
     for i in 0..count {
         write_number(i as u64 + 1, out)?;
@@ -62,8 +54,7 @@ fn write_numbers<S: Sink>(count: u32, out: &mut S) -> Result<(), WriteFault>
 }
 
 fn write_number<S: Sink>(n: u64, out: &mut S) -> Result<(), WriteFault>
-    ensures text { WritesText (S.written out.old) (S.written out.new) result (number_text n) }
-    ensures cause { HasCause (S.faults out.old) (S.faults out.new) result }
+    ensures { Prints S.Sink out.old out.new result (number_text n) }
 {
     write_all(out, b" ")?;
     write_count(n, out)
@@ -71,8 +62,7 @@ fn write_number<S: Sink>(n: u64, out: &mut S) -> Result<(), WriteFault>
 
 /// The line before the rows, and the one that says how many entries each has.
 fn write_size<S: Sink>(n: u32, out: &mut S) -> Result<(), WriteFault>
-    ensures text { WritesText (S.written out.old) (S.written out.new) result (size_text n) }
-    ensures cause { HasCause (S.faults out.old) (S.faults out.new) result }
+    ensures { Prints S.Sink out.old out.new result (size_text n) }
 {
     write_all(out, b"begin\n***** ")?;
     write_count(n as u64, out)?;

@@ -1,7 +1,6 @@
 //! A listing that is being written.
 ghost use Rattle.std.specs.Prelude.{◌≡◌, IfOk};
-ghost use Rattle.poly_io.specs.Causes.{HasCause};
-ghost use Rattle.poly_io.specs.Written.{WritesText};
+ghost use Rattle.poly_io.specs.Written.{Prints};
 ghost use Rattle.poly_model.specs.ListingText.{head_text, vector_text, row_text, end_text};
 
 use crate::head::write_head;
@@ -31,10 +30,8 @@ impl Listing {
     /// Writes what stands before the rows: `n` is how many entries each row has, and `lines` how
     /// many of the first rows are lines. `kind` is that of the input file.
     pub fn head<S: Sink>(out: &mut S, kind: Kind, n: u32, lines: u32) -> Result<Listing, WriteFault>
-        ensures text { WritesText (S.written out.old) (S.written out.new) result
-            (head_text kind n lines) }
+        ensures prints { Prints S.Sink out.old out.new result (head_text kind n lines) }
         ensures kind { IfOk result (λ l. l ≡ kind) }
-        ensures cause { HasCause (S.faults out.old) (S.faults out.new) result }
     {
         write_head(kind, n, lines, out)?;
         Ok(Listing { kind })
@@ -42,10 +39,8 @@ impl Listing {
 
     /// Writes a line of the polyhedron, as its whole entries.
     pub fn line<S: Sink>(self, out: &mut S, v: &[Num]) -> Result<Listing, WriteFault>
-        ensures text { WritesText (S.written out.old) (S.written out.new) result
-            (vector_text v.now) }
+        ensures prints { Prints S.Sink out.old out.new result (vector_text v.now) }
         ensures kind { IfOk result (λ l. l ≡ self) }
-        ensures cause { HasCause (S.faults out.old) (S.faults out.new) result }
     {
         write_vector(v, out)?;
         Ok(self)
@@ -54,10 +49,8 @@ impl Listing {
     /// Writes a row: for an H file a vector with positive first entry as a point, over that entry;
     /// every other vector as its whole entries.
     pub fn row<S: Sink>(self, out: &mut S, v: &[Num]) -> Result<Listing, WriteFault>
-        ensures text { WritesText (S.written out.old) (S.written out.new) result
-            (row_text self v.now) }
+        ensures prints { Prints S.Sink out.old out.new result (row_text self v.now) }
         ensures kind { IfOk result (λ l. l ≡ self) }
-        ensures cause { HasCause (S.faults out.old) (S.faults out.new) result }
     {
         write_row(self.kind, v, out)?;
         Ok(self)
@@ -65,8 +58,7 @@ impl Listing {
 
     /// Writes the last line.
     pub fn finish<S: Sink>(self, out: &mut S) -> Result<(), WriteFault>
-        ensures text { WritesText (S.written out.old) (S.written out.new) result end_text }
-        ensures cause { HasCause (S.faults out.old) (S.faults out.new) result }
+        ensures { Prints S.Sink out.old out.new result end_text }
     {
         write_all(out, b"end\n")
     }

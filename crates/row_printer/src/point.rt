@@ -1,7 +1,6 @@
 //! A row, and a point as a row of fractions.
 ghost use Rattle.std.specs.Prelude.{◌≡◌, ◌↔◌, ◌<ℤ◌, ◌∷◌, IsTrue, pos};
-ghost use Rattle.poly_io.specs.Causes.{HasCause};
-ghost use Rattle.poly_io.specs.Written.{WritesText};
+ghost use Rattle.poly_io.specs.Written.{Prints};
 ghost use Rattle.poly_num.specs.Fractions.{lowest};
 ghost use Rattle.poly_model.specs.declared.kind.Kind.TheVariants.{H};
 ghost use Rattle.poly_model.specs.ListingText.{row_text, point_text, coordinates_text};
@@ -15,9 +14,7 @@ use poly_num::{Frac, Num};
 /// A row of the listing of a file of this kind.
 #[tactic(auto, unfolding(poly_model::specs::ListingText::row_text))]
 pub(crate) fn write_row<S: Sink>(kind: Kind, v: &[Num], out: &mut S) -> Result<(), WriteFault>
-    ensures text { WritesText (S.written out.old) (S.written out.new) result
-        (row_text kind v.now) }
-    ensures cause { HasCause (S.faults out.old) (S.faults out.new) result }
+    ensures { Prints S.Sink out.old out.new result (row_text kind v.now) }
 {
     match kind {
         Kind::H => write_point_or_ray(v, out),
@@ -27,8 +24,7 @@ pub(crate) fn write_row<S: Sink>(kind: Kind, v: &[Num], out: &mut S) -> Result<(
 
 /// A row of the listing of an H file.
 fn write_point_or_ray<S: Sink>(v: &[Num], out: &mut S) -> Result<(), WriteFault>
-    ensures text { WritesText (S.written out.old) (S.written out.new) result (row_text H v.now) }
-    ensures cause { HasCause (S.faults out.old) (S.faults out.new) result }
+    ensures { Prints S.Sink out.old out.new result (row_text H v.now) }
 {
     let [first, rest @ ..] = v else {
         return write_vector(v, out);
@@ -43,9 +39,7 @@ fn write_point_or_ray<S: Sink>(v: &[Num], out: &mut S) -> Result<(), WriteFault>
 /// A point, whose entries are those of `rest` over `first`.
 fn write_point<S: Sink>(first: Num, rest: &[Num], out: &mut S) -> Result<(), WriteFault>
     requires { pos 0 <ℤ first }
-    ensures text { WritesText (S.written out.old) (S.written out.new) result
-        (point_text (first ∷ rest.now)) }
-    ensures cause { HasCause (S.faults out.old) (S.faults out.new) result }
+    ensures { Prints S.Sink out.old out.new result (point_text (first ∷ rest.now)) }
 {
     write_all(out, b" 1")?;
     write_coordinates(first, rest, out)?;
@@ -55,9 +49,7 @@ fn write_point<S: Sink>(first: Num, rest: &[Num], out: &mut S) -> Result<(), Wri
 /// The entries of `rest` over `first`.
 fn write_coordinates<S: Sink>(first: Num, rest: &[Num], out: &mut S) -> Result<(), WriteFault>
     requires { pos 0 <ℤ first }
-    ensures text { WritesText (S.written out.old) (S.written out.new) result
-        (coordinates_text first rest.now) }
-    ensures cause { HasCause (S.faults out.old) (S.faults out.new) result }
+    ensures { Prints S.Sink out.old out.new result (coordinates_text first rest.now) }
 {
     for y in rest {
         write_coordinate(*y, first, out)?;
@@ -68,9 +60,7 @@ fn write_coordinates<S: Sink>(first: Num, rest: &[Num], out: &mut S) -> Result<(
 /// `y` over `first` in lowest terms, after one blank.
 fn write_coordinate<S: Sink>(y: Num, first: Num, out: &mut S) -> Result<(), WriteFault>
     requires { pos 0 <ℤ first }
-    ensures text { WritesText (S.written out.old) (S.written out.new) result
-        (fraction_text (lowest y first)) }
-    ensures cause { HasCause (S.faults out.old) (S.faults out.new) result }
+    ensures { Prints S.Sink out.old out.new result (fraction_text (lowest y first)) }
 {
     let Some(fraction) = Frac::new(y, first) else {
         unreachable!();
@@ -83,9 +73,7 @@ fn write_coordinate<S: Sink>(y: Num, first: Num, out: &mut S) -> Result<(), Writ
 
 /// What stands behind a numerator.
 fn write_denominator<S: Sink>(den: Num, out: &mut S) -> Result<(), WriteFault>
-    ensures text { WritesText (S.written out.old) (S.written out.new) result
-        (denominator_text den) }
-    ensures cause { HasCause (S.faults out.old) (S.faults out.new) result }
+    ensures { Prints S.Sink out.old out.new result (denominator_text den) }
 {
     if is_one(den) {
         return Ok(());

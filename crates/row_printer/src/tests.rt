@@ -1,3 +1,5 @@
+//! Listings of both kinds and heads, with texts written by hand, and a listing that a fault cuts
+//! off.
 use super::*;
 use poly_io::{Call, MemSink, WriteFault};
 use poly_model::Kind;

@@ -1,22 +1,19 @@
 //! A row of whole entries.
-ghost use Rattle.poly_io.specs.Causes.{HasCause};
-ghost use Rattle.poly_io.specs.Written.{WritesText};
+ghost use Rattle.poly_io.specs.Written.{Prints};
 ghost use Rattle.poly_model.specs.ListingText.{entry_text, entries_text, vector_text};
 
 use poly_io::{Sink, WriteFault, write_all, write_num};
 use poly_num::Num;
 
 pub(crate) fn write_vector<S: Sink>(v: &[Num], out: &mut S) -> Result<(), WriteFault>
-    ensures text { WritesText (S.written out.old) (S.written out.new) result (vector_text v.now) }
-    ensures cause { HasCause (S.faults out.old) (S.faults out.new) result }
+    ensures { Prints S.Sink out.old out.new result (vector_text v.now) }
 {
     write_entries(v, out)?;
     write_all(out, b"\n")
 }
 
 fn write_entries<S: Sink>(v: &[Num], out: &mut S) -> Result<(), WriteFault>
-    ensures text { WritesText (S.written out.old) (S.written out.new) result (entries_text v.now) }
-    ensures cause { HasCause (S.faults out.old) (S.faults out.new) result }
+    ensures { Prints S.Sink out.old out.new result (entries_text v.now) }
 {
     for y in v {
         write_entry(*y, out)?;
@@ -26,8 +23,7 @@ fn write_entries<S: Sink>(v: &[Num], out: &mut S) -> Result<(), WriteFault>
 
 /// A number after one blank.
 pub(crate) fn write_entry<S: Sink>(y: Num, out: &mut S) -> Result<(), WriteFault>
-    ensures text { WritesText (S.written out.old) (S.written out.new) result (entry_text y) }
-    ensures cause { HasCause (S.faults out.old) (S.faults out.new) result }
+    ensures { Prints S.Sink out.old out.new result (entry_text y) }
 {
     write_all(out, b" ")?;
     write_num(y, out)

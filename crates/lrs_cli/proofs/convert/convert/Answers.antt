@@ -21,7 +21,10 @@ returns-in-Ok-clause-answers g c =
     let text = text_of_source _ _ poly c.in-Ok.ensures.ok in
     let listing = c.print_listing.ensures in
     record {
-      done = λ rows lines e. (c.in-Ok.ensures.ok.ends, described (WritesWhole old new rows lines) poly source text (listing.done rows lines e));
+      done = λ rows lines e. (
+        c.in-Ok.ensures.ok.ends,
+        described (WritesWhole old new rows lines) poly source text (listing.done rows lines e),
+      );
       infeasible = λ e. described (λ p. IsFeasible (cone_of p) → ⊥) poly source text (listing.infeasible e);
       overflow = λ o e. described (λ p. PassesInCone p o) poly source text (listing.overflow o e);
       stopped = λ s. described (WritesPart old new) poly source text (listing.stopped s);
@@ -38,7 +41,8 @@ returns-in-Ok-clause-answers g c =
     }
 
 -- a text that describes no polyhedron is no fault of reading
-bad_is_no_fault : {T : Type 0} (stop : ReadStop) (f : BadFile) → stop ≡ Bad f → IsErrOf {T = T} {E = ReadStop} (Err stop) Fault → ⊥
+bad_is_no_fault : {T : Type 0} (stop : ReadStop) (f : BadFile) → stop ≡ Bad f →
+    IsErrOf {T = T} {E = ReadStop} (Err stop) Fault → ⊥
 bad_is_no_fault stop f is e = cc
 
 pub returns-in-Err-Bad-clause-answers : goal.returns-in-Err-Bad-clause-answers

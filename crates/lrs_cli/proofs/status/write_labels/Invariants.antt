@@ -1,10 +1,8 @@
-use Rattle.std.proofs.Common.{◌≡◌, drop}
+use Rattle.std.proofs.Common.{drop}
 use Rattle.poly_io.proofs.Parts.{Owes}
 use Rattle.poly_model.specs.LabelText.{labels_text}
 use Rattle.lrs_cli.proofs.status.write_labels.Given as goal
 
 abbrev pub invariant-loop-label : goal.invariant-loop-label
-invariant-loop-label g l = record {
-  text : Owes (g.S.Sink.written l.initial.out) (g.S.Sink.written l.out) (labels_text l.labels) (labels_text (drop l.label-index l.labels));
-  same : g.S.Sink.faults l.out ≡ g.S.Sink.faults l.initial.out;
-}
+invariant-loop-label g l =
+    Owes g.S.Sink l.initial.out l.out (labels_text l.labels) (labels_text (drop l.label-index l.labels))

@@ -1,9 +1,8 @@
-use Rattle.std.proofs.Common.{codes}
-use Rattle.poly_io.proofs.Parts.{text_cut, text_then}
+use Rattle.poly_io.proofs.Parts.{prints_cut, prints_then}
 use Rattle.lrs_cli.proofs.status.write_next_label.Goals as goal
 
-pub returns-in_err-write_all-clause-text : goal.returns-in_err-write_all-clause-text
-returns-in_err-write_all-clause-text g c = text_cut _ c.from_residual.ensures.0 c.in_err-write_all.ensures.text
+pub returns-in_err-write_all : goal.returns-in_err-write_all
+returns-in_err-write_all g c = prints_cut _ c.from_residual.ensures.0 c.in_err-write_all.ensures
 
-pub returns-clause-text : goal.returns-clause-text
-returns-clause-text g c = text_then _ (codes " ") c.in_ok-write_all.ensures.text.whole (c.write_label.ensures.text)
+pub returns : goal.returns
+returns g c = prints_then c.in_ok-write_all.ensures c.write_label.ensures

@@ -35,7 +35,7 @@ returns-in-Err-clause-written g c p last file b same =
     file same) old mid _ refl
     (subst (λ t. AppendsPart old mid t)
     (same_head c.args.start.now.sys.now c.args.lines.now c.kind.result c.n.result c.kind.ensures c.n.ensures.value)
-    c.in-Err.ensures.text.part)
+    c.in-Err.ensures.prints.part)
 
 pub returns-in_err-listing-clause-written : goal.returns-in_err-listing-clause-written
 returns-in_err-listing-clause-written g c p last file b same =
@@ -49,7 +49,7 @@ returns-in_err-listing-clause-written g c p last file b same =
     old mid (g.S.Sink.written c.list_rows.new.out) c.from_residual.result c.from_residual.ensures.0
     (subst (λ t. Appends old mid t)
     (same_head c.args.start.now.sys.now c.args.lines.now c.kind.result c.n.result c.kind.ensures c.n.ensures.value)
-    c.in-Ok.ensures.text.whole)
+    c.in-Ok.ensures.prints.whole)
     (c.in_err-listing.ensures.written p last file b).part
 
 pub returns-in_err-listing-clause-passes : goal.returns-in_err-listing-clause-passes
@@ -71,9 +71,9 @@ returns-in-Ok-finish-clause-written g c p last file b same =
     old mid (g.S.Sink.written c.list_rows.new.out) (g.S.Sink.written c.finish.new.out) _ refl
     (subst (λ t. Appends old mid t)
     (same_head c.args.start.now.sys.now c.args.lines.now c.kind.result c.n.result c.kind.ensures c.n.ensures.value)
-    c.in-Ok.ensures.text.whole)
+    c.in-Ok.ensures.prints.whole)
     (c.in_ok-listing.ensures.written p last file b).whole
-    c.in-Ok-finish.ensures.text.whole
+    c.in-Ok-finish.ensures.whole
 
 pub returns-in-Err-finish-clause-written : goal.returns-in-Err-finish-clause-written
 returns-in-Err-finish-clause-written g c p last file b same =
@@ -88,31 +88,33 @@ returns-in-Err-finish-clause-written g c p last file b same =
     old mid (g.S.Sink.written c.list_rows.new.out) (g.S.Sink.written c.finish.new.out) _ refl
     (subst (λ t. Appends old mid t)
     (same_head c.args.start.now.sys.now c.args.lines.now c.kind.result c.n.result c.kind.ensures c.n.ensures.value)
-    c.in-Ok.ensures.text.whole)
-    rows.0 rows.1 rows.2.bytes c.in-Err-finish.ensures.text.part
+    c.in-Ok.ensures.prints.whole)
+    rows.0 rows.1 rows.2.bytes c.in-Err-finish.ensures.part
 
 -- ---- the faults
 pub returns-in-Err-clause-cause : goal.returns-in-Err-clause-cause
 returns-in-Err-clause-cause g c =
     stopped (g.S.Sink.faults c.args.out.now) (g.S.Sink.faults c.print_head.new.out) c.in-Err.fault
-    c.in-Err.ensures.cause.later c.in-Err.ensures.cause.failed
+    c.in-Err.ensures.prints.cause.later c.in-Err.ensures.prints.cause.failed
 
 pub returns-in_err-listing-clause-cause : goal.returns-in_err-listing-clause-cause
 returns-in_err-listing-clause-cause g c =
     let q = err_from_is_err_and c.from_residual.result c.from_residual.ensures.1 in
     cause_after (g.S.Sink.faults c.args.out.now) (g.S.Sink.faults c.print_head.new.out)
-    (g.S.Sink.faults c.list_rows.new.out) c.in_err-listing.field-0.0 c.from_residual.result c.in-Ok.ensures.cause.same
+    (g.S.Sink.faults c.list_rows.new.out) c.in_err-listing.field-0.0
+    c.from_residual.result c.in-Ok.ensures.prints.cause.same
     (q.1 ∙ ap (λ x. Err x) q.2) c.in_err-listing.ensures.cause
 
 pub returns-in-Ok-finish-clause-cause : goal.returns-in-Ok-finish-clause-cause
 returns-in-Ok-finish-clause-cause g c =
     not_stopped (g.S.Sink.faults c.args.out.now) (g.S.Sink.faults c.finish.new.out) _
-    (c.in-Ok-finish.ensures.cause.same ∙ c.in_ok-listing.ensures.cause.same (λ e h. cc) ∙ c.in-Ok.ensures.cause.same)
+    (c.in-Ok-finish.ensures.cause.same ∙ c.in_ok-listing.ensures.cause.same (λ e h. cc)
+    ∙ c.in-Ok.ensures.prints.cause.same)
     (λ e h. cc)
 
 pub returns-in-Err-finish-clause-cause : goal.returns-in-Err-finish-clause-cause
 returns-in-Err-finish-clause-cause g c =
-    let same = c.in_ok-listing.ensures.cause.same (λ e h. cc) ∙ c.in-Ok.ensures.cause.same in
+    let same = c.in_ok-listing.ensures.cause.same (λ e h. cc) ∙ c.in-Ok.ensures.prints.cause.same in
     stopped (g.S.Sink.faults c.args.out.now) (g.S.Sink.faults c.finish.new.out) c.in-Err-finish.fault
     (subst (λ n. n ≤ g.S.Sink.faults c.finish.new.out) same c.in-Err-finish.ensures.cause.later)
     (subst (λ n. Rose n (g.S.Sink.faults c.finish.new.out)) same c.in-Err-finish.ensures.cause.failed)

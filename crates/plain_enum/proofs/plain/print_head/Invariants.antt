@@ -7,9 +7,7 @@ use Rattle.plain_enum.proofs.plain.print_head.Given as goal
 -- all but the lines from this one on went out
 abbrev pub invariant-lines : goal.invariant-lines
 invariant-lines g l = record {
-  owes : Owes (g.S.Sink.written l.fn.out) (g.S.Sink.written l.out)
-      (head_text l.fn.kind l.fn.n (length l.lines) ++ flat_map vector_text l.lines)
+  owes : Owes g.S.Sink l.fn.out l.out (head_text l.fn.kind l.fn.n (length l.lines) ++ flat_map vector_text l.lines)
       (flat_map vector_text (drop l.line-index l.lines));
   kind : l.listing ≡ l.fn.kind;
-  same : g.S.Sink.faults l.out ≡ g.S.Sink.faults l.fn.out;
 }

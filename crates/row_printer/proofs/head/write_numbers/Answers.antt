@@ -1,17 +1,16 @@
-use Rattle.std.proofs.Common.{arith, ◌∙◌}
+use Rattle.std.proofs.Common.{arith}
 use Rattle.poly_io.proofs.Parts.{owes_cut, owes_less, owes_none}
 use Rattle.row_printer.proofs.ListingTextLemmas.{numbers_text-next, numbers_text-none}
 use Rattle.row_printer.proofs.head.write_numbers.Goals as goal
 
-pub returns-in_err-write_number-clause-text : goal.returns-in_err-write_number-clause-text
-returns-in_err-write_number-clause-text g c =
-    owes_cut _ _ _ _ _ _ _ c.loop-i.invariant.owes (numbers_text-next c.loop-i.i c.args.count (omega arith)) c.in_err-write_number.ensures.text.part c.from_residual.ensures.0
+pub returns-in_err-write_number : goal.returns-in_err-write_number
+returns-in_err-write_number g c =
+    owes_cut _ c.loop-i.invariant (numbers_text-next c.loop-i.i c.args.count (omega arith)) c.from_residual.ensures.0
+    c.in_err-write_number.ensures
 
 pub loop-i-preserved : goal.loop-i-preserved
-loop-i-preserved g c = record {
-  owes = owes_less _ _ _ _ _ _ _ c.loop-i.invariant.owes (numbers_text-next c.loop-i.i c.args.count (omega arith)) c.in_ok-write_number.ensures.text.whole;
-  same = c.in_ok-write_number.ensures.cause.same ∙ c.loop-i.invariant.same;
-}
+loop-i-preserved g c =
+    owes_less c.loop-i.invariant (numbers_text-next c.loop-i.i c.args.count (omega arith)) c.in_ok-write_number.ensures
 
-pub returns-clause-text : goal.returns-clause-text
-returns-clause-text g c = owes_none _ _ _ _ _ c.loop-i.invariant.owes (numbers_text-none _ _ (omega arith))
+pub returns : goal.returns
+returns g c = owes_none _ c.loop-i.invariant (numbers_text-none _ _ (omega arith))

@@ -1,10 +1,7 @@
-use Rattle.std.proofs.Common.{◌≡◌, drop}
+use Rattle.std.proofs.Common.{drop}
 use Rattle.poly_io.proofs.Parts.{Owes}
 use Rattle.poly_model.specs.ListingText.{entries_text}
 use Rattle.row_printer.proofs.vector.write_entries.Given as goal
 
 abbrev pub invariant-loop-y : goal.invariant-loop-y
-invariant-loop-y g l = record {
-  owes : Owes (g.S.Sink.written l.initial.out) (g.S.Sink.written l.out) (entries_text l.v) (entries_text (drop l.y-index l.v));
-  same : g.S.Sink.faults l.out ≡ g.S.Sink.faults l.initial.out;
-}
+invariant-loop-y g l = Owes g.S.Sink l.initial.out l.out (entries_text l.v) (entries_text (drop l.y-index l.v))
