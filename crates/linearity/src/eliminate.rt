@@ -36,28 +36,28 @@ impl Pass {
 }
 
 // Whether a label of the cobasis is a coordinate at which a row is not 0: then the row can take its place.
-fn is_column(at: &Dict, row: Label, label: Label) -> bool
-    requires label { Contains at.now.labels row }
+fn is_column(dict: &Dict, row: Label, label: Label) -> bool
+    requires label { Contains dict.now.labels row }
     requires row { IsRow row }
-    requires column { Contains at.now.key label }
+    requires column { Contains dict.now.key label }
     ensures coordinate { IsTrue result → IsCoordinate label }
-    ensures pivots { IsTrue result → CanPivot at.now row label }
-    ensures zero { IsFalse result → IsCoordinate label → Table.entry (table_of at.now) row label ≡ pos 0 }
+    ensures pivots { IsTrue result → CanPivot dict.now row label }
+    ensures zero { IsFalse result → IsCoordinate label → Table.entry (table_of dict.now) row label ≡ pos 0 }
 {
-    label.is_coordinate() && at.entry(row, label).get() != 0
+    label.is_coordinate() && dict.entry(row, label).get() != 0
 }
 
 // The least coordinate in the cobasis at which a row is not 0, if any: then the row can take its place.
-fn least_column(at: &Dict, row: Label) -> Option<Label>
-    requires label { Contains at.now.labels row }
+fn least_column(dict: &Dict, row: Label) -> Option<Label>
+    requires label { Contains dict.now.labels row }
     requires row { IsRow row }
-    ensures some { IfSome result (λ k. IsLeastColumn at.now row k) }
-    ensures pivots { IfSome result (λ k. CanPivot at.now row k) }
-    ensures none { IsNone result → IsZeroAtCoordinates at.now row }
+    ensures some { IfSome result (λ k. IsLeastColumn dict.now row k) }
+    ensures pivots { IfSome result (λ k. CanPivot dict.now row k) }
+    ensures none { IsNone result → IsZeroAtCoordinates dict.now row }
 {
-    let key = at.key();
+    let key = dict.key();
     'labels: for label in key.labels() {
-        if is_column(at, row, *label) {
+        if is_column(dict, row, *label) {
             return Some(*label);
         }
     }
@@ -65,47 +65,47 @@ fn least_column(at: &Dict, row: Label) -> Option<Label>
 }
 
 // A row enters the cobasis for that coordinate, where there is one. Where the pivot overflows, nothing has changed.
-fn enter(at: &mut Dict, row: Label) -> Result<(), Overflow>
-    requires label { Contains at.old.labels row }
+fn enter(dict: &mut Dict, row: Label) -> Result<(), Overflow>
+    requires label { Contains dict.old.labels row }
     requires row { IsRow row }
-    ensures entered { IfOk result (λ _. IsEntered at.old row at.new) }
-    ensures unchanged { IfErr result (λ _. at.new ≡ at.old) }
-    ensures overflows { IfErr result (λ o. (k : ℕ) × OverflowsFor at.old row k o) }
+    ensures entered { IfOk result (λ _. IsEntered dict.old row dict.new) }
+    ensures unchanged { IfErr result (λ _. dict.new ≡ dict.old) }
+    ensures overflows { IfErr result (λ o. (k : ℕ) × OverflowsFor dict.old row k o) }
 {
-    match least_column(at, row) {
-        Some(col) => at.pivot(row, col),
+    match least_column(dict, row) {
+        Some(col) => dict.pivot(row, col),
         None => Ok(()),
     }
 }
 
 // Whether a row is tried in a pass: it is a label, and linear in the first pass, not linear in the second.
-fn is_tried(at: &Dict, sys: &System, i: u32, pass: Pass) -> bool
+fn is_tried(dict: &Dict, sys: &System, i: u32, pass: Pass) -> bool
     requires from_one { 0 < i }
     requires within { i ≤ length sys.now.rows }
     requires few { IsRow i }
-    ensures label { IsTrue result → Contains at.now.labels i }
+    ensures label { IsTrue result → Contains dict.now.labels i }
     ensures kind { IsTrue result → (row_of sys.now.rows i).linear ≢ tries_others pass }
-    ensures otherwise { IsFalse result → Contains at.now.labels i → (row_of sys.now.rows i).linear ≡ tries_others pass }
+    ensures otherwise { IsFalse result → Contains dict.now.labels i → (row_of sys.now.rows i).linear ≡ tries_others pass }
 {
-    at.has_label(Label::row(i)) && pass.tries(sys.is_linear(i))
+    dict.has_label(Label::row(i)) && pass.tries(sys.is_linear(i))
 }
 
 // Tries a row in a pass. Where its pivot overflows, nothing has changed.
-fn try_row(at: &mut Dict, sys: &System, i: u32, pass: Pass) -> Result<(), Overflow>
+fn try_row(dict: &mut Dict, sys: &System, i: u32, pass: Pass) -> Result<(), Overflow>
     requires from_one { 0 < i }
     requires within { i ≤ length sys.now.rows }
     requires few { IsRow i }
-    ensures tried { IfOk result (λ _. Eliminates sys.now pass i (i + 1) at.old at.new) }
-    ensures shape { KeepsShape at.old at.new }
-    ensures unchanged { IfErr result (λ _. at.new ≡ at.old) }
+    ensures tried { IfOk result (λ _. Eliminates sys.now pass i (i + 1) dict.old dict.new) }
+    ensures shape { KeepsShape dict.old dict.new }
+    ensures unchanged { IfErr result (λ _. dict.new ≡ dict.old) }
     ensures kind { IfErr result (λ _. (row_of sys.now.rows i).linear ≢ tries_others pass) }
-    ensures overflows { IfErr result (λ o. (k : ℕ) × OverflowsFor at.old i k o) }
+    ensures overflows { IfErr result (λ o. (k : ℕ) × OverflowsFor dict.old i k o) }
     ensures passes { (o : Passed) → IsErrOf result o → (p : Polyhedron) → sys.now ≡ cone_of p →
-        IsDictionaryOf p at.old → Passes p o }
-    ensures phase { (o : Passed) → IsErrOf result o → o.phase ≡ at.old.phase }
+        IsDictionaryOf p dict.old → Passes p o }
+    ensures phase { (o : Passed) → IsErrOf result o → o.phase ≡ dict.old.phase }
 {
-    if is_tried(at, sys, i, pass) {
-        enter(at, Label::row(i))
+    if is_tried(dict, sys, i, pass) {
+        enter(dict, Label::row(i))
     } else {
         Ok(())
     }
@@ -115,21 +115,21 @@ fn try_row(at: &mut Dict, sys: &System, i: u32, pass: Pass) -> Result<(), Overfl
 /// 0, where there is one (Gauss). The first pass tries the linear rows, the second one the others. Rows that are no
 /// labels of the dictionary are passed over (the row at infinity, where the dictionary has constants). Where a pivot
 /// overflows, the rows before it have been tried. Takes no memory.
-pub fn enter_rows(at: &mut Dict, sys: &System, pass: Pass) -> Result<(), Overflow>
-    ensures entered { IfOk result (λ _. (p : Polyhedron) → sys.now ≡ cone_of p → IsDictionaryOf p at.old →
-        IsEliminated sys.now.rows pass 1 at.old →
-        IsDictionaryOf p at.new × IsEliminated sys.now.rows pass (length sys.now.rows + 1) at.new) }
-    ensures stopped { IfErr result (λ o. (i : ℕ) × StopsAt sys.now pass i at.old at.new o) }
-    ensures fewer { (k : ℕ) → Contains at.new.key k → IsCoordinate k → Contains at.old.key k }
-    ensures phase { at.new.phase ≡ at.old.phase }
-    ensures labels { at.new.labels ≡ at.old.labels }
-    ensures width { length at.new.columns ≡ length at.old.columns }
+pub fn enter_rows(dict: &mut Dict, sys: &System, pass: Pass) -> Result<(), Overflow>
+    ensures entered { IfOk result (λ _. (p : Polyhedron) → sys.now ≡ cone_of p → IsDictionaryOf p dict.old →
+        IsEliminated sys.now.rows pass 1 dict.old →
+        IsDictionaryOf p dict.new × IsEliminated sys.now.rows pass (length sys.now.rows + 1) dict.new) }
+    ensures stopped { IfErr result (λ o. (i : ℕ) × StopsAt sys.now pass i dict.old dict.new o) }
+    ensures fewer { (k : ℕ) → Contains dict.new.key k → IsCoordinate k → Contains dict.old.key k }
+    ensures phase { dict.new.phase ≡ dict.old.phase }
+    ensures labels { dict.new.labels ≡ dict.old.labels }
+    ensures width { length dict.new.columns ≡ length dict.old.columns }
     ensures passes { (o : Passed) → IsErrOf result o → (p : Polyhedron) → sys.now ≡ cone_of p →
-        IsDictionaryOf p at.old → Passes p o }
-    ensures passing_phase { (o : Passed) → IsErrOf result o → o.phase ≡ at.old.phase }
+        IsDictionaryOf p dict.old → Passes p o }
+    ensures passing_phase { (o : Passed) → IsErrOf result o → o.phase ≡ dict.old.phase }
 {
     'rows: for i in 1..sys.rows() + 1 {
-        try_row(at, sys, i, pass)?;
+        try_row(dict, sys, i, pass)?;
     }
     Ok(())
 }

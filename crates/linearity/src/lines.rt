@@ -14,11 +14,11 @@ use std::alloc::Global;
 
 /// The columns of the coordinates in the cobasis, ascending. Once all rows have been tried they are the free columns.
 /// Takes memory for the list.
-pub fn free_columns(alloc: Global, at: &Dict) -> Result<FreeColumns, OutOfMemory>
-    ensures columns { IfOk result (λ free. free ≡ columns_in at.now.key) }
-    ensures ascending { IfOk result (λ free. IsAscending at.now.key) }
+pub fn free_columns(alloc: Global, dict: &Dict) -> Result<FreeColumns, OutOfMemory>
+    ensures columns { IfOk result (λ free. free ≡ columns_in dict.now.key) }
+    ensures ascending { IfOk result (λ free. IsAscending dict.now.key) }
 {
-    let key = at.key();
+    let key = dict.key();
     let mut columns = Vec::new(alloc);
     'labels: for label in key.labels() {
         if label.is_coordinate() {
@@ -30,29 +30,29 @@ pub fn free_columns(alloc: Global, at: &Dict) -> Result<FreeColumns, OutOfMemory
 
 /// For each coordinate in the cobasis, by ascending column, the vector of n entries without common divisor along its
 /// column. Once all rows have been tried they are the lines. Takes memory for the vectors.
-pub fn lines_of(alloc: Global, at: &Dict, n: u32) -> Result<Lines, OutOfMemory>
+pub fn lines_of(alloc: Global, dict: &Dict, n: u32) -> Result<Lines, OutOfMemory>
     requires { n ≤ most_columns }
-    ensures value { IfOk result (λ lines. lines ≡ coordinate_vectors at.now n) }
+    ensures value { IfOk result (λ lines. lines ≡ coordinate_vectors dict.now n) }
     ensures few { IfOk result (λ lines. length lines ≤ most_columns) }
 {
-    let key = at.key();
+    let key = dict.key();
     let mut lines = Vec::new(alloc);
     'labels: for label in key.labels() {
         if label.is_coordinate() {
-            lines.push(line_at(alloc, at, *label, n)?)?;
+            lines.push(line_at(alloc, dict, *label, n)?)?;
         }
     }
     Ok(Lines::from_vec(lines))
 }
 
 // The vector of a column.
-fn line_at(alloc: Global, at: &Dict, col: Label, n: u32) -> Result<Vector, OutOfMemory>
-    requires column { Contains at.now.key col }
+fn line_at(alloc: Global, dict: &Dict, col: Label, n: u32) -> Result<Vector, OutOfMemory>
+    requires column { Contains dict.now.key col }
     requires narrow { n ≤ most_columns }
-    ensures { IfOk result (λ line. line ≡ primitive_column at.now col n) }
+    ensures { IfOk result (λ line. line ≡ primitive_column dict.now col n) }
 {
     let mut vector = Vec::new(alloc);
     vector.resize(n as usize, Num::ZERO)?;
-    facet_row(at, col, &mut vector);
+    facet_row(dict, col, &mut vector);
     Ok(Vector::from_vec(vector))
 }

@@ -44,44 +44,44 @@ pub fn prepare(alloc: Global, sys: &System) -> Result<Prepared, PrepareStop>
         (p : Polyhedron) → sys.now ≡ cone_of p → IsDue p o (IsAskedBefore p o) }
 {
     sys.keeps_limits();
-    let Ok(mut at) = Dict::new(alloc, sys, Phase::Prepare) else {
+    let Ok(mut dict) = Dict::new(alloc, sys, Phase::Prepare) else {
         return Err(PrepareStop::Memory);
     };
-    eliminate_rows(&mut at, sys)?;
-    match enter_main(alloc, sys, at) {
+    eliminate_rows(&mut dict, sys)?;
+    match enter_main(alloc, sys, dict) {
         Ok(prepared) => Ok(prepared),
         Err(_) => Err(PrepareStop::Memory),
     }
 }
 
 // Tries the linear rows, asks whether they have a common point, and then tries the others.
-fn eliminate_rows(at: &mut Dict, sys: &System) -> Result<(), PrepareStop>
-    ensures ended { OnOk result ((p : Polyhedron) → sys.now ≡ cone_of p → BeginsElimination p at.old →
-        EndsElimination p at.new) }
+fn eliminate_rows(dict: &mut Dict, sys: &System) -> Result<(), PrepareStop>
+    ensures ended { OnOk result ((p : Polyhedron) → sys.now ≡ cone_of p → BeginsElimination p dict.old →
+        EndsElimination p dict.new) }
     ensures inconsistent { IsErrOf result PrepareStop.Inconsistent → (p : Polyhedron) → sys.now ≡ cone_of p →
-        BeginsElimination p at.old → AreConsistent p → ⊥ }
+        BeginsElimination p dict.old → AreConsistent p → ⊥ }
     ensures overflow { (o : Passed) → IsErrOf result (PrepareStop.Overflow o) →
-        (p : Polyhedron) → sys.now ≡ cone_of p → BeginsElimination p at.old → IsDue p o (IsAskedBefore p o) }
+        (p : Polyhedron) → sys.now ≡ cone_of p → BeginsElimination p dict.old → IsDue p o (IsAskedBefore p o) }
     ensures memory { IsErrOf result PrepareStop.Memory → ⊥ }
 {
-    if let Err(overflow) = enter_rows(at, sys, Pass::Linear) {
+    if let Err(overflow) = enter_rows(dict, sys, Pass::Linear) {
         return Err(PrepareStop::Overflow(overflow));
     }
-    if !are_consistent(at, sys) {
+    if !are_consistent(dict, sys) {
         return Err(PrepareStop::Inconsistent);
     }
-    match enter_rows(at, sys, Pass::Others) {
+    match enter_rows(dict, sys, Pass::Others) {
         Ok(()) => Ok(()),
         Err(overflow) => Err(PrepareStop::Overflow(overflow)),
     }
 }
 
 // Whether the constant of each linear row is 0.
-fn are_consistent(at: &Dict, sys: &System) -> bool
-    ensures { IsTrue result ↔ HasNoConstants sys.now at.now }
+fn are_consistent(dict: &Dict, sys: &System) -> bool
+    ensures { IsTrue result ↔ HasNoConstants sys.now dict.now }
 {
     'rows: for i in 0..sys.rows() {
-        if !is_consistent_at(at, sys, i + 1) {
+        if !is_consistent_at(dict, sys, i + 1) {
             return false;
         }
     }
@@ -89,29 +89,29 @@ fn are_consistent(at: &Dict, sys: &System) -> bool
 }
 
 // Whether the constant of row i, counted from 1, is 0 if it is linear.
-fn is_consistent_at(at: &Dict, sys: &System, i: u32) -> bool
+fn is_consistent_at(dict: &Dict, sys: &System, i: u32) -> bool
     requires from_one { 0 < i }
     requires within { i ≤ length sys.now.rows }
     requires few { i ≤ most_cone_rows }
-    ensures { IsTrue result ↔ (Contains at.now.labels i → (row_of sys.now.rows i).linear ≡ true →
-        Table.constant (table_of at.now) i ≡ pos 0) }
+    ensures { IsTrue result ↔ (Contains dict.now.labels i → (row_of sys.now.rows i).linear ≡ true →
+        Table.constant (table_of dict.now) i ≡ pos 0) }
 {
     let row = Label::row(i);
-    if at.has_label(row) && sys.is_linear(i) {
-        at.constant(row).get() == 0
+    if dict.has_label(row) && sys.is_linear(i) {
+        dict.constant(row).get() == 0
     } else {
         true
     }
 }
 
 // What is prepared from a dictionary at which all rows have been tried.
-fn enter_main(alloc: Global, sys: &System, at: Dict) -> Result<Prepared, OutOfMemory>
-    ensures { IfOk result (λ r. (p : Polyhedron) → sys.now ≡ cone_of p → EndsElimination p at →
+fn enter_main(alloc: Global, sys: &System, dict: Dict) -> Result<Prepared, OutOfMemory>
+    ensures { IfOk result (λ r. (p : Polyhedron) → sys.now ≡ cone_of p → EndsElimination p dict →
         IsPrepared p r.lines r.free r.dictionary) }
 {
     let n = sys.n();
-    let free = free_columns(alloc, &at)?;
-    let lines = lines_of(alloc, &at, n)?;
-    let dict = at.to_main(sys, &free)?;
+    let free = free_columns(alloc, &dict)?;
+    let lines = lines_of(alloc, &dict, n)?;
+    let dict = dict.to_main(sys, &free)?;
     Ok(Prepared { lines, free, dict })
 }

@@ -70,9 +70,9 @@ fn rows_enter_the_cobasis(rt: HostRuntime) -> Result<(), Fail> {
     for case in &cases {
         let alloc = rt.alloc();
         let cone = cone_of(alloc, case.entries, case.linear)?;
-        let mut at = Dict::new(alloc, &cone, Phase::Cone)?;
-        let first = pass(&mut at, &cone, Pass::Linear);
-        let both = pass(&mut at, &cone, Pass::Others);
+        let mut dict = Dict::new(alloc, &cone, Phase::Cone)?;
+        let first = pass(&mut dict, &cone, Pass::Linear);
+        let both = pass(&mut dict, &cone, Pass::Others);
         let want = Passes {
             first: key_of(&case.first),
             both: key_of(&case.both),
@@ -82,9 +82,9 @@ fn rows_enter_the_cobasis(rt: HostRuntime) -> Result<(), Fail> {
     Ok(())
 }
 
-fn pass(at: &mut Dict, cone: &System, which: Pass) -> Option<Key> {
-    match enter_rows(at, cone, which) {
-        Ok(()) => Some(at.key()),
+fn pass(dict: &mut Dict, cone: &System, which: Pass) -> Option<Key> {
+    match enter_rows(dict, cone, which) {
+        Ok(()) => Some(dict.key()),
         Err(_) => None,
     }
 }

@@ -23,7 +23,7 @@ use std::alloc::{AllocError, Global};
 #[derive(Drop)]
 pub(crate) struct Beginning {
     /// The dictionary of the cone at which the linear rows have been tried.
-    pub at: Dict,
+    pub dict: Dict,
     /// The same once all rows have been tried.
     pub last: Dict,
     /// The free columns, ascending.
@@ -41,46 +41,46 @@ pub(crate) struct Room {
 
 /// What the listing of a system begins with.
 pub(crate) fn begin(alloc: Global, sys: &System) -> Result<Beginning, FeasibleStop>
-    ensures begun { IfOk result (λ b. (p : Polyhedron) → sys.now ≡ cone_of p → IsBegun p b.at b.last b.free) }
-    ensures room { IfOk result (λ b. HasRoomForAll sys.now b.free b.at b.room.deeper.items b.room.vector.items) }
+    ensures begun { IfOk result (λ b. (p : Polyhedron) → sys.now ≡ cone_of p → IsBegun p b.dict b.last b.free) }
+    ensures room { IfOk result (λ b. HasRoomForAll sys.now b.free b.dict b.room.deeper.items b.room.vector.items) }
     ensures overflow { (o : Passed) → IsErrOf result (FeasibleStop.Overflow o) → (p : Polyhedron) →
         sys.now ≡ cone_of p → PassesInCone p o }
 {
     sys.keeps_limits();
-    let Ok(mut at) = Dict::new(alloc, sys, Phase::Cone) else {
+    let Ok(mut dict) = Dict::new(alloc, sys, Phase::Cone) else {
         return Err(FeasibleStop::Memory);
     };
-    if let Err(overflow) = enter_rows(&mut at, sys, Pass::Linear) {
+    if let Err(overflow) = enter_rows(&mut dict, sys, Pass::Linear) {
         return Err(FeasibleStop::Overflow(overflow));
     }
-    let Ok(mut last) = at.copy() else {
+    let Ok(mut last) = dict.copy() else {
         return Err(FeasibleStop::Memory);
     };
     if let Err(overflow) = enter_rows(&mut last, sys, Pass::Others) {
         return Err(FeasibleStop::Overflow(overflow));
     }
-    match with_room(alloc, sys, at, last) {
+    match with_room(alloc, sys, dict, last) {
         Ok(begun) => Ok(begun),
         Err(_) => Err(FeasibleStop::Memory),
     }
 }
 
 // The free columns, and room for a listing from these dictionaries. The answer is `Err` only for want of memory.
-fn with_room(alloc: Global, sys: &System, at: Dict, last: Dict) -> Result<Beginning, AllocError>
-    ensures at { IfOk result (λ b. b.at ≡ at) }
+fn with_room(alloc: Global, sys: &System, dict: Dict, last: Dict) -> Result<Beginning, AllocError>
+    ensures dict { IfOk result (λ b. b.dict ≡ dict) }
     ensures last { IfOk result (λ b. b.last ≡ last) }
     ensures columns { IfOk result (λ b. b.free ≡ columns_in last.key) }
     ensures ascending { IfOk result (λ b. IsAscending last.key) }
-    ensures shapes { IfOk result (λ b. All (HasShapeOf at) b.room.deeper.items) }
-    ensures depth { IfOk result (λ b. length b.room.deeper.items ≡ length (left_in b.free at.key) - 1) }
+    ensures shapes { IfOk result (λ b. All (HasShapeOf dict) b.room.deeper.items) }
+    ensures depth { IfOk result (λ b. length b.room.deeper.items ≡ length (left_in b.free dict.key) - 1) }
     ensures vector { IfOk result (λ b. length b.room.vector.items ≡ sys.now.n) }
 {
     let free = free_columns(alloc, &last)?;
-    let left = count_left(&at, &free);
-    let deeper = copies(alloc, &at, left.saturating_sub(1))?;
+    let left = count_left(&dict, &free);
+    let deeper = copies(alloc, &dict, left.saturating_sub(1))?;
     let vector = zero_vector(alloc, sys.n())?;
     Ok(Beginning {
-        at,
+        dict,
         last,
         free,
         room: Room { deeper, vector },
@@ -88,13 +88,13 @@ fn with_room(alloc: Global, sys: &System, at: Dict, last: Dict) -> Result<Beginn
 }
 
 // So many copies of a dictionary. The answer is `Err` only for want of memory.
-fn copies(alloc: Global, at: &Dict, count: usize) -> Result<Vec<Dict>, AllocError>
+fn copies(alloc: Global, dict: &Dict, count: usize) -> Result<Vec<Dict>, AllocError>
     ensures count { IfOk result (λ v. length v.items ≡ count) }
-    ensures shapes { IfOk result (λ v. All (HasShapeOf at.now) v.items) }
+    ensures shapes { IfOk result (λ v. All (HasShapeOf dict.now) v.items) }
 {
     let mut made = Vec::new(alloc);
     'copies: for _ in 0..count {
-        made.push(at.copy()?)?;
+        made.push(dict.copy()?)?;
     }
     Ok(made)
 }
@@ -109,10 +109,10 @@ fn zero_vector(alloc: Global, n: u32) -> Result<Vec<Num>, AllocError>
 }
 
 // How many coordinates in the cobasis are not free.
-fn count_left(at: &Dict, free: &FreeColumns) -> usize
-    ensures { result ≡ length (left_in free.now at.now.key) }
+fn count_left(dict: &Dict, free: &FreeColumns) -> usize
+    ensures { result ≡ length (left_in free.now dict.now.key) }
 {
-    let key = at.key();
+    let key = dict.key();
     let mut count: usize = 0;
     'labels: for label in key.labels() {
         if is_kept(free, *label) {

@@ -71,7 +71,7 @@ fn has_point(alloc: Global, sys: &System) -> Result<bool, FeasibleStop>
         sys.now ≡ cone_of p → PassesInCone p o }
 {
     let Beginning {
-        at,
+        dict,
         last,
         free,
         mut room,
@@ -79,7 +79,7 @@ fn has_point(alloc: Global, sys: &System) -> Result<bool, FeasibleStop>
     let start = Prefix {
         sys,
         free: &free,
-        at: &at,
+        dict: &dict,
         from: 1,
     };
     match has_point_left(&start, &mut room) {
@@ -91,13 +91,13 @@ fn has_point(alloc: Global, sys: &System) -> Result<bool, FeasibleStop>
 /// The same from a dictionary at which the linear rows have been tried.
 pub(crate) fn has_point_left(start: &Prefix, room: &mut Room) -> Result<bool, Overflow>
     requires first { start.now.from ≡ 1 }
-    requires room { HasRoomForAll start.now.sys.now start.now.free.now start.now.at.now
+    requires room { HasRoomForAll start.now.sys.now start.now.free.now start.now.dict.now
         room.old.deeper.items room.old.vector.items }
     ensures answer { IfOk result (λ found. (p : Polyhedron) (last : Dictionary) → start.now.sys.now ≡ cone_of p →
-        IsBegun p start.now.at.now last start.now.free.now → IsTrue found ↔ HasVertex (cone_of p)) }
+        IsBegun p start.now.dict.now last start.now.free.now → IsTrue found ↔ HasVertex (cone_of p)) }
     ensures passes { (o : Passed) → IsErrOf result o → (p : Polyhedron) (last : Dictionary) →
-        start.now.sys.now ≡ cone_of p → IsBegun p start.now.at.now last start.now.free.now → PassesInCone p o }
-    ensures room { HasRoomForAll start.now.sys.now start.now.free.now start.now.at.now
+        start.now.sys.now ≡ cone_of p → IsBegun p start.now.dict.now last start.now.free.now → PassesInCone p o }
+    ensures room { HasRoomForAll start.now.sys.now start.now.free.now start.now.dict.now
         room.new.deeper.items room.new.vector.items }
 {
     match visit_all(start, room, Seeker, &mut ()) {

@@ -34,7 +34,7 @@ pub fn list_feasible<S: Sink>(alloc: Global, sys: &System, out: &mut S) -> Resul
     ensures fault { IsErrOf result ListStop.WriteFault → Rose (S.faults out.old) (S.faults out.new) }
 {
     let Beginning {
-        at,
+        dict,
         last,
         free,
         mut room,
@@ -49,7 +49,7 @@ pub fn list_feasible<S: Sink>(alloc: Global, sys: &System, out: &mut S) -> Resul
     let start = Prefix {
         sys,
         free: &free,
-        at: &at,
+        dict: &dict,
         from: 1,
     };
     print_if_feasible(&start, lines.as_slice(), &mut room, out)
@@ -63,11 +63,11 @@ fn print_if_feasible<S: Sink>(
     out: &mut S,
 ) -> Result<Listed, ListStop>
     requires first { start.now.from ≡ 1 }
-    requires room { HasRoomForAll start.now.sys.now start.now.free.now start.now.at.now
+    requires room { HasRoomForAll start.now.sys.now start.now.free.now start.now.dict.now
         room.old.deeper.items room.old.vector.items }
     requires lines { length lines.now ≤ most_columns }
     ensures listed { (p : Polyhedron) (last : Dictionary) → start.now.sys.now ≡ cone_of p →
-        IsBegun p start.now.at.now last start.now.free.now →
+        IsBegun p start.now.dict.now last start.now.free.now →
         lines.now ≡ coordinate_vectors last start.now.sys.now.n →
         ListsIfFeasible p (S.written out.old) (S.written out.new) (out.new ≡ out.old) result }
     ensures infeasible { IsErrOf result ListStop.Infeasible → out.new ≡ out.old }
@@ -91,13 +91,13 @@ fn print_if_feasible<S: Sink>(
 // Whether a file is feasible, from a dictionary at which the linear rows have been tried.
 fn is_feasible(start: &Prefix, room: &mut Room) -> Result<bool, Overflow>
     requires first { start.now.from ≡ 1 }
-    requires room { HasRoomForAll start.now.sys.now start.now.free.now start.now.at.now
+    requires room { HasRoomForAll start.now.sys.now start.now.free.now start.now.dict.now
         room.old.deeper.items room.old.vector.items }
     ensures answer { IfOk result (λ found. (p : Polyhedron) (last : Dictionary) → start.now.sys.now ≡ cone_of p →
-        IsBegun p start.now.at.now last start.now.free.now → IsTrue found ↔ IsFeasible (cone_of p)) }
+        IsBegun p start.now.dict.now last start.now.free.now → IsTrue found ↔ IsFeasible (cone_of p)) }
     ensures passes { (o : Passed) → IsErrOf result o → (p : Polyhedron) (last : Dictionary) →
-        start.now.sys.now ≡ cone_of p → IsBegun p start.now.at.now last start.now.free.now → PassesInCone p o }
-    ensures room { HasRoomForAll start.now.sys.now start.now.free.now start.now.at.now
+        start.now.sys.now ≡ cone_of p → IsBegun p start.now.dict.now last start.now.free.now → PassesInCone p o }
+    ensures room { HasRoomForAll start.now.sys.now start.now.free.now start.now.dict.now
         room.new.deeper.items room.new.vector.items }
 {
     match start.sys.kind() {

@@ -38,15 +38,15 @@ pub(crate) fn list_rows<S: Sink>(
     out: &mut S,
 ) -> Result<Shown, Ended<WriteFault>>
     requires first { start.now.from ≡ 1 }
-    requires room { HasRoomForAll start.now.sys.now start.now.free.now start.now.at.now
+    requires room { HasRoomForAll start.now.sys.now start.now.free.now start.now.dict.now
         room.old.deeper.items room.old.vector.items }
     requires kind { shown.listing ≡ start.now.sys.now.kind }
     ensures written { (p : Polyhedron) (last : Dictionary) → start.now.sys.now ≡ cone_of p →
-        IsBegun p start.now.at.now last start.now.free.now →
+        IsBegun p start.now.dict.now last start.now.free.now →
         WritesRows start.now.sys.now.kind shown.rows (S.written out.old) (S.written out.new) result
-        (IsCornerUnder (begun_cone p start.now.free.now start.now.at.now) []) }
+        (IsCornerUnder (begun_cone p start.now.free.now start.now.dict.now) []) }
     ensures passes { (o : Passed) → IsErrOf result (Ended.Overflow o) → (p : Polyhedron) (last : Dictionary) →
-        start.now.sys.now ≡ cone_of p → IsBegun p start.now.at.now last start.now.free.now → PassesInCone p o }
+        start.now.sys.now ≡ cone_of p → IsBegun p start.now.dict.now last start.now.free.now → PassesInCone p o }
     ensures cause { HasStopCause (S.faults out.old) (S.faults out.new) result }
 {
     visit_all(start, room, shown, out)

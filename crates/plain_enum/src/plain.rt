@@ -38,7 +38,7 @@ pub fn list_plain<S: Sink>(alloc: Global, sys: &System, out: &mut S) -> Result<L
     ensures fault { IsErrOf result PlainStop.WriteFault → Rose (S.faults out.old) (S.faults out.new) }
 {
     let Beginning {
-        at,
+        dict,
         last,
         free,
         mut room,
@@ -53,7 +53,7 @@ pub fn list_plain<S: Sink>(alloc: Global, sys: &System, out: &mut S) -> Result<L
     let start = Prefix {
         sys,
         free: &free,
-        at: &at,
+        dict: &dict,
         from: 1,
     };
     match print(&start, lines.as_slice(), &mut room, out) {
@@ -71,15 +71,15 @@ pub(crate) fn print<S: Sink>(
     out: &mut S,
 ) -> Result<Listed, Ended<WriteFault>>
     requires first { start.now.from ≡ 1 }
-    requires room { HasRoomForAll start.now.sys.now start.now.free.now start.now.at.now
+    requires room { HasRoomForAll start.now.sys.now start.now.free.now start.now.dict.now
         room.old.deeper.items room.old.vector.items }
     requires lines { length lines.now ≤ most_columns }
     ensures written { (p : Polyhedron) (last : Dictionary) → start.now.sys.now ≡ cone_of p →
-        IsBegun p start.now.at.now last start.now.free.now →
+        IsBegun p start.now.dict.now last start.now.free.now →
         lines.now ≡ coordinate_vectors last start.now.sys.now.n →
         WritesListing p (S.written out.old) (S.written out.new) result }
     ensures passes { (o : Passed) → IsErrOf result (Ended.Overflow o) → (p : Polyhedron) (last : Dictionary) →
-        start.now.sys.now ≡ cone_of p → IsBegun p start.now.at.now last start.now.free.now → PassesInCone p o }
+        start.now.sys.now ≡ cone_of p → IsBegun p start.now.dict.now last start.now.free.now → PassesInCone p o }
     ensures cause { HasStopCause (S.faults out.old) (S.faults out.new) result }
 {
     let listing = match print_head(start.sys.kind(), start.sys.n(), lines, out) {

@@ -9,7 +9,7 @@ use poly_model::{FreeColumns, Overflow, System};
 pub struct Prefix<'a> {
     pub sys: &'a System,
     pub free: &'a FreeColumns,
-    pub at: &'a Dict,
+    pub dict: &'a Dict,
     pub from: u32,
 }
 

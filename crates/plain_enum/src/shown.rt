@@ -14,15 +14,15 @@ use poly_model::{Label, System};
 use poly_num::{Num, negate};
 
 /// The side on which a column is shown, if any.
-pub fn shown_side(sys: &System, at: &Dict, col: Label) -> Option<Side>
-    requires rows { HasRows (length sys.now.rows) at.now }
-    requires column { Contains at.now.key col }
-    ensures some { IfSome result (IsShownOn sys.now at.now col) }
-    ensures none { IsNone result → (side : AnySide) → IsShownOn sys.now at.now col side → ⊥ }
+pub fn shown_side(sys: &System, dict: &Dict, col: Label) -> Option<Side>
+    requires rows { HasRows (length sys.now.rows) dict.now }
+    requires column { Contains dict.now.key col }
+    ensures some { IfSome result (IsShownOn sys.now dict.now col) }
+    ensures none { IsNone result → (side : AnySide) → IsShownOn sys.now dict.now col side → ⊥ }
 {
     let rows = sys.rows();
-    let side = side_of(at, rows, col)?;
-    if is_shown(sys, at, col) && is_first(sys, at, rows, col) {
+    let side = side_of(dict, rows, col)?;
+    if is_shown(sys, dict, col) && is_first(sys, dict, rows, col) {
         Some(side)
     } else {
         None
@@ -30,13 +30,13 @@ pub fn shown_side(sys: &System, at: &Dict, col: Label) -> Option<Side>
 }
 
 /// Writes the vector without common divisor of a column, or its opposite.
-pub fn write_direction(at: &Dict, col: Label, side: Side, vector: &mut [Num])
-    requires column { Contains at.now.key col }
+pub fn write_direction(dict: &Dict, col: Label, side: Side, vector: &mut [Num])
+    requires column { Contains dict.now.key col }
     requires narrow { length vector.old ≤ most_columns }
-    ensures value { vector.new ≡ vector_on side (primitive_column at.now col (length vector.old)) }
+    ensures value { vector.new ≡ vector_on side (primitive_column dict.now col (length vector.old)) }
     ensures width { length vector.new ≡ length vector.old }
 {
-    facet_row(at, col, vector);
+    facet_row(dict, col, vector);
     match side {
         Side::Along => {}
         Side::Against => negate(vector),

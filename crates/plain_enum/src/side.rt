@@ -21,45 +21,45 @@ pub enum Side {
 }
 
 /// The side of the cone; none where both ways break a row. A column at which all rows are 0 counts as along.
-pub fn side_of(at: &Dict, rows: u32, col: Label) -> Option<Side>
-    requires rows { HasRows rows at.now }
+pub fn side_of(dict: &Dict, rows: u32, col: Label) -> Option<Side>
+    requires rows { HasRows rows dict.now }
     requires few { rows < coordinates_from }
-    requires column { Contains at.now.key col }
-    ensures some { IfSome result (IsOnSide at.now rows col) }
-    ensures along { IsNone result → IsOnSide at.now rows col Side.Along → ⊥ }
-    ensures against { IsNone result → IsOnSide at.now rows col Side.Against → ⊥ }
+    requires column { Contains dict.now.key col }
+    ensures some { IfSome result (IsOnSide dict.now rows col) }
+    ensures along { IsNone result → IsOnSide dict.now rows col Side.Along → ⊥ }
+    ensures against { IsNone result → IsOnSide dict.now rows col Side.Against → ⊥ }
 {
-    if is_along(at, rows, col) {
+    if is_along(dict, rows, col) {
         Some(Side::Along)
-    } else if is_against(at, rows, col) {
+    } else if is_against(dict, rows, col) {
         Some(Side::Against)
     } else {
         None
     }
 }
 
-fn is_along(at: &Dict, rows: u32, col: Label) -> bool
-    requires rows { HasRows rows at.now }
+fn is_along(dict: &Dict, rows: u32, col: Label) -> bool
+    requires rows { HasRows rows dict.now }
     requires few { rows < coordinates_from }
-    requires column { Contains at.now.key col }
-    ensures { IsTrue result ↔ IsOnSide at.now rows col Side.Along }
+    requires column { Contains dict.now.key col }
+    ensures { IsTrue result ↔ IsOnSide dict.now rows col Side.Along }
 {
     'rows: for i in 0..rows {
-        if at.entry(Label::row(i + 1), col).get() < 0 {
+        if dict.entry(Label::row(i + 1), col).get() < 0 {
             return false;
         }
     }
     true
 }
 
-fn is_against(at: &Dict, rows: u32, col: Label) -> bool
-    requires rows { HasRows rows at.now }
+fn is_against(dict: &Dict, rows: u32, col: Label) -> bool
+    requires rows { HasRows rows dict.now }
     requires few { rows < coordinates_from }
-    requires column { Contains at.now.key col }
-    ensures { IsTrue result ↔ IsOnSide at.now rows col Side.Against }
+    requires column { Contains dict.now.key col }
+    ensures { IsTrue result ↔ IsOnSide dict.now rows col Side.Against }
 {
     'rows: for i in 0..rows {
-        if at.entry(Label::row(i + 1), col).get() > 0 {
+        if dict.entry(Label::row(i + 1), col).get() > 0 {
             return false;
         }
     }
@@ -67,16 +67,16 @@ fn is_against(at: &Dict, rows: u32, col: Label) -> bool
 }
 
 /// Whether each row that is 0 in the column is 0 at each later row of the cobasis that is not linear.
-pub fn is_first(sys: &System, at: &Dict, rows: u32, col: Label) -> bool
-    requires rows { HasRows rows at.now }
+pub fn is_first(sys: &System, dict: &Dict, rows: u32, col: Label) -> bool
+    requires rows { HasRows rows dict.now }
     requires few { rows < coordinates_from }
-    requires column { Contains at.now.key col }
-    ensures { IsTrue result ↔ IsFirst sys.now.rows at.now rows col }
+    requires column { Contains dict.now.key col }
+    ensures { IsTrue result ↔ IsFirst sys.now.rows dict.now rows col }
 {
-    let key = at.key();
+    let key = dict.key();
     'rows: for i in 0..rows {
         let row = Label::row(i + 1);
-        if at.entry(row, col).get() == 0 && !is_zero_at_later(sys, at, row, key.labels()) {
+        if dict.entry(row, col).get() == 0 && !is_zero_at_later(sys, dict, row, key.labels()) {
             return false;
         }
     }
@@ -84,14 +84,14 @@ pub fn is_first(sys: &System, at: &Dict, rows: u32, col: Label) -> bool
 }
 
 // Whether a row is 0 at each later row among these labels of the cobasis, but for those that are linear.
-fn is_zero_at_later(sys: &System, at: &Dict, row: Label, labels: &[Label]) -> bool
-    requires row { Contains at.now.labels row }
-    requires labels { labels.now ≡ at.now.key }
-    ensures { IsTrue result ↔ ((k : ℕ) → Contains at.now.key k → IsRow k → (row_of sys.now.rows k).linear ≡ false →
-        row < k → Table.entry (table_of at.now) row k ≡ pos 0) }
+fn is_zero_at_later(sys: &System, dict: &Dict, row: Label, labels: &[Label]) -> bool
+    requires row { Contains dict.now.labels row }
+    requires labels { labels.now ≡ dict.now.key }
+    ensures { IsTrue result ↔ ((k : ℕ) → Contains dict.now.key k → IsRow k → (row_of sys.now.rows k).linear ≡ false →
+        row < k → Table.entry (table_of dict.now) row k ≡ pos 0) }
 {
     'labels: for label in labels {
-        if !is_zero_if_later(sys, at, row, *label) {
+        if !is_zero_if_later(sys, dict, row, *label) {
             return false;
         }
     }
@@ -99,14 +99,14 @@ fn is_zero_at_later(sys: &System, at: &Dict, row: Label, labels: &[Label]) -> bo
 }
 
 // Whether a row is 0 at a label of the cobasis, if that is a later row and not linear.
-fn is_zero_if_later(sys: &System, at: &Dict, row: Label, label: Label) -> bool
-    requires row { Contains at.now.labels row }
-    requires label { Contains at.now.key label }
+fn is_zero_if_later(sys: &System, dict: &Dict, row: Label, label: Label) -> bool
+    requires row { Contains dict.now.labels row }
+    requires label { Contains dict.now.key label }
     ensures { IsTrue result ↔ (IsRow label → (row_of sys.now.rows label).linear ≡ false → row < label →
-        Table.entry (table_of at.now) row label ≡ pos 0) }
+        Table.entry (table_of dict.now) row label ≡ pos 0) }
 {
     if label.is_row() && row.number() < label.number() {
-        at.entry(row, label).get() == 0 || sys.is_linear_row(label)
+        dict.entry(row, label).get() == 0 || sys.is_linear_row(label)
     } else {
         true
     }
@@ -114,33 +114,33 @@ fn is_zero_if_later(sys: &System, at: &Dict, row: Label, label: Label) -> bool
 
 // Whether a label of the cobasis is a coordinate that is not free, at which a row is not 0: then the row can take its
 // place.
-fn is_column(at: &Dict, free: &FreeColumns, row: Label, label: Label) -> bool
-    requires label { Contains at.now.labels row }
+fn is_column(dict: &Dict, free: &FreeColumns, row: Label, label: Label) -> bool
+    requires label { Contains dict.now.labels row }
     requires row { IsRow row }
-    requires column { Contains at.now.key label }
-    ensures column { IsTrue result → IsColumnOf at.now free.now row label }
-    ensures pivots { IsTrue result → CanPivot at.now row label }
+    requires column { Contains dict.now.key label }
+    ensures column { IsTrue result → IsColumnOf dict.now free.now row label }
+    ensures pivots { IsTrue result → CanPivot dict.now row label }
     ensures zero { IsFalse result → IsCoordinate label → is_member (coordinate_index label) free.now ≡ false →
-        Table.entry (table_of at.now) row label ≡ pos 0 }
+        Table.entry (table_of dict.now) row label ≡ pos 0 }
 {
     label.is_coordinate()
-        && at.entry(row, label).get() != 0
+        && dict.entry(row, label).get() != 0
         && !free.contains(label.coordinate_index())
 }
 
 /// A coordinate in the cobasis that is not free, at which a row is not 0, so that the row can take its place: the last
 /// one, since numbers are smallest while `x0` is in the cobasis. `free` are the free columns, ascending.
-pub fn column_of(at: &Dict, free: &FreeColumns, row: Label) -> Option<Label>
-    requires label { Contains at.now.labels row }
+pub fn column_of(dict: &Dict, free: &FreeColumns, row: Label) -> Option<Label>
+    requires label { Contains dict.now.labels row }
     requires row { IsRow row }
-    ensures some { IfSome result (λ k. IsColumnOf at.now free.now row k) }
-    ensures pivots { IfSome result (λ k. CanPivot at.now row k) }
-    ensures none { IsNone result → HasNoColumn at.now free.now row }
+    ensures some { IfSome result (λ k. IsColumnOf dict.now free.now row k) }
+    ensures pivots { IfSome result (λ k. CanPivot dict.now row k) }
+    ensures none { IsNone result → HasNoColumn dict.now free.now row }
 {
-    let key = at.key();
+    let key = dict.key();
     let mut found = None;
     'labels: for label in key.labels() {
-        if is_column(at, free, row, *label) {
+        if is_column(dict, free, row, *label) {
             found = Some(*label);
         }
     }
@@ -158,11 +158,11 @@ pub(crate) fn is_kept(free: &FreeColumns, label: Label) -> bool
 }
 
 /// The last coordinate in the cobasis that is not free. `free` are the free columns, ascending.
-pub fn left_coordinate(at: &Dict, free: &FreeColumns) -> Option<Label>
-    ensures some { IfSome result (λ k. IsLeftCoordinate at.now free.now k) }
-    ensures none { IsNone result → LeavesNoCoordinate at.now free.now }
+pub fn left_coordinate(dict: &Dict, free: &FreeColumns) -> Option<Label>
+    ensures some { IfSome result (λ k. IsLeftCoordinate dict.now free.now k) }
+    ensures none { IsNone result → LeavesNoCoordinate dict.now free.now }
 {
-    let key = at.key();
+    let key = dict.key();
     let mut found = None;
     'labels: for label in key.labels() {
         if is_kept(free, *label) {

@@ -42,20 +42,20 @@ fn visit_left<O, E, V: Visit<O, E>>(
     visitor: V,
     out: &mut O,
 ) -> Result<V, Ended<E>>
-    requires room { HasRoomFor prefix.now.sys.now prefix.now.at.now [] vector.old }
-    ensures visited { VisitsUnder V.visits V.ends prefix.now.sys.now prefix.now.free.now prefix.now.at.now
+    requires room { HasRoomFor prefix.now.sys.now prefix.now.dict.now [] vector.old }
+    ensures visited { VisitsUnder V.visits V.ends prefix.now.sys.now prefix.now.free.now prefix.now.dict.now
         prefix.now.from 0 visitor out.old out.new result }
     ensures some { VisitsSome V.visits V.ends visitor out.old out.new result }
     ensures passes { (o : Passed) → IsErrOf result (Ended.Overflow o) → ⊥ }
     ensures width { length vector.new ≡ prefix.now.sys.now.n }
 {
-    let Some(col) = left_coordinate(prefix.at, prefix.free) else {
+    let Some(col) = left_coordinate(prefix.dict, prefix.free) else {
         return Ok(visitor);
     };
-    let Some(side) = shown_side(prefix.sys, prefix.at, col) else {
+    let Some(side) = shown_side(prefix.sys, prefix.dict, col) else {
         return Ok(visitor);
     };
-    write_direction(prefix.at, col, side, vector);
+    write_direction(prefix.dict, col, side, vector);
     match visitor.visit(vector, out) {
         Ok(next) => Ok(next),
         Err(end) => Err(Ended::Stopped(end)),
@@ -64,14 +64,14 @@ fn visit_left<O, E, V: Visit<O, E>>(
 
 // Makes the next dictionary the one of the cobasis in which a row has taken the place of a column. Where that
 // overflows, the next one is as this one.
-fn take_row(at: &Dict, row: Label, col: Label, next: &mut Dict) -> Result<(), Overflow>
-    requires can { CanPivot at.now row col }
-    requires shape { HasShapeOf at.now next.old }
-    ensures pivoted { IfOk result (λ _. IsPivot at.now row col next.new) }
-    ensures passes { IfErr result (λ o. IsOverflow at.now row col o) }
-    ensures shape { HasShapeOf at.now next.new }
+fn take_row(dict: &Dict, row: Label, col: Label, next: &mut Dict) -> Result<(), Overflow>
+    requires can { CanPivot dict.now row col }
+    requires shape { HasShapeOf dict.now next.old }
+    ensures pivoted { IfOk result (λ _. IsPivot dict.now row col next.new) }
+    ensures passes { IfErr result (λ o. IsOverflow dict.now row col o) }
+    ensures shape { HasShapeOf dict.now next.new }
 {
-    at.copy_into(next);
+    dict.copy_into(next);
     next.pivot(row, col)
 }
 
@@ -86,15 +86,15 @@ pub fn visit_under<O, E, V: Visit<O, E>>(
     out: &mut O,
 ) -> Result<V, Ended<E>>
     requires from { 0 < prefix.now.from }
-    requires room { HasRoomFor prefix.now.sys.now prefix.now.at.now deeper.old vector.old }
-    ensures visited { VisitsUnder V.visits V.ends prefix.now.sys.now prefix.now.free.now prefix.now.at.now
+    requires room { HasRoomFor prefix.now.sys.now prefix.now.dict.now deeper.old vector.old }
+    ensures visited { VisitsUnder V.visits V.ends prefix.now.sys.now prefix.now.free.now prefix.now.dict.now
         prefix.now.from (length deeper.old) visitor out.old out.new result }
     ensures some { VisitsSome V.visits V.ends visitor out.old out.new result }
     ensures passes { (o : Passed) → IsErrOf result (Ended.Overflow o) → (p : Polyhedron) (cone : ListedCone)
         (fixed left : List ℕ) (marks : List Bool) →
-        IsAt prefix.now.sys.now prefix.now.free.now prefix.now.at.now prefix.now.from (length deeper.old)
+        IsAt prefix.now.sys.now prefix.now.free.now prefix.now.dict.now prefix.now.from (length deeper.old)
         p cone fixed left marks → PassesInCone p o }
-    ensures room { HasRoomFor prefix.now.sys.now prefix.now.at.now deeper.new vector.new }
+    ensures room { HasRoomFor prefix.now.sys.now prefix.now.dict.now deeper.new vector.new }
     ensures depth { length deeper.new ≡ length deeper.old }
 {
     match deeper.split_first_mut() {
@@ -103,14 +103,14 @@ pub fn visit_under<O, E, V: Visit<O, E>>(
             let mut visitor = visitor;
             'rows: for i in prefix.from..prefix.sys.rows() + 1 {
                 let row = Label::row(i);
-                if let Some(col) = column_of(prefix.at, prefix.free, row) {
-                    if let Err(overflow) = take_row(prefix.at, row, col, next) {
+                if let Some(col) = column_of(prefix.dict, prefix.free, row) {
+                    if let Err(overflow) = take_row(prefix.dict, row, col, next) {
                         return Err(Ended::Overflow(overflow));
                     }
                     let below = Prefix {
                         sys: prefix.sys,
                         free: prefix.free,
-                        at: next,
+                        dict: next,
                         from: i + 1,
                     };
                     visitor = visit_under(&below, others, vector, visitor, out)?;
@@ -130,19 +130,19 @@ pub(crate) fn visit_all<O, E, V: Visit<O, E>>(
     out: &mut O,
 ) -> Result<V, Ended<E>>
     requires first { start.now.from ≡ 1 }
-    requires room { HasRoomForAll start.now.sys.now start.now.free.now start.now.at.now
+    requires room { HasRoomForAll start.now.sys.now start.now.free.now start.now.dict.now
         room.old.deeper.items room.old.vector.items }
     ensures visited { (p : Polyhedron) (last : Dictionary) → start.now.sys.now ≡ cone_of p →
-        IsBegun p start.now.at.now last start.now.free.now →
+        IsBegun p start.now.dict.now last start.now.free.now →
         VisitsEach V.visits V.ends visitor out.old out.new result
-        (IsCornerUnder (begun_cone p start.now.free.now start.now.at.now) []) }
+        (IsCornerUnder (begun_cone p start.now.free.now start.now.dict.now) []) }
     ensures some { VisitsSome V.visits V.ends visitor out.old out.new result }
     ensures passes { (o : Passed) → IsErrOf result (Ended.Overflow o) → (p : Polyhedron) (last : Dictionary) →
-        start.now.sys.now ≡ cone_of p → IsBegun p start.now.at.now last start.now.free.now → PassesInCone p o }
-    ensures room { HasRoomForAll start.now.sys.now start.now.free.now start.now.at.now
+        start.now.sys.now ≡ cone_of p → IsBegun p start.now.dict.now last start.now.free.now → PassesInCone p o }
+    ensures room { HasRoomForAll start.now.sys.now start.now.free.now start.now.dict.now
         room.new.deeper.items room.new.vector.items }
 {
-    match left_coordinate(start.at, start.free) {
+    match left_coordinate(start.dict, start.free) {
         Some(_) => visit_under(start, &mut room.deeper, &mut room.vector, visitor, out),
         None => Ok(visitor),
     }

@@ -6,6 +6,6 @@ use Rattle.linearity.proofs.eliminate.enter_rows.Given as goal
 abbrev pub invariant-rows : goal.invariant-rows
 invariant-rows l =
     record {
-      shape : KeepsShape l.fn.at l.at;
-      tried : Eliminates l.sys l.pass 1 l.i l.fn.at l.at;
+      shape : KeepsShape l.fn.dict l.dict;
+      tried : Eliminates l.sys l.pass 1 l.i l.fn.dict l.dict;
     }

@@ -10,5 +10,5 @@ abbrev pub invariant-labels : goal.invariant-labels
 invariant-labels l =
     record {
       none : (k : ℕ) → Contains (take l.label-index l.label-items) k → IsCoordinate k →
-          Table.entry (table_of l.at) l.row k ≡ pos 0;
+          Table.entry (table_of l.dict) l.row k ≡ pos 0;
     }

@@ -10,23 +10,23 @@ returns-then-is_tried-clause-tried c =
     IfOk-weaker c.enter.result _ _
     (λ _ h. tries_one c.args.sys.now c.args.pass c.args.i c.requires.few
     (c.is_tried.ensures.kind c.if-is_tried.true)
-    c.args.at.now c.enter.new.at h)
-    (subst (λ k. IfOk c.enter.result (λ _. IsEntered c.args.at.now k c.enter.new.at)) c.row.ensures
+    c.args.dict.now c.enter.new.dict h)
+    (subst (λ k. IfOk c.enter.result (λ _. IsEntered c.args.dict.now k c.enter.new.dict)) c.row.ensures
     c.enter.ensures.entered)
 
 pub returns-then-is_tried-clause-shape : goal.returns-then-is_tried-clause-shape
 returns-then-is_tried-clause-shape c =
-    shape_after c.args.at.now c.enter.new.at c.args.i c.enter.result c.requires.few
-    (subst (λ k. IfOk c.enter.result (λ _. IsEntered c.args.at.now k c.enter.new.at)) c.row.ensures
+    shape_after c.args.dict.now c.enter.new.dict c.args.i c.enter.result c.requires.few
+    (subst (λ k. IfOk c.enter.result (λ _. IsEntered c.args.dict.now k c.enter.new.dict)) c.row.ensures
     c.enter.ensures.entered)
     c.enter.ensures.unchanged
 
 pub returns-else-is_tried-clause-tried : goal.returns-else-is_tried-clause-tried
 returns-else-is_tried-clause-tried c =
-    tries_none c.args.sys.now c.args.pass c.args.i c.args.at.now
+    tries_none c.args.sys.now c.args.pass c.args.i c.args.dict.now
     (c.is_tried.ensures.otherwise c.if-is_tried.false)
 
 pub returns-then-is_tried-clause-overflows : goal.returns-then-is_tried-clause-overflows
 returns-then-is_tried-clause-overflows c =
-    subst (λ i. IfErr c.enter.result (λ o. (k : ℕ) × OverflowsFor c.args.at.now i k o)) c.row.ensures
+    subst (λ i. IfErr c.enter.result (λ o. (k : ℕ) × OverflowsFor c.args.dict.now i k o)) c.row.ensures
     c.enter.ensures.overflows

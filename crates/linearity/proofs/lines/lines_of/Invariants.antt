@@ -8,6 +8,6 @@ abbrev pub invariant-labels : goal.invariant-labels
 invariant-labels l =
     record {
       value : l.lines.items
-          ≡ map (λ k. primitive_column l.at k l.n) (coordinates_in (take l.label-index l.label-items));
+          ≡ map (λ k. primitive_column l.dict k l.n) (coordinates_in (take l.label-index l.label-items));
       few : length l.lines.items ≤ l.label-index;
     }

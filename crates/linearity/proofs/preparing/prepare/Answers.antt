@@ -10,7 +10,7 @@ returns-in_err-eliminate_rows-clause-inconsistent c h p file =
     let q = err_from_is_err_and c.from_residual.result c.from_residual.ensures.1 in
     let same = sym q.2 ∙ one_error c.from_residual.result Inconsistent q.0 h q.1 in
     c.in_err-eliminate_rows.ensures.inconsistent (ap (λ v. Err v) same) p file
-    (begins_elimination c.args.sys.now c.in-Ok.at p file refl c.keeps_limits.ensures.some c.keeps_limits.ensures.narrow
+    (begins_elimination c.args.sys.now c.in-Ok.dict p file refl c.keeps_limits.ensures.some c.keeps_limits.ensures.narrow
     refl c.keeps_limits.ensures.few c.in-Ok.ensures)
 
 pub returns-in_err-eliminate_rows-clause-overflow : goal.returns-in_err-eliminate_rows-clause-overflow
@@ -18,12 +18,12 @@ returns-in_err-eliminate_rows-clause-overflow c o h p file =
     let q = err_from_is_err_and c.from_residual.result c.from_residual.ensures.1 in
     let same = sym q.2 ∙ one_error c.from_residual.result (Overflow o) q.0 h q.1 in
     c.in_err-eliminate_rows.ensures.overflow o (ap (λ v. Err v) same) p file
-    (begins_elimination c.args.sys.now c.in-Ok.at p file refl c.keeps_limits.ensures.some c.keeps_limits.ensures.narrow
+    (begins_elimination c.args.sys.now c.in-Ok.dict p file refl c.keeps_limits.ensures.some c.keeps_limits.ensures.narrow
     refl c.keeps_limits.ensures.few c.in-Ok.ensures)
 
 pub returns-in-Ok-enter_main-clause-prepared : goal.returns-in-Ok-enter_main-clause-prepared
 returns-in-Ok-enter_main-clause-prepared c p file =
     c.in-Ok-enter_main.ensures p file
     (c.in_ok-eliminate_rows.ensures.ended p file
-    (begins_elimination c.args.sys.now c.in-Ok.at p file refl c.keeps_limits.ensures.some c.keeps_limits.ensures.narrow
+    (begins_elimination c.args.sys.now c.in-Ok.dict p file refl c.keeps_limits.ensures.some c.keeps_limits.ensures.narrow
     refl c.keeps_limits.ensures.few c.in-Ok.ensures))

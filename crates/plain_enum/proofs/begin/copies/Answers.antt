@@ -10,7 +10,7 @@ copies-preserved c = record {
       ap length c.in_ok-push.ensures.items
       ∙ omega (arith, length-append c.copies.made.items (c.in_ok-copy.field-0 ∷ []), c.copies.invariant.count);
   shapes =
-      subst (All (HasShapeOf c.args.at.now)) (sym c.in_ok-push.ensures.items)
-      (copied_more c.args.at.now c.in_ok-copy.field-0 c.copies.made.items c.in_ok-copy.ensures
+      subst (All (HasShapeOf c.args.dict.now)) (sym c.in_ok-push.ensures.items)
+      (copied_more c.args.dict.now c.in_ok-copy.field-0 c.copies.made.items c.in_ok-copy.ensures
       c.copies.invariant.shapes);
 }

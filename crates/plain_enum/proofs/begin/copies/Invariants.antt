@@ -7,5 +7,5 @@ use Rattle.plain_enum.proofs.begin.copies.Given as goal
 abbrev pub invariant-copies : goal.invariant-copies
 invariant-copies l = record {
   count : length l.made.items ≡ l.counter;
-  shapes : All (HasShapeOf l.at) l.made.items;
+  shapes : All (HasShapeOf l.dict) l.made.items;
 }

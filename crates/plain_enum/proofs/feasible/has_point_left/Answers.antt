@@ -8,13 +8,13 @@ use Rattle.plain_enum.proofs.feasible.has_point_left.Goals as goal
 pub returns-in-Ok-clause-answer : goal.returns-in-Ok-clause-answer
 returns-in-Ok-clause-answer c p last file b =
     let each = (c.in-Ok.ensures.visited p last file b).whole in
-    no_vertex p c.args.start.now.at.now last c.args.start.now.free.now b each.0 each.1
+    no_vertex p c.args.start.now.dict.now last c.args.start.now.free.now b each.0 each.1
     (none_positive _ _ each.0 _ _ each.2)
 
 pub returns-in-Err-Stopped-clause-answer : goal.returns-in-Err-Stopped-clause-answer
 returns-in-Err-Stopped-clause-answer c p last file b =
     let each = (rw c.in-Err-Stopped.field-0-is at c.in-Err-Stopped.ensures.visited p last file b).part in
-    some_vertex p c.args.start.now.at.now last c.args.start.now.free.now b each.0 each.1 each.2.last
+    some_vertex p c.args.start.now.dict.now last c.args.start.now.free.now b each.0 each.1 each.2.last
     (last_inside _ _ _ _ each.0 _ _ each.2) each.2.ended
 
 pub returns-in-Err-Overflow-clause-passes : goal.returns-in-Err-Overflow-clause-passes

@@ -28,10 +28,10 @@ pub returns-in-Err-clause-written : goal.returns-in-Err-clause-written
 returns-in-Err-clause-written g c p last file b same =
     let old = g.S.Sink.written c.args.out.now in
     let mid = g.S.Sink.written c.print_head.new.out in
-    stops_in_head c.args.start.now.sys.now p (begun_cone p c.args.start.now.free.now c.args.start.now.at.now) file
-    (is_cone_of p c.args.start.now.at.now last c.args.start.now.free.now b c.args.start.now.sys.now file)
+    stops_in_head c.args.start.now.sys.now p (begun_cone p c.args.start.now.free.now c.args.start.now.dict.now) file
+    (is_cone_of p c.args.start.now.dict.now last c.args.start.now.free.now b c.args.start.now.sys.now file)
     c.args.lines.now
-    (begun_lines p c.args.start.now.at.now last c.args.start.now.free.now b c.args.start.now.sys.now c.args.lines.now
+    (begun_lines p c.args.start.now.dict.now last c.args.start.now.free.now b c.args.start.now.sys.now c.args.lines.now
     file same) old mid _ refl
     (subst (λ t. AppendsPart old mid t)
     (same_head c.args.start.now.sys.now c.args.lines.now c.kind.result c.n.result c.kind.ensures c.n.ensures.value)
@@ -41,10 +41,10 @@ pub returns-in_err-listing-clause-written : goal.returns-in_err-listing-clause-w
 returns-in_err-listing-clause-written g c p last file b same =
     let old = g.S.Sink.written c.args.out.now in
     let mid = g.S.Sink.written c.print_head.new.out in
-    stops_in_rows c.args.start.now.sys.now p (begun_cone p c.args.start.now.free.now c.args.start.now.at.now) file
-    (is_cone_of p c.args.start.now.at.now last c.args.start.now.free.now b c.args.start.now.sys.now file)
+    stops_in_rows c.args.start.now.sys.now p (begun_cone p c.args.start.now.free.now c.args.start.now.dict.now) file
+    (is_cone_of p c.args.start.now.dict.now last c.args.start.now.free.now b c.args.start.now.sys.now file)
     c.args.lines.now
-    (begun_lines p c.args.start.now.at.now last c.args.start.now.free.now b c.args.start.now.sys.now c.args.lines.now
+    (begun_lines p c.args.start.now.dict.now last c.args.start.now.free.now b c.args.start.now.sys.now c.args.lines.now
     file same)
     old mid (g.S.Sink.written c.list_rows.new.out) c.from_residual.result c.from_residual.ensures.0
     (subst (λ t. Appends old mid t)
@@ -63,10 +63,10 @@ pub returns-in-Ok-finish-clause-written : goal.returns-in-Ok-finish-clause-writt
 returns-in-Ok-finish-clause-written g c p last file b same =
     let old = g.S.Sink.written c.args.out.now in
     let mid = g.S.Sink.written c.print_head.new.out in
-    ends_whole c.args.start.now.sys.now p (begun_cone p c.args.start.now.free.now c.args.start.now.at.now) file
-    (is_cone_of p c.args.start.now.at.now last c.args.start.now.free.now b c.args.start.now.sys.now file)
+    ends_whole c.args.start.now.sys.now p (begun_cone p c.args.start.now.free.now c.args.start.now.dict.now) file
+    (is_cone_of p c.args.start.now.dict.now last c.args.start.now.free.now b c.args.start.now.sys.now file)
     c.args.lines.now
-    (begun_lines p c.args.start.now.at.now last c.args.start.now.free.now b c.args.start.now.sys.now c.args.lines.now
+    (begun_lines p c.args.start.now.dict.now last c.args.start.now.free.now b c.args.start.now.sys.now c.args.lines.now
     file same)
     old mid (g.S.Sink.written c.list_rows.new.out) (g.S.Sink.written c.finish.new.out) _ refl
     (subst (λ t. Appends old mid t)
@@ -80,10 +80,10 @@ returns-in-Err-finish-clause-written g c p last file b same =
     let old = g.S.Sink.written c.args.out.now in
     let mid = g.S.Sink.written c.print_head.new.out in
     let rows = (c.in_ok-listing.ensures.written p last file b).whole in
-    stops_in_end c.args.start.now.sys.now p (begun_cone p c.args.start.now.free.now c.args.start.now.at.now) file
-    (is_cone_of p c.args.start.now.at.now last c.args.start.now.free.now b c.args.start.now.sys.now file)
+    stops_in_end c.args.start.now.sys.now p (begun_cone p c.args.start.now.free.now c.args.start.now.dict.now) file
+    (is_cone_of p c.args.start.now.dict.now last c.args.start.now.free.now b c.args.start.now.sys.now file)
     c.args.lines.now
-    (begun_lines p c.args.start.now.at.now last c.args.start.now.free.now b c.args.start.now.sys.now c.args.lines.now
+    (begun_lines p c.args.start.now.dict.now last c.args.start.now.free.now b c.args.start.now.sys.now c.args.lines.now
     file same)
     old mid (g.S.Sink.written c.list_rows.new.out) (g.S.Sink.written c.finish.new.out) _ refl
     (subst (λ t. Appends old mid t)

@@ -12,8 +12,8 @@ use Rattle.plain_enum.proofs.side.column_of.Given as goal
 abbrev pub invariant-labels : goal.invariant-labels
 invariant-labels l =
     record {
-      some : IfSome l.found (λ k. IsColumnOf l.at l.free l.row k);
-      pivots : IfSome l.found (λ k. CanPivot l.at l.row k);
+      some : IfSome l.found (λ k. IsColumnOf l.dict l.free l.row k);
+      pivots : IfSome l.found (λ k. CanPivot l.dict l.row k);
       none : IsNone l.found → (k : ℕ) → Contains (take l.label-index l.label-items) k → IsCoordinate k →
-          is_member (coordinate_index k) l.free ≡ false → Table.entry (table_of l.at) l.row k ≡ pos 0;
+          is_member (coordinate_index k) l.free ≡ false → Table.entry (table_of l.dict) l.row k ≡ pos 0;
     }

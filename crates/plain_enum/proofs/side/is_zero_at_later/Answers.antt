@@ -11,7 +11,7 @@ use Rattle.plain_enum.proofs.side.is_zero_at_later.Goals as goal
 pub labels-preserved : goal.labels-preserved
 labels-preserved c =
     let IsZeroIfLater : ℕ → Type 0 = λ k. IsRow k → (row_of c.args.sys.now.rows k).linear ≡ false → c.args.row < k →
-    Table.entry (table_of c.args.at.now) c.args.row k ≡ pos 0 in
+    Table.entry (table_of c.args.dict.now) c.args.row k ≡ pos 0 in
     with_next IsZeroIfLater c.args.labels.now c.labels.label-index c.labels.invariant
     (subst IsZeroIfLater (c.label-item.is ∙ get_or_default_zero c.args.labels.now c.labels.label-index _ c.labels-test.true)
     (c.is_zero_if_later.ensures.0 c.if-not-is_zero_if_later.false))

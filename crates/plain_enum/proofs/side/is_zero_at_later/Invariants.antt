@@ -10,4 +10,4 @@ use Rattle.plain_enum.proofs.side.is_zero_at_later.Given as goal
 abbrev pub invariant-labels : goal.invariant-labels
 invariant-labels l =
     (k : ℕ) (c : Contains l.labels k) → c.0 < l.label-index → IsRow k →
-    (row_of l.sys.rows k).linear ≡ false → l.row < k → Table.entry (table_of l.at) l.row k ≡ pos 0
+    (row_of l.sys.rows k).linear ≡ false → l.row < k → Table.entry (table_of l.dict) l.row k ≡ pos 0

@@ -14,7 +14,7 @@ labels-preserved c =
     let i = c.labels.label-index in
     let label : c.label-item.result ≡ get_or items i 0 = c.label-item.is ∙ get_or_default_zero items i _ c.labels-test.true in
     let other : IsFalse c.is_kept.result → IsCoordinate (get_or items i 0) → is_member (coordinate_index (get_or items i 0)) free ≡ false → ⊥ = λ w. subst (λ k. IsCoordinate k → is_member (coordinate_index k) free ≡ false → ⊥) label
-        (c.is_kept.ensures.other w) in
+    (c.is_kept.ensures.other w) in
     elim c.if-is_kept.branch [
       | then-is_kept w ↦ record {
         some = subst (λ found. IfSome found (λ k. IsLastBefore free items (i + 1) k)) (sym w.found-is)
@@ -36,12 +36,12 @@ labels-preserved c =
 pub returns-clause-some : goal.returns-clause-some
 returns-clause-some c =
     IfSome_then c.labels.found c.labels.invariant.some
-    (λ k h. is_left_coordinate c.args.at.now c.args.free.now c.labels-label-items.result.now
+    (λ k h. is_left_coordinate c.args.dict.now c.args.free.now c.labels-label-items.result.now
     (c.labels-label-items.ensures.value ∙ c.key-key.ensures) c.labels.label-index
     (let l = c.labels-test.false in omega arith) k h)
 
 pub returns-clause-none : goal.returns-clause-none
 returns-clause-none c n =
-    leaves_none c.args.at.now c.args.free.now c.labels-label-items.result.now
+    leaves_none c.args.dict.now c.args.free.now c.labels-label-items.result.now
     (c.labels-label-items.ensures.value ∙ c.key-key.ensures) c.labels.label-index
     (let l = c.labels-test.false in omega arith) (c.labels.invariant.none n)

@@ -11,9 +11,9 @@ decreases-visit_under g l = length l.deeper.now
 abbrev pub invariant-rows : goal.invariant-rows
 invariant-rows g l =
     record {
-      room : HasRoomFor l.prefix.sys.now l.prefix.at.now (l.next ∷ l.others) l.vector;
+      room : HasRoomFor l.prefix.sys.now l.prefix.dict.now (l.next ∷ l.others) l.vector;
       depth : length l.others + 1 ≡ length l.fn.deeper;
-      visited : InLoop g.V.Visit.visits g.V.Visit.ends l.prefix.sys.now l.prefix.free.now l.prefix.at.now l.prefix.from
+      visited : InLoop g.V.Visit.visits g.V.Visit.ends l.prefix.sys.now l.prefix.free.now l.prefix.dict.now l.prefix.from
           (length l.fn.deeper) l.fn.visitor l.fn.out l.visitor l.out l.i;
       some : HasVisited g.V.Visit.visits l.fn.visitor l.fn.out l.visitor l.out;
     }

@@ -9,19 +9,19 @@ pub returns-in-Some-clause-visited : goal.returns-in-Some-clause-visited
 returns-in-Some-clause-visited g c p last file b =
     let start = c.args.start.now in
     c.visit_under.ensures.visited p _ _ _ []
-    (begins p start.at.now last start.free.now b start.sys.now file start.from _ c.requires.first
+    (begins p start.dict.now last start.free.now b start.sys.now file start.from _ c.requires.first
     (ap length c.deref_mut.ensures.value ∙ c.requires.room.depth) c.in-Some.field-0 c.in-Some.ensures.some)
 
 pub returns-in-Some-clause-passes : goal.returns-in-Some-clause-passes
 returns-in-Some-clause-passes g c o h p last file b =
     let start = c.args.start.now in
     c.visit_under.ensures.passes o h p _ _ _ []
-    (begins p start.at.now last start.free.now b start.sys.now file start.from _ c.requires.first
+    (begins p start.dict.now last start.free.now b start.sys.now file start.from _ c.requires.first
     (ap length c.deref_mut.ensures.value ∙ c.requires.room.depth) c.in-Some.field-0 c.in-Some.ensures.some)
 
 pub returns-in-None-clause-visited : goal.returns-in-None-clause-visited
 returns-in-None-clause-visited g c p last file b =
     let start = c.args.start.now in
     visits_where_none g.V.Visit.visits g.V.Visit.ends c.args.visitor c.args.out.now
-    (IsCornerUnder (begun_cone p start.free.now start.at.now) [])
-    (nothing_under p start.at.now last start.free.now b (c.in-None.ensures.none refl))
+    (IsCornerUnder (begun_cone p start.free.now start.dict.now) [])
+    (nothing_under p start.dict.now last start.free.now b (c.in-None.ensures.none refl))

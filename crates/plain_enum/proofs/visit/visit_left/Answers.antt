@@ -11,7 +11,7 @@ use Rattle.plain_enum.proofs.visit.visit_left.Goals as goal
 pub returns-in_default-clause-visited : goal.returns-in_default-clause-visited
 returns-in_default-clause-visited g c p cone fixed left marks at =
     let prefix = c.args.prefix.now in
-    absurd (has_coordinate prefix.sys.now prefix.free.now prefix.at.now prefix.from
+    absurd (has_coordinate prefix.sys.now prefix.free.now prefix.dict.now prefix.from
     p cone fixed left marks at (c.in_default.ensures.none refl))
 
 pub returns-in_default-shown_side-clause-visited :
@@ -19,7 +19,7 @@ pub returns-in_default-shown_side-clause-visited :
 returns-in_default-shown_side-clause-visited g c p cone fixed left marks at =
     let prefix = c.args.prefix.now in
     visits_none g.V.Visit.visits g.V.Visit.ends c.args.visitor c.args.out.now (IsCornerUnder cone marks)
-    (nothing_here prefix.sys.now prefix.free.now prefix.at.now prefix.from p cone fixed left marks at
+    (nothing_here prefix.sys.now prefix.free.now prefix.dict.now prefix.from p cone fixed left marks at
     c.requires.room.narrow c.in-Some.col
     c.in-Some.ensures.some (c.in_default-shown_side.ensures.none refl))
 
@@ -28,7 +28,7 @@ returns-in-Ok-clause-visited g c p cone fixed left marks at =
     let prefix = c.args.prefix.now in
     let side = c.in-Some-shown_side.side in
     let col = c.in-Some.col in
-    let now = prefix.at.now in
+    let now = prefix.dict.now in
     let same : vector_on side (primitive_column now col prefix.sys.now.n) ≡ c.write_direction.new.vector =
     ap (λ w. vector_on side (primitive_column now col w)) (sym c.requires.room.width)
     ∙ sym c.write_direction.ensures.value in
@@ -44,7 +44,7 @@ returns-in-Err-clause-visited g c p cone fixed left marks at =
     let prefix = c.args.prefix.now in
     let side = c.in-Some-shown_side.side in
     let col = c.in-Some.col in
-    let now = prefix.at.now in
+    let now = prefix.dict.now in
     let same : vector_on side (primitive_column now col prefix.sys.now.n) ≡ c.write_direction.new.vector =
     ap (λ w. vector_on side (primitive_column now col w)) (sym c.requires.room.width)
     ∙ sym c.write_direction.ensures.value in
