@@ -3,7 +3,7 @@ use Rattle.std.proofs.Common.{◌≡◌, ◌≢◌, ℕ, zero, suc, ◌+◌, ◌
 use Rattle.std.specs.Prelude.{not}
 use Rattle.std.specs.List.{Contains, filter, range_with_len}
 use Rattle.std.proofs.lemmas.Bool.{le-ltb, ltb-true, cond-true, cond-false, cond_both, cases_Bool}
-use Rattle.std.proofs.lemmas.List.Elements.{Contains-append_right, Contains-append_cases}
+use Rattle.std.proofs.lemmas.List.Elements.{Contains-append_cases}
 use Rattle.poly_num.specs.Vectors.{Vector, ◌·◌}
 use Rattle.poly_model.specs.declared.kind.Kind.{Kind}
 use Rattle.poly_model.specs.declared.kind.Kind.TheVariants.{H, V}
@@ -15,7 +15,7 @@ use Rattle.poly_model.specs.Spaces.{Space, IsInside, IsSpaceOf, is_left, is_memb
 use Rattle.poly_model.specs.Labels.{coordinates_from, is_row, coordinate_label, coordinate_index}
 use Rattle.linear_laws.proofs.Entries.{coordinate_reads}
 use Rattle.dictionary_laws.specs.Coordinates.{first_coordinate}
-use Rattle.dictionary_laws.proofs.Filters.{filter_only, filter_kept, range_only, range_has, map_only, map_has, member_has, coordinate_is_label}
+use Rattle.dictionary_laws.proofs.Filters.{filter_only, filter_kept, range_only, map_only, member_has, coordinate_is_label}
 use Rattle.dictionary_laws.proofs.CoordinateSpaces.{coordinate_form}
 use Rattle.dictionary_laws.proofs.InFront.{with_front}
 use Rattle.dictionary_laws.proofs.MainRows.{row_in_cone}

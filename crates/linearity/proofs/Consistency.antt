@@ -1,6 +1,6 @@
 -- Whether the equations of a file have a common point, once the linear rows have been tried; and what is prepared once
 -- all rows have been.
-use Rattle.std.proofs.Common.{◌≡◌, ◌↔◌, inr, refl, ℕ, ◌+◌, ◌<◌, ◌≤◌, false, List, [], length, sym, ap, subst, ◌∙◌, arith}
+use Rattle.std.proofs.Common.{◌≡◌, ◌↔◌, inr, refl, ℕ, ◌+◌, ◌<◌, ◌≤◌, List, [], length, sym, ap, subst, ◌∙◌, arith}
 use Rattle.std.specs.List.{Contains, filter}
 use Rattle.poly_num.specs.Vectors.{Vector}
 use Rattle.poly_model.specs.Labels.{IsRow}

@@ -1,5 +1,5 @@
 -- The overflows of the two passes of elimination are due.
-use Rattle.std.proofs.Common.{◌≡◌, ⊎_elim, inl, inr, ℕ, ◌<◌, ◌≤◌, true, false, List, length, sym, subst, ◌∙◌, arith}
+use Rattle.std.proofs.Common.{◌≡◌, ⊎_elim, inl, inr, ℕ, ◌<◌, true, false, List, length, sym, subst, ◌∙◌, arith}
 use Rattle.std.specs.List.{Contains}
 use Rattle.std.proofs.lemmas.Bool.{cases_lt, cases_Bool, true_from_ne_false, false_from_ne_true}
 use Rattle.poly_model.specs.Labels.{coordinates_from, IsRow, IsCoordinate}

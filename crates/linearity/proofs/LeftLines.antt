@@ -1,5 +1,5 @@
 -- The primitive vectors of the columns that are left are the lines of the free columns, in their order.
-use Rattle.std.proofs.Common.{◌≡◌, ℕ, ◌+◌, ◌-◌, true, List, [], ◌∷◌, pos, ◌*ℤ◌, ◌<ℤ◌, map, length, sym, ap, subst, ◌∙◌, arith}
+use Rattle.std.proofs.Common.{◌≡◌, ℕ, ◌+◌, List, [], ◌∷◌, pos, ◌*ℤ◌, ◌<ℤ◌, map, length, sym, ap, subst, ◌∙◌, arith}
 use Rattle.std.specs.List.{Contains, slice_index_or}
 use Rattle.std.proofs.lemmas.Int.{ints}
 use Rattle.poly_num.specs.Vectors.{Vector, ◌·◌, scale, IsZero}

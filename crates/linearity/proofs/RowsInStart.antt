@@ -1,6 +1,6 @@
 -- While the rows that are not linear enter: those that have entered are in the start cobasis of the main space, and so
 -- is the next one, where it is not 0 at some coordinate.
-use Rattle.std.proofs.Common.{◌≡◌, ◌≢◌, ⊎_elim, inl, inr, ℕ, ◌-◌, ◌<◌, ◌≤◌, true, false, List, [], pos, length, sym, ◌∙◌, arith}
+use Rattle.std.proofs.Common.{◌≡◌, ◌≢◌, ⊎_elim, inl, inr, ℕ, ◌<◌, ◌≤◌, true, false, List, [], pos, length, sym, ◌∙◌, arith}
 use Rattle.std.specs.List.{Contains}
 use Rattle.std.proofs.lemmas.Bool.{lt-ltb, ltb-true, both_ways}
 use Rattle.poly_num.specs.Vectors.{◌·◌}

@@ -1,6 +1,6 @@
 -- What one row makes of a dictionary that is tried, what several do, and which products pass.
 use Rattle.std.specs.Prelude.{Result, IfOk, IfErr}
-use Rattle.std.proofs.Common.{◌≡◌, ◌≢◌, ◌⊎◌, ⊎_elim, Ok, Err, Bool, ℕ, ◌+◌, ◌<◌, ◌≤◌, length, refl, sym, subst, ◌∙◌, arith}
+use Rattle.std.proofs.Common.{◌≡◌, ◌≢◌, ◌⊎◌, ⊎_elim, Ok, Err, ℕ, ◌+◌, ◌<◌, ◌≤◌, length, refl, sym, subst, ◌∙◌, arith}
 use Rattle.std.specs.List.{Contains}
 use Rattle.poly_model.specs.Labels.{IsRow}
 use Rattle.poly_model.specs.declared.overflow.Overflow.{Overflow}

@@ -1,5 +1,5 @@
 -- One row more has been tried: it is passed over, it is 0 at every coordinate in the cobasis, or it enters.
-use Rattle.std.proofs.Common.{◌≡◌, ◌≢◌, ◌⊎◌, ⊎_elim, inl, inr, Bool, true, false, ℕ, ◌+◌, ◌<◌, ◌≤◌, pos, List, sym, subst, arith}
+use Rattle.std.proofs.Common.{◌≡◌, ◌≢◌, ◌⊎◌, ⊎_elim, inl, inr, true, false, ℕ, ◌+◌, ◌<◌, pos, List, sym, subst, arith}
 use Rattle.std.specs.List.{Contains}
 use Rattle.std.proofs.lemmas.Bool.{cases_eq, cases_lt, cases_order, both_ways, true_from_ne_false}
 use Rattle.poly_model.specs.Labels.{coordinates_from, IsRow, IsCoordinate}

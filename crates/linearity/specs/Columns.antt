@@ -1,5 +1,5 @@
 -- What elimination reads off a dictionary: the coordinates in its cobasis, and the column of a row.
-use Rattle.std.specs.Prelude.{◌≡◌, ◌≢◌, ℕ, ◌<◌, ◌≤◌, pos, List, map}
+use Rattle.std.specs.Prelude.{◌≡◌, ◌≢◌, ℕ, ◌<◌, pos, List, map}
 use Rattle.std.specs.List.{Contains, filter}
 use Rattle.poly_num.specs.Vectors.{Vector}
 use Rattle.poly_model.specs.Labels.{IsCoordinate, is_coordinate, coordinate_index}

@@ -1,5 +1,5 @@
 -- What is known once all rows have been tried.
-use Rattle.std.specs.Prelude.{◌+◌, true, length}
+use Rattle.std.specs.Prelude.{◌+◌, length}
 use Rattle.poly_model.specs.Keys.{IsAscending}
 use Rattle.poly_model.specs.Systems.{Polyhedron, cone_of}
 use Rattle.poly_model.specs.FreeColumns.{AreFreeColumns, AreLinesOf}

@@ -1,5 +1,5 @@
 -- What becomes of a dictionary while rows enter its cobasis.
-use Rattle.std.specs.Prelude.{◌≡◌, ◌≢◌, ◌⊎◌, ℕ, ◌<◌, ◌≤◌, Bool, length}
+use Rattle.std.specs.Prelude.{◌≡◌, ◌≢◌, ◌⊎◌, ℕ, ◌<◌, ◌≤◌, length}
 use Rattle.std.specs.List.{Contains}
 use Rattle.poly_model.specs.Labels.{IsCoordinate}
 use Rattle.poly_model.specs.declared.overflow.Overflow.{Overflow}

@@ -1,5 +1,5 @@
 -- Where a listing begins: equations and free coordinates are fixed, the other coordinates are left.
-use Rattle.std.specs.Prelude.{◌≡◌, ℕ, ◌+◌, ◌-◌, ◌≤◌, Bool, true, false, not, if◌then◌else◌, List, map, length}
+use Rattle.std.specs.Prelude.{◌≡◌, ℕ, ◌+◌, ◌-◌, Bool, false, not, if◌then◌else◌, List, map, length}
 use Rattle.std.specs.List.{Contains, filter}
 use Rattle.poly_model.specs.declared.overflow.Phase.TheVariants.{Cone}
 use Rattle.poly_model.specs.Keys.{IsAscending}

@@ -1,5 +1,5 @@
 -- What the lister reads off a dictionary: the column of a coordinate, and the signs of the rows in it.
-use Rattle.std.specs.Prelude.{◌≡◌, ◌≢◌, ℕ, ◌-◌, ◌<◌, ◌≤◌, false, pos, ◌≤ℤ◌, List}
+use Rattle.std.specs.Prelude.{◌≡◌, ◌≢◌, ℕ, ◌<◌, ◌≤◌, false, pos, ◌≤ℤ◌, List}
 use Rattle.std.specs.List.{Contains}
 use Rattle.poly_model.specs.Labels.{IsRow, IsCoordinate, coordinate_index}
 use Rattle.poly_model.specs.Systems.{Row, row_of}

@@ -1,5 +1,5 @@
 -- Overflows that are due: a product passes, and it is that of a pivot which the search cannot do without.
-use Rattle.std.specs.Prelude.{◌≡◌, ◌⊎◌, ℕ, ◌≤◌, true, List, ◌∷◌}
+use Rattle.std.specs.Prelude.{◌≡◌, ◌⊎◌, ℕ, true, List, ◌∷◌}
 use Rattle.std.specs.List.{Contains}
 use Rattle.poly_model.specs.declared.overflow.Overflow.{Overflow}
 use Rattle.poly_model.specs.declared.overflow.Phase.TheVariants.{Prepare, Main, First}

@@ -2,7 +2,6 @@ use Rattle.std.proofs.Common.{Err, ◌+◌, sym, ap, subst, ◌∙◌, arith}
 use Rattle.std.proofs.lemmas.Result.{err_from_is_err_and}
 use Rattle.std.specs.Prelude.{ℕ, IfErr}
 use Rattle.linearity.specs.Turns.{StopsAt}
-use Rattle.linearity.specs.Elimination.{tries_others}
 use Rattle.linearity.proofs.Tries.{shape_then, stops, tried_then}
 use Rattle.linearity.proofs.eliminate.enter_rows.Goals as goal
 

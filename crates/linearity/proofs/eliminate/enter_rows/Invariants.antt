@@ -1,5 +1,4 @@
 use Rattle.linearity.specs.Turns.{KeepsShape, Eliminates}
-use Rattle.linearity.specs.Elimination.{tries_others}
 use Rattle.linearity.proofs.eliminate.enter_rows.Given as goal
 
 -- the rows before this one have been tried

@@ -1,4 +1,4 @@
-use Rattle.std.proofs.Common.{◌≡◌, ℕ, ◌≤◌, pos, take}
+use Rattle.std.proofs.Common.{◌≡◌, ℕ, pos, take}
 use Rattle.std.specs.List.{Contains}
 use Rattle.poly_model.specs.Labels.{IsCoordinate}
 use Rattle.poly_model.specs.Dictionaries.{Table}

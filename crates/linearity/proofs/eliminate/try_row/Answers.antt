@@ -1,7 +1,6 @@
 use Rattle.std.proofs.Common.{ℕ, subst, IfErr, IfOk}
 use Rattle.std.proofs.lemmas.Result.{IfOk-weaker}
 use Rattle.linearity.specs.Turns.{IsEntered, OverflowsFor}
-use Rattle.linearity.specs.Elimination.{tries_others}
 use Rattle.linearity.proofs.Tries.{shape_after, tries_none, tries_one}
 use Rattle.linearity.proofs.eliminate.try_row.Goals as goal
 

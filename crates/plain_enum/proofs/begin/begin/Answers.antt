@@ -1,4 +1,4 @@
-use Rattle.std.proofs.Common.{Err, true, refl, sym, ap, subst, ◌∙◌}
+use Rattle.std.proofs.Common.{Err, refl, sym, ap, subst, ◌∙◌}
 use Rattle.std.specs.List.{Contains}
 use Rattle.dictionary.specs.Views.{Dictionary}
 use Rattle.linearity.specs.declared.eliminate.Pass.TheVariants.{Others}

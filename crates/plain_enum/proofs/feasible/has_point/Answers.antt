@@ -1,8 +1,7 @@
-use Rattle.std.proofs.Common.{◌≡◌, Err, ap, subst, sym, ◌∙◌}
+use Rattle.std.proofs.Common.{◌≡◌, Err, ap, sym, ◌∙◌}
 use Rattle.std.proofs.lemmas.Result.{err_from_is_err_and}
 use Rattle.linearity.proofs.Errors.{one_error}
 use Rattle.plain_enum.specs.declared.answers.FeasibleStop.TheVariants as FeasibleStop
-use Rattle.plain_enum.specs.Begin.{IsBegun}
 use Rattle.plain_enum.proofs.Begun.{same_overflow}
 use Rattle.plain_enum.proofs.feasible.has_point.Goals as goal
 

@@ -1,8 +1,7 @@
-use Rattle.std.proofs.Common.{◌≡◌, Err, refl, sym, subst}
+use Rattle.std.proofs.Common.{◌≡◌, Err, refl, subst}
 use Rattle.std.specs.Result.{IsErrOf}
 use Rattle.poly_model.specs.declared.overflow.Overflow.{Overflow}
 use Rattle.plain_enum.specs.declared.answers.PlainStop.{PlainStop}
-use Rattle.plain_enum.specs.Begin.{IsBegun}
 use Rattle.plain_enum.specs.Plain.{PassesInCone}
 use Rattle.plain_enum.proofs.ListingParts.{nothing_written}
 use Rattle.plain_enum.proofs.plain.list_plain.Goals as goal

@@ -1,4 +1,4 @@
-use Rattle.std.proofs.Common.{◌≡◌, ℕ, ◌-◌, ◌≤◌, false, pos, take, IsNone, IfSome}
+use Rattle.std.proofs.Common.{◌≡◌, ℕ, false, pos, take, IsNone, IfSome}
 use Rattle.std.specs.List.{Contains}
 use Rattle.poly_model.specs.Labels.{IsCoordinate, coordinate_index}
 use Rattle.poly_model.specs.Dictionaries.{Table}
