@@ -186,7 +186,8 @@ fn outcome_of(alloc: Global, case: &Case) -> Result<Outcome, OutOfMemory> {
 
 #[test]
 fn pivots_worked_out_by_hand(rt: HostRuntime) -> Result<(), Fail> {
-    for case in cases() {
+    let cases = cases();
+    for case in &cases {
         let [a, b, c, d] = case.numbers;
         let want = Outcome {
             pivoted: Some(Ok(())),
@@ -199,7 +200,7 @@ fn pivots_worked_out_by_hand(rt: HostRuntime) -> Result<(), Fail> {
             back: Some(Ok(())),
             first_again: known(case.first),
         };
-        assert_eq!(rt; outcome_of(rt.alloc(), &case)?, want, "{}", case.name);
+        assert_eq!(rt; outcome_of(rt.alloc(), case)?, want, "{}", case.name);
     }
     Ok(())
 }
