@@ -169,6 +169,12 @@ impl Dict {
         requires column { j < length self.now.columns }
         ensures { result ≡ cell (suc (length self.now.columns)) self.now.cells i (suc j) }
     {
-        cell_at(&self.cells, self.labels.len(), self.pivot_row.len(), i, j + 1)
+        cell_at(
+            &self.cells,
+            self.labels.len(),
+            self.pivot_row.len(),
+            i,
+            j + 1,
+        )
     }
 }

@@ -78,6 +78,7 @@ fn write(cells: &mut [Num], pivot_row: &[Num], x: &Exchange)
 {
     'rows: for i in 0..x.height {
         let c = cell_at(cells, x.height, x.width, i, x.column);
+        // cell(i, j) becomes cell(i, j) pivot - c pivot_row(j), and c denominator in the exchange's column
         'columns: for j in 0..x.width {
             let at = Spot { row: i, column: j };
             let z = exchanged_cell(cells, pivot_row, x, at, c);

@@ -47,6 +47,7 @@ fn passing_in_row(cells: &[Num], x: &Exchange, i: usize) -> Option<usize>
         return Some(x.column);
     }
     if i != x.row {
+        // cell(i, j) pivot - cell(i, column) cell(row, j)
         'columns: for j in 0..x.width {
             if j != x.column {
                 if inside(cells, x, i, j).is_none() {

@@ -134,6 +134,7 @@ fn scale_cells(cells: &mut [Num], place: usize, factor: Num, narrow: bool) -> bo
     ensures narrow { IsTrue result → IsTrue narrow × (All IsWord cells.old → All IsWord cells.new) }
 {
     let mut still = narrow;
+    // cell(k) becomes cell(k) factor
     'places: for k in 0..place {
         let z = known_product(at_place(cells, k), factor);
         still = stays_narrow(still, z);
@@ -174,7 +175,13 @@ fn shrunk_quotient(
 // `n` over the divisor. Where that does not divide it, the divisor shrinks, and the cells before the place
 // grow. `narrow` is whether all cells are known to fit a machine word.
 #[inline(never)]
-fn exact_quotient(cells: &mut [Num], place: usize, n: Num, divisor: &mut Divisor, narrow: &mut bool) -> Num
+fn exact_quotient(
+    cells: &mut [Num],
+    place: usize,
+    n: Num,
+    divisor: &mut Divisor,
+    narrow: &mut bool,
+) -> Num
     requires place { place ≤ length cells.old }
     requires positive { pos 0 <ℤ divisor.old }
     requires word { IsWord divisor.old }
@@ -216,6 +223,7 @@ fn quick_row(
     if !half {
         return 0;
     }
+    // cell(i, j) becomes (cell(i, j) p - c pivot_row(j)) / divisor
     'columns: for j in 0..x.width {
         let e = cell_at(cells, x.height, x.width, i, j);
         match divisor.exact_half(e, p, c, at_place(pivot_row, j)) {
@@ -250,6 +258,7 @@ fn word_row(
     ensures row { IsRowOver x.now pivot_row.now i from result p c divisor.now cells.old cells.new }
     ensures words { All IsWord cells.old → All IsWord cells.new }
 {
+    // cell(i, j) becomes (cell(i, j) p - c pivot_row(j)) / divisor
     'columns: for j in from..x.width {
         let e = cell_at(cells, x.height, x.width, i, j);
         let n = word_cross(e, p, c, at_place(pivot_row, j));
@@ -316,6 +325,7 @@ fn exchange_over(cells: &mut [Num], pivot_row: &mut [Num], x: &Exchange, shift: 
             continue;
         }
         let from = word_row(cells, pivot_row, x, i, first, p, own, &divisor);
+        // cell(i, j) becomes (cell(i, j) p - own pivot_row(j)) / divisor
         'columns: for j in from..x.width {
             let e = cell_at(cells, x.height, x.width, i, j);
             let n = word_cross(e, p, own, at_place(pivot_row, j));

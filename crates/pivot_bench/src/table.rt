@@ -128,6 +128,7 @@ fn exchange_cells(
     'rows: for i in 0..height {
         if i != row {
             let c = cells[i * width + column];
+            // cell(i, j) becomes (cell(i, j) p - c cell(row, j)) / d
             'columns: for j in 0..width {
                 if j != column {
                     let z = stepped(cells[i * width + j], p, c, cells[row * width + j], d)?;

@@ -97,6 +97,7 @@ pub(crate) fn common_divisor(v: &[Num]) -> Num
     ensures { result ≡ pos (gcd_of_all v.now) }
 {
     let mut g: u128 = 0;
+    // g becomes gcd(g, x)
     for x in v {
         g = gcd_of_sizes(g, x.size());
         if g == 1 {

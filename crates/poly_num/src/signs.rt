@@ -35,6 +35,7 @@ pub fn dot_sign(a: &[Num], b: &[Num]) -> Option<Ordering>
     ensures { SomeIff result (DotFits a.now b.now) (sign_of (a.now · b.now)) }
 {
     let mut sum = Num::ZERO;
+    // the sum of a(i) b(i)
     for i in 0..a.len() {
         let p = mul(a[i], b[i])?;
         sum = add(sum, p)?;

@@ -88,6 +88,7 @@ fn common_denominator(row: &[Frac]) -> Option<u128>
     ensures { IsCapped (common_den row.now) result }
 {
     let mut q = Some(1);
+    // q becomes lcm(q, den f)
     'row: for f in row {
         q = next_denominator(q, size_of_den(*f));
     }
@@ -100,6 +101,7 @@ fn common_numerator(row: &[Frac]) -> u128
     ensures within { result < 2 ^ 127 }
 {
     let mut p = 0;
+    // p becomes gcd(p, num f)
     'row: for f in row {
         p = gcd_of_sizes(p, f.num().size());
     }
@@ -123,6 +125,7 @@ fn entries(alloc: Global, row: &[Frac], p: u128, q: u128) -> Result<Option<Vec<N
     ensures { IfOk result (λ o. AreEntries p q row.now (option_map (λ v. v.items) o)) }
 {
     let mut entries = Vec::with_capacity(alloc, row.len())?;
+    // each f becomes (num f / p) (q / den f)
     'row: for f in row {
         match entry(p, q, *f) {
             Some(z) => entries.push(z)?,

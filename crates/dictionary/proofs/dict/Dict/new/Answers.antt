@@ -51,13 +51,12 @@ made c =
     columns labels key cells in (
       subst (λ (d : Dictionary). IsWhole d) same (new_whole sys phase c.requires m em few some narrow widths),
       subst (λ (d : Dictionary). IsCoordinateDictionary sys phase d) same
-      (new_is sys phase c.requires m em few some narrow widths),
+          (new_is sys phase c.requires m em few some narrow widths),
     )
 
 pub invariant_of-result-2 : goal.invariant_of-result-2
 invariant_of-result-2 c =
-    let width = c.len-width.ensures ∙ c.in_ok-columns.columns.ok.0 in
-    (
+    let width = c.len-width.ensures ∙ c.in_ok-columns.columns.ok.0 in (
       sym c.in_ok-from_elem.field-0.ok.0 ∙ c.in_ok-from_elem.ensures.len ∙ omega arith,
       (made c).0,
       λ t. absurd (false≢true t),
