@@ -1,0 +1,190 @@
+//! Tables of two columns of three cells, exchanged to and fro, against tables worked out by hand.
+ghost use Rattle.std.specs.Prelude.{◌≡◌, ◌<◌, ◌*◌, ◌<ℤ◌, IfOk, IsTrue, length, pos};
+ghost use Rattle.columns.specs.Cells.{IsUnitAcross};
+
+use crate::{Cells, Exchange, Spot, exchange_cells};
+use poly_num::Num;
+use std::alloc::{AllocError, Global};
+use std::test::Fail;
+use words::Word;
+
+fn num(value: i128) -> Num {
+    Num::new(value).unwrap_or(Num::ZERO)
+}
+
+/// The cells of a table: three of the first column, and three of the second.
+fn table(alloc: Global, cells: [i128; 6]) -> Result<Cells, AllocError>
+    ensures { IfOk result (λ c. length c ≡ 6) }
+{
+    let [a, b, c, d, e, f] = cells;
+    let wide = Vec::from_slice(alloc, &[num(a), num(b), num(c), num(d), num(e), num(f)])?;
+    let words = Vec::from_slice(alloc, &[Word::ZERO; 6])?;
+    Ok(Cells::new(wide, words))
+}
+
+/// The exchange of this row and the first column.
+fn exchange_of(row: usize, denominator: Num) -> Exchange {
+    Exchange {
+        height: 3,
+        width: 2,
+        row,
+        column: 0,
+        denominator,
+    }
+}
+
+fn numbers(cells: &Cells) -> Option<[i128; 6]> {
+    if cells.len() != 6 {
+        return None;
+    }
+    let x = exchange_of(0, Num::ONE);
+    Some([
+        cells.cell(&x, 0, 0).get(),
+        cells.cell(&x, 1, 0).get(),
+        cells.cell(&x, 2, 0).get(),
+        cells.cell(&x, 0, 1).get(),
+        cells.cell(&x, 1, 1).get(),
+        cells.cell(&x, 2, 1).get(),
+    ])
+}
+
+/// Whether a row has the denominator in the first column and 0 in the second.
+fn is_unit_row(cells: &Cells, x: &Exchange, row: usize) -> bool
+    requires size { length cells.now ≡ 6 }
+    requires shape { (x.now.width ≡ 2) × (x.now.height ≡ 3) × (x.now.column ≡ 0) }
+    requires row { row < 3 }
+    ensures { IsTrue result → IsUnitAcross x.now cells.now row }
+{
+    cells.cell(x, row, 0) == x.denominator && cells.cell(x, row, 1) == Num::ZERO
+}
+
+/// The exchange of a row and the first column, where it can be carried out.
+fn exchanged(
+    old: &Cells,
+    new: &mut Cells,
+    row: usize,
+    unit: usize,
+    denominator: Num,
+) -> Option<Option<Spot>> {
+    if old.len() != 6 || new.len() != 6 {
+        return None;
+    }
+    if row >= 3 || unit >= 3 || !denominator.is_positive() {
+        return None;
+    }
+    let x = exchange_of(row, denominator);
+    if old.cell(&x, row, 0) == Num::ZERO || !is_unit_row(old, &x, unit) {
+        return None;
+    }
+    Some(exchange_cells(old, &mut [Word::ZERO; 3], new, &x))
+}
+
+/// What an exchange of row 1 makes of a table, and what the exchange back of row 0 makes of that.
+#[derive(Clone, Copy, PartialEq, Eq, Debug)]
+struct Outcome {
+    spot: Option<Option<Spot>>,
+    new: Option<[i128; 6]>,
+    is_wide: bool,
+    back: Option<Option<Spot>>,
+    again: Option<[i128; 6]>,
+    is_wide_again: bool,
+}
+
+fn outcome_of(
+    alloc: Global,
+    cells: [i128; 6],
+    denominator: i128,
+    next: i128,
+) -> Result<Outcome, AllocError> {
+    let mut old = table(alloc, cells)?;
+    let mut new = table(alloc, [0; 6])?;
+    let spot = exchanged(&old, &mut new, 1, 0, num(denominator));
+    let (found, is_wide) = (numbers(&new), new.is_wide());
+    let back = exchanged(&new, &mut old, 0, 1, num(next));
+    Ok(Outcome {
+        spot,
+        new: found,
+        is_wide,
+        back,
+        again: numbers(&old),
+        is_wide_again: old.is_wide(),
+    })
+}
+
+/// A table over a denominator, and the table after the exchange, over another.
+#[derive(Clone, Copy)]
+struct Case {
+    name: &'static str,
+    cells: [i128; 6],
+    denominator: i128,
+    new: [i128; 6],
+    next: i128,
+    is_wide: bool,
+}
+
+fn cases() -> [Case; 4] {
+    let (a, b, c) = (1 << 30, 1 << 40, 1 << 50);
+    [
+        Case {
+            name: "halves",
+            cells: [2, 4, 1, 0, 6, -3],
+            denominator: 2,
+            new: [2, 4, 1, -6, 0, -9],
+            next: 4,
+            is_wide: false,
+        },
+        Case {
+            name: "the divisor shrinks, and the signs are turned",
+            cells: [6, -4, 3, 0, 1, 2],
+            denominator: 6,
+            new: [-36, 24, -18, 6, 0, 11],
+            next: 24,
+            is_wide: false,
+        },
+        Case {
+            name: "words",
+            cells: [1, b, 3, 0, 32 * a, 1],
+            denominator: 1,
+            new: [1, b, 3, -32 * a, 0, 928 * a],
+            next: b,
+            is_wide: false,
+        },
+        Case {
+            name: "wide numbers, and back to words",
+            cells: [1, b, a, 0, c, 0],
+            denominator: 1,
+            new: [1, b, a, -c, 0, -a * c],
+            next: b,
+            is_wide: true,
+        },
+    ]
+}
+
+#[test]
+fn exchanges_worked_out_by_hand(rt: HostRuntime) -> Result<(), Fail> {
+    let cases = cases();
+    for case in &cases {
+        let want = Outcome {
+            spot: Some(None),
+            new: Some(case.new),
+            is_wide: case.is_wide,
+            back: Some(None),
+            again: Some(case.cells),
+            is_wide_again: false,
+        };
+        let found = outcome_of(rt.alloc(), case.cells, case.denominator, case.next)?;
+        assert_eq!(rt; found, want, "{}", case.name);
+    }
+    Ok(())
+}
+
+#[test]
+fn refuses_what_passes(rt: HostRuntime) -> Result<(), Fail> {
+    let large = 1 << 70;
+    let alloc = rt.alloc();
+    let old = table(alloc, [1, large, large, 0, large, large])?;
+    let mut new = table(alloc, [0; 6])?;
+    let spot = exchanged(&old, &mut new, 1, 0, Num::ONE);
+    assert_eq!(rt; spot, Some(Some(Spot { row: 2, column: 1 })));
+    Ok(())
+}
