@@ -10,18 +10,11 @@ use words::Word;
 /// denominator.
 #[derive(Clone, Copy)]
 pub struct Exchange {
-    pub height: usize,
     pub width: usize,
+    pub height: usize,
     pub row: usize,
     pub column: usize,
     pub denominator: Num,
-}
-
-/// A place of a table: a row and a column, both counted from 0.
-#[derive(Clone, Copy, PartialEq, Eq, Debug)]
-pub struct Spot {
-    pub row: usize,
-    pub column: usize,
 }
 
 // The word at a place.

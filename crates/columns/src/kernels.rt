@@ -48,16 +48,16 @@ pub(crate) fn half_column(
     new: &mut [Word],
     x: &Exchange,
     step: &Step,
-    divisor: &WordDivisor,
+    half_divisor: &WordDivisor,
 ) -> usize
     requires before { IsBefore x.now before.now }
     requires room { length new.old ≡ x.now.width * x.now.height }
     requires within { step.now.column < x.now.width }
     requires other { step.now.column ≢ x.now.column }
     requires halves { IsTrue before.now.halves }
-    requires factors { AreHalfFactors step.now divisor.now }
+    requires factors { AreHalfFactors step.now half_divisor.now }
     ensures count { result ≤ x.now.height }
-    ensures written { IsColumnWritten x.now before.now step.now result divisor.now new.new }
+    ensures written { IsColumnWritten x.now before.now step.now result half_divisor.now new.new }
     ensures kept { AreKept (step.now.column * x.now.height) new.old new.new }
     ensures halves { AreHalvesTo (step.now.column * x.now.height) new.old →
         AreHalvesTo (step.now.column * x.now.height + result) new.new }
@@ -66,10 +66,10 @@ pub(crate) fn half_column(
     let own = before.own;
     let p = step.p;
     let b = step.b;
-    let by = divisor.copied();
+    let by = half_divisor.copied();
     let height = x.height;
     let base = step.column * height;
-    // new(i) = (cells(i) p - own(i) b) / divisor
+    // new(i) = (cells(i) p - own(i) b) / half_divisor
     'halves: for i in 0..height {
         match by.exact_half_cross(at_place(cells, base + i), p, at_place(own, i), b) {
             Some(q) => new[base + i] = q,

@@ -14,5 +14,5 @@ mod tests;
 mod wide;
 
 pub use cells::Cells;
-pub use exchange::{Exchange, Spot};
-pub use wide::exchange_cells;
+pub use exchange::Exchange;
+pub use wide::{Spot, exchange_cells};

@@ -64,19 +64,19 @@ pub(crate) fn column_over_less(
     new: &mut [Word],
     x: &Exchange,
     step: &Step,
-    scale: &mut Scale,
+    shrinking: &mut Scale,
 ) -> bool
     requires before { IsBefore x.now before.now }
     requires room { length new.old ≡ x.now.width * x.now.height }
     requires within { step.now.column < x.now.width }
     requires other { step.now.column ≢ x.now.column }
-    requires scale { IsScale x.now scale.old }
+    requires scale { IsScale x.now shrinking.old }
     ensures done { IsTrue result →
-        IsColumnDone x.now before.now step.now scale.old.divisor scale.new.divisor new.old new.new }
-    ensures scale { IsTrue result → IsScale x.now scale.new }
-    ensures halves { IsTrue result → IsFalse scale.new.halves }
+        IsColumnDone x.now before.now step.now shrinking.old.divisor shrinking.new.divisor new.old new.new }
+    ensures scale { IsTrue result → IsScale x.now shrinking.new }
+    ensures halves { IsTrue result → IsFalse shrinking.new.halves }
 {
-    let g = scale.divisor.word();
+    let g = shrinking.divisor.word();
     let less = left_of_column(before, x, step, g);
     let Some(h) = Word::of(less) else {
         return false;
@@ -84,18 +84,18 @@ pub(crate) fn column_over_less(
     let Some(k) = Word::of(quotient(g.wide(), less)) else {
         return false;
     };
-    let Some(grown) = product(scale.factor, k) else {
+    let Some(grown) = product(shrinking.factor, k) else {
         return false;
     };
     if !scale_columns(new, x, step, k) {
         return false;
     }
-    *scale = Scale {
+    *shrinking = Scale {
         divisor: WordDivisor::new(h),
         factor: grown,
         halves: false,
     };
-    match other_column(before, new, x, step, &scale.divisor) {
+    match other_column(before, new, x, step, &shrinking.divisor) {
         Some(_) => true,
         None => false,
     }

@@ -6,10 +6,17 @@ ghost use Rattle.columns.specs.Cells.{AllowsExchange, HasUnit, IsNewCell, IsTabl
 ghost use Rattle.columns.specs.Steps.{IsNewColumn, AreNewColumns, AreKept};
 
 use crate::cells::Cells;
-use crate::exchange::{Exchange, Spot};
+use crate::exchange::Exchange;
 use crate::into::exchange_into;
 use poly_num::{Num, cross, mul, negate, primitive};
 use words::Word;
+
+/// A place of a table: a row and a column, both counted from 0.
+#[derive(Clone, Copy, PartialEq, Eq, Debug)]
+pub struct Spot {
+    pub row: usize,
+    pub column: usize,
+}
 
 // The new cell in row i and column j; `None` where what it takes passes.
 fn new_cell(old: &Cells, x: &Exchange, i: usize, j: usize) -> Option<Num>

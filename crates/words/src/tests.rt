@@ -40,7 +40,7 @@ fn products(rt: HostRuntime) {
     }
     let most = (1 << 63) - 1;
     let found = wide_cross(word(most), word(most), word(most), word(-most)).get();
-    assert_eq!(rt; found, 170141183460469231694793815568928014338);
+    assert_eq!(rt; found, 170141183460469231694793815568465002498);
 }
 
 #[test]

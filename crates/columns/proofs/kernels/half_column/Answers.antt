@@ -15,7 +15,7 @@ halves-preserved c =
           halves_more (step.column * x.height) c.halves.i c.halves.new q lt c.in-Some.ensures.1
           (c.halves.invariant.halves first);
       written =
-          written_more x c.args.before.now step c.args.divisor.now c.halves.i c.halves.new q _ lt
+          written_more x c.args.before.now step c.args.half_divisor.now c.halves.i c.halves.new q _ lt
           (ap (λ (z : ℤ). q *ℤ z) (sym c.copied-by.ensures) ∙ c.in-Some.ensures.0)
           (inside_is x c.args.before.now step c.halves.i _ _ _ c.requires.other c.at_place.ensures
           c.at_place-in-halves.ensures refl)
