@@ -98,7 +98,8 @@ module _ (x : Exchange) (old : List ℤ) (f : ℤ) where
     done_here : (a : ℕ) → a < x.height → IsNewCell x old a step.column (f *ℤ (h *ℤ cell_at x now a step.column))
     done_here a ha =
         let y = cell_at x now a step.column in
-        subst (λ (z : ℤ). IsNewCell x old a step.column (f *ℤ z)) (ring.mul_comm y h) (is a ha (y *ℤ h) (c.written a ha))
+        subst (λ (z : ℤ). IsNewCell x old a step.column (f *ℤ z)) (ring.mul_comm y h)
+        (is a ha (y *ℤ h) (c.written a ha))
 
     done_before : (a b : ℕ) → a < x.height → b < step.column → IsNewCell x old a b (f *ℤ (g *ℤ cell_at x mid a b)) →
         IsNewCell x old a b (f *ℤ (h *ℤ cell_at x now a b))

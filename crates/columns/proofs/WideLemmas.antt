@@ -16,7 +16,9 @@ use Rattle.columns.proofs.ColumnLemmas.{column_more}
 module _ (x : Exchange) (old : List ℤ) where
   pub new_more : (i j : ℕ) (new : List ℤ) (z : ℤ) → j * x.height + i < length new → IsNewCell x old i j z →
       IsNewColumn x old j i new → IsNewColumn x old j (i + 1) (set new (j * x.height + i) z)
-  new_more i j new z lt is u = record { written = column_more x j (λ k y. IsNewCell x old k j y) i new z lt is u.written }
+  new_more i j new z lt is u = record {
+    written = column_more x j (λ k y. IsNewCell x old k j y) i new z lt is u.written;
+  }
 
   pub new_column : (j : ℕ) (before new : List ℤ) → AreKept (j * x.height) before new →
       IsNewColumn x old j x.height new → AreNewColumns x old j before → AreNewColumns x old (j + 1) new

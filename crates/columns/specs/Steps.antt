@@ -12,8 +12,8 @@ use Rattle.dictionary.specs.WordExchange.{IsSignOf}
 use Rattle.columns.specs.Cells.{cell_at, pivot_of, IsNewCell}
 use Rattle.columns.specs.HalfCells.{AreHalvesTo}
 
--- d divides k times the denominator, the pivot's cell, the first m cells of the exchange's column and the first n cells of
--- its row
+-- d divides k times the denominator, the pivot's cell, the first m cells of the exchange's column and the first n
+-- cells of its row
 pub record DividesTimes (x : Exchange) (cells : List ℤ) (m n d k : ℕ) : Type 0 where
   pub denominator : d ∣ k * unsigned_abs x.denominator
   pub pivot : d ∣ k * unsigned_abs (pivot_of x cells)
@@ -50,6 +50,14 @@ pub record IsBefore (x : Exchange) (before : Before) : Type 0 where
 pub record IsStep (x : Exchange) (before : Before) (step : Step) : Type 0 where
   pub within : step.column < x.width
   pub cell : step.b ≡ cell_at x before.cells.now x.row step.column
+
+-- what the new cells are made of is there, and room for all of them; the step is that of another column than the
+-- exchange's
+pub record IsInside (x : Exchange) (before : Before) (step : Step) (new : List ℤ) : Type 0 where
+  pub ready : IsBefore x before
+  pub room : length new ≡ x.width * x.height
+  pub within : step.column < x.width
+  pub other : step.column ≢ x.column
 
 -- what a step and a divisor bring are halves
 pub record AreHalfFactors (step : Step) (g : ℤ) : Type 0 where

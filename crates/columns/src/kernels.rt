@@ -1,7 +1,7 @@
 //! The inner loops: the new cells of one column, over one divisor.
-ghost use Rattle.std.specs.Prelude.{◌≡◌, ◌≢◌, ◌<◌, ◌≤◌, ◌*◌, ◌+◌, IsTrue, length};
+ghost use Rattle.std.specs.Prelude.{◌≤◌, ◌*◌, ◌+◌, IsTrue};
 ghost use Rattle.columns.specs.HalfCells.{AreHalvesTo};
-ghost use Rattle.columns.specs.Steps.{IsBefore, AreHalfFactors, IsColumnWritten, AreKept};
+ghost use Rattle.columns.specs.Steps.{IsInside, AreHalfFactors, IsColumnWritten, AreKept};
 
 use crate::exchange::{Exchange, at_place};
 use crate::step::{Before, Step};
@@ -16,10 +16,7 @@ pub(crate) fn inside_column(
     step: &Step,
     divisor: &WordDivisor,
 ) -> usize
-    requires before { IsBefore x.now before.now }
-    requires room { length new.old ≡ x.now.width * x.now.height }
-    requires within { step.now.column < x.now.width }
-    requires other { step.now.column ≢ x.now.column }
+    requires inside { IsInside x.now before.now step.now new.old }
     ensures count { result ≤ x.now.height }
     ensures written { IsColumnWritten x.now before.now step.now result divisor.now new.new }
     ensures kept { AreKept (step.now.column * x.now.height) new.old new.new }
@@ -50,10 +47,7 @@ pub(crate) fn half_column(
     step: &Step,
     half_divisor: &WordDivisor,
 ) -> usize
-    requires before { IsBefore x.now before.now }
-    requires room { length new.old ≡ x.now.width * x.now.height }
-    requires within { step.now.column < x.now.width }
-    requires other { step.now.column ≢ x.now.column }
+    requires inside { IsInside x.now before.now step.now new.old }
     requires halves { IsTrue before.now.halves }
     requires factors { AreHalfFactors step.now half_divisor.now }
     ensures count { result ≤ x.now.height }

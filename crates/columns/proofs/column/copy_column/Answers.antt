@@ -17,11 +17,11 @@ cells-preserved c =
       written =
           written_more x before step g c.cells.i c.cells.new e _ lt
           (stays_equation g e step.p _ step.b c.requires.stays)
-          (inside_is x before step c.cells.i _ _ _ c.requires.other c.at_place-e.ensures refl refl)
+          (inside_is x before step c.cells.i _ _ _ c.requires.inside.other c.at_place-e.ensures refl refl)
           c.cells.invariant.written;
       kept = kept_more _ c.args.new.now c.cells.new _ e (omega arith) c.cells.invariant.kept;
       halves = λ small first.
           halves_more (step.column * x.height) c.cells.i c.cells.new e lt
-          (subst IsHalf (sym c.at_place-e.ensures) ((c.requires.before.small small).0 _ there))
+          (subst IsHalf (sym c.at_place-e.ensures) ((c.requires.inside.ready.small small).0 _ there))
           (c.cells.invariant.halves small first);
     }

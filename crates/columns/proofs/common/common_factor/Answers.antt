@@ -8,7 +8,8 @@ rows-init c =
     let x = c.args.x.now in
     let g = c.gcd-common.result in
     factor_start x c.args.cells.now g c.requires.denominator
-    (subst (λ (z : ℤ). IsGcdOf x.denominator z g) (c.wide-v.ensures.value ∙ c.word_at.ensures) c.gcd-common.ensures.divisor)
+    (subst (λ (z : ℤ). IsGcdOf x.denominator z g) (c.wide-v.ensures.value ∙ c.word_at.ensures)
+    c.gcd-common.ensures.divisor)
 
 pub rows-preserved : goal.rows-preserved
 rows-preserved c =

@@ -17,7 +17,7 @@ halves-preserved c =
       written =
           written_more x c.args.before.now step c.args.half_divisor.now c.halves.i c.halves.new q _ lt
           (ap (λ (z : ℤ). q *ℤ z) (sym c.copied-by.ensures) ∙ c.in-Some.ensures.0)
-          (inside_is x c.args.before.now step c.halves.i _ _ _ c.requires.other c.at_place.ensures
+          (inside_is x c.args.before.now step c.halves.i _ _ _ c.requires.inside.other c.at_place.ensures
           c.at_place-in-halves.ensures refl)
           c.halves.invariant.written;
     }

@@ -11,7 +11,7 @@ cells-preserved c =
       written =
           written_more x c.args.before.now step c.args.divisor.now c.cells.i c.cells.new c.in-Some.q _ lt
           (ap (λ (z : ℤ). c.in-Some.q *ℤ z) (sym c.copied-by.ensures) ∙ c.in-Some.ensures)
-          (inside_is x c.args.before.now step c.cells.i _ _ _ c.requires.other c.at_place.ensures
+          (inside_is x c.args.before.now step c.cells.i _ _ _ c.requires.inside.other c.at_place.ensures
           c.at_place-in-cells.ensures refl)
           c.cells.invariant.written;
       kept = kept_more _ c.args.new.now c.cells.new _ c.in-Some.q (omega arith) c.cells.invariant.kept;

@@ -9,7 +9,8 @@ use Rattle.columns.proofs.rescale.column_over_less.Goals as goal
 
 -- the new divisor is what is left
 left : (c : After-new) →
-    IsLeftOfColumn c.args.x.now c.args.before.now c.args.step.now c.args.x.now.height c.args.shrinking.now.divisor c.new.result
+    IsLeftOfColumn c.args.x.now c.args.before.now c.args.step.now c.args.x.now.height c.args.shrinking.now.divisor
+    c.new.result
 left c =
     let is = IsLeftOfColumn c.args.x.now c.args.before.now c.args.step.now c.args.x.now.height in
     subst (λ (g : ℤ). is g c.new.result) c.word-g.ensures.value

@@ -11,8 +11,8 @@ cells-init c =
 
 pub cells-preserved : goal.cells-preserved
 cells-preserved c =
-    left_more c.args.x.now c.args.before.now c.args.step.now c.args.divisor c.cells.i c.cells.common c.numerator-n.result
-    c.gcd-common.result c.numerator-n.ensures c.gcd-common.ensures.divisor c.cells.invariant
+    left_more c.args.x.now c.args.before.now c.args.step.now c.args.divisor c.cells.i c.cells.common
+    c.numerator-n.result c.gcd-common.result c.numerator-n.ensures c.gcd-common.ensures.divisor c.cells.invariant
 
 pub returns : goal.returns
 returns c =
