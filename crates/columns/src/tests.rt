@@ -1,5 +1,5 @@
 //! Tables of two columns of three cells, exchanged to and fro, against tables worked out by hand.
-ghost use Rattle.std.specs.Prelude.{◌≡◌, ◌<◌, ◌*◌, ◌<ℤ◌, IfOk, IsTrue, length, pos};
+ghost use Rattle.std.specs.Prelude.{◌≡◌, ◌<◌, ◌*◌, ◌<ℤ◌, ◌↔◌, IfOk, IsTrue, length, pos};
 ghost use Rattle.columns.specs.Cells.{IsUnitAcross};
 
 use crate::{Cells, Exchange, Spot, exchange_cells};
@@ -23,7 +23,10 @@ fn table(alloc: Global, cells: [i128; 6]) -> Result<Cells, AllocError>
 }
 
 /// The exchange of this row and the first column.
-fn exchange_of(row: usize, denominator: Num) -> Exchange {
+fn exchange_of(row: usize, denominator: Num) -> Exchange
+    ensures shape { (result.width ≡ 2) × (result.height ≡ 3) × (result.column ≡ 0) }
+    ensures given { (result.row ≡ row) × (result.denominator ≡ denominator) }
+{
     Exchange {
         height: 3,
         width: 2,
@@ -46,6 +49,13 @@ fn numbers(cells: &Cells) -> Option<[i128; 6]> {
         cells.cell(&x, 1, 1).get(),
         cells.cell(&x, 2, 1).get(),
     ])
+}
+
+#[tactic(auto, using(std::proofs::lemmas::Bool::Decides::nat_tests))]
+fn is_zero(a: Num) -> bool
+    ensures { IsTrue result ↔ (a ≡ pos 0) }
+{
+    a == Num::ZERO
 }
 
 /// Whether a row has the denominator in the first column and 0 in the second.
@@ -73,10 +83,14 @@ fn exchanged(
         return None;
     }
     let x = exchange_of(row, denominator);
-    if old.cell(&x, row, 0) == Num::ZERO || !is_unit_row(old, &x, unit) {
+    if is_zero(old.cell(&x, row, 0)) {
         return None;
     }
-    Some(exchange_cells(old, &mut [Word::ZERO; 3], new, &x))
+    if !is_unit_row(old, &x, unit) {
+        return None;
+    }
+    let mut own = [Word::ZERO; 3];
+    Some(exchange_cells(old, &mut own, new, &x))
 }
 
 /// What an exchange of row 1 makes of a table, and what the exchange back of row 0 makes of that.
