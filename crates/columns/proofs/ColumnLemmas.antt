@@ -1,6 +1,5 @@
 -- One cell more of a column, and one column more.
 use Rattle.std.proofs.Common.{◌≡◌, ◌≢◌, ℕ, ℤ, ◌+◌, ◌<◌, ◌≤◌, ◌*ℤ◌, ◌-ℤ◌, ◌*◌, pos, List, length, get_or, set, arith, ◌∙◌, sym, subst, refl, ap, get_or-set_same, get_or-set_other, below_more}
-use Prim.Native.Nat.{◌∣◌}
 use Rattle.std.specs.Prelude.{unsigned_abs, ◌<ℤ◌}
 use Rattle.std.proofs.lemmas.Nat.Gcd.{dvd_refl, dvd_trans}
 use Rattle.std.proofs.lemmas.List.{length-set}

@@ -1,5 +1,5 @@
 -- The new cells are written column by column, over a divisor that shrinks.
-use Rattle.std.proofs.Common.{◌≡◌, ◌≢◌, ℕ, ◌+◌, ◌*◌, ◌<◌, ◌≤◌, ℤ, pos, ◌*ℤ◌, ◌-ℤ◌, List, length, get_or, arith, ◌∙◌, sym, subst, ap, refl, ⊎_elim, mul_comm}
+use Rattle.std.proofs.Common.{◌≡◌, ◌≢◌, ℕ, ◌+◌, ◌<◌, ℤ, pos, ◌*ℤ◌, ◌-ℤ◌, List, length, get_or, arith, ◌∙◌, sym, subst, ap, refl, ⊎_elim, mul_comm}
 use Prim.Native.Nat.{◌∣◌}
 use Rattle.std.specs.Prelude.{◌<ℤ◌, unsigned_abs}
 use Rattle.std.proofs.lemmas.Bool.{cases_eq}
@@ -14,7 +14,7 @@ use Rattle.columns.specs.declared.step.Before.{Before}
 use Rattle.columns.specs.declared.step.Step.{Step}
 use Rattle.columns.specs.declared.step.Factors.{Factors}
 use Rattle.columns.specs.Cells.{cell_at, place, pivot_of, IsNewCell}
-use Rattle.columns.specs.Steps.{IsStep, IsNumerator, IsOwnColumn, AreFactors, IsColumnDone}
+use Rattle.columns.specs.Steps.{IsNumerator, IsOwnColumn, AreFactors, IsColumnDone}
 
 -- what stands in a cell after the exchange is one number
 pub one_new_cell : (x : Exchange) (old : List ℤ) (i j : ℕ) (y z : ℤ) → IsNewCell x old i j y → IsNewCell x old i j z →

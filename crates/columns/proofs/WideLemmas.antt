@@ -1,6 +1,5 @@
 -- New cells written column by column before anything is divided out, and what is common divided out.
-use Rattle.std.proofs.Common.{◌≡◌, ◌≢◌, ℕ, ◌+◌, ◌*◌, ◌<◌, ◌≤◌, ℤ, pos, ◌*ℤ◌, ◌-ℤ◌, List, length, get_or, set, arith, ◌∙◌, sym, subst, ap, refl, ⊎_elim, mul_comm}
-use Rattle.std.specs.Prelude.{◌<ℤ◌}
+use Rattle.std.proofs.Common.{◌≡◌, ◌≢◌, ℕ, ◌+◌, ◌*◌, ◌<◌, ℤ, pos, ◌*ℤ◌, List, length, get_or, set, arith, ◌∙◌, sym, subst, ap, refl, ⊎_elim, mul_comm}
 use Rattle.std.proofs.lemmas.Bool.{cases_eq}
 use Rattle.std.proofs.lemmas.Nat.{mul-add-lt}
 use Rattle.poly_num.proofs.Ring.{lin}
@@ -9,7 +8,7 @@ use Rattle.poly_num.proofs.VectorLemmas.{length-scale}
 use Rattle.dictionary.specs.Cells.{IsMadePrimitive}
 use Rattle.dictionary.proofs.Reduced.{get_or-scale}
 use Rattle.columns.specs.declared.exchange.Exchange.{Exchange}
-use Rattle.columns.specs.Cells.{cell_at, place, pivot_of, AllowsExchange, IsNewCell, IsTableAfter}
+use Rattle.columns.specs.Cells.{place, pivot_of, AllowsExchange, IsNewCell, IsTableAfter}
 use Rattle.columns.specs.Steps.{IsNewColumn, AreNewColumns, AreKept}
 use Rattle.columns.proofs.ColumnLemmas.{column_more}
 

@@ -1,5 +1,5 @@
 -- The exchange column by column, over a divisor that shrinks where it does not divide a column.
-use Rattle.std.specs.Prelude.{◌≡◌, ◌≢◌, ℕ, ℤ, ◌<◌, ◌+◌, ◌*◌, ◌*ℤ◌, ◌-ℤ◌, ◌<ℤ◌, pos, List, length, unsigned_abs, IsTrue}
+use Rattle.std.specs.Prelude.{◌≡◌, ◌≢◌, ℕ, ℤ, ◌<◌, ◌*◌, ◌*ℤ◌, ◌-ℤ◌, ◌<ℤ◌, pos, List, length, unsigned_abs, IsTrue}
 use Rattle.std.specs.List.{slice_index_or}
 use Prim.Native.Nat.{◌∣◌}
 use Rattle.poly_num.specs.Halves.{IsHalf}

@@ -1,4 +1,4 @@
-use Rattle.std.proofs.Common.{◌≡◌, ◌≢◌, subst, sym, ℤ, ℕ, ◌+◌, ◌*◌, ◌∙◌, arith, ap, ◌*ℤ◌, pos, refl, mul_comm}
+use Rattle.std.proofs.Common.{◌≡◌, subst, sym, ℤ, ℕ, ◌∙◌, arith, ◌*ℤ◌, refl, mul_comm}
 use Rattle.poly_num.proofs.Ring.{one_mul}
 use Rattle.dictionary.proofs.UndividedLemmas.{factor_nonzero}
 use Rattle.columns.specs.declared.step.Step.{Step}

@@ -1,8 +1,7 @@
-use Rattle.std.proofs.Common.{◌≡◌, ◌∙◌, ap, subst, sym, ℕ, ℤ, ◌*ℤ◌, ◌*◌, pos}
-use Rattle.std.specs.Prelude.{unsigned_abs, ◌<ℤ◌, IsTrue}
+use Rattle.std.proofs.Common.{◌≡◌, ◌∙◌, ap, subst, sym, ℤ, ◌*ℤ◌, ◌*◌}
 use Rattle.poly_num.proofs.Ring.{mul_assoc}
 use Rattle.dictionary.proofs.LeftLemmas.{quotient_exact, rescaled}
-use Rattle.columns.specs.Steps.{IsLeftOfColumn, IsColumnDone}
+use Rattle.columns.specs.Steps.{IsLeftOfColumn}
 use Rattle.columns.proofs.ColumnLemmas.{done_less}
 use Rattle.columns.proofs.rescale.column_over_less.Goals.{After-new}
 use Rattle.columns.proofs.rescale.column_over_less.Goals as goal

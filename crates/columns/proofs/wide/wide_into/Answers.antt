@@ -1,5 +1,5 @@
 use Rattle.std.proofs.Common.{rules}
-use Rattle.columns.proofs.WideLemmas.{divided_out, pivot_nonzero}
+use Rattle.columns.proofs.WideLemmas.{divided_out}
 use Rattle.columns.proofs.wide.wide_into.Goals as goal
 
 pub returns-in-None : goal.returns-in-None
