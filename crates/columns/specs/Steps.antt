@@ -46,11 +46,6 @@ pub record IsBefore (x : Exchange) (before : Before) : Type 0 where
   pub small : IsTrue before.halves →
       AreHalvesTo (x.width * x.height) before.cells.now × AreHalvesTo x.height before.own.now
 
--- the step is that of one of the columns, and has its cell in the exchange's row
-pub record IsStep (x : Exchange) (before : Before) (step : Step) : Type 0 where
-  pub within : step.column < x.width
-  pub cell : step.b ≡ cell_at x before.cells.now x.row step.column
-
 -- what the new cells are made of is there, and room for all of them; the step is that of another column than the
 -- exchange's
 pub record IsInside (x : Exchange) (before : Before) (step : Step) (new : List ℤ) : Type 0 where

@@ -55,11 +55,6 @@ impl Cells {
         self.words.len()
     }
 
-    /// Whether the cells are kept as wide numbers.
-    pub fn is_wide(&self) -> bool {
-        self.is_wide
-    }
-
     /// The cell in row i and column j.
     #[inline(always)]
     pub fn cell(&self, x: &Exchange, i: usize, j: usize) -> Num

@@ -93,15 +93,33 @@ fn exchanged(
     Some(exchange_cells(old, &mut own, new, &x))
 }
 
+/// How the cells are kept; words that are known to be halves are told apart.
+#[derive(Clone, Copy, PartialEq, Eq, Debug)]
+enum Form {
+    Halves,
+    Words,
+    Wide,
+}
+
+fn form_of(cells: &Cells) -> Form {
+    if cells.is_wide {
+        Form::Wide
+    } else if cells.halves {
+        Form::Halves
+    } else {
+        Form::Words
+    }
+}
+
 /// What an exchange of row 1 makes of a table, and what the exchange back of row 0 makes of that.
 #[derive(Clone, Copy, PartialEq, Eq, Debug)]
 struct Outcome {
     spot: Option<Option<Spot>>,
     new: Option<[i128; 6]>,
-    is_wide: bool,
+    form: Form,
     back: Option<Option<Spot>>,
     again: Option<[i128; 6]>,
-    is_wide_again: bool,
+    form_again: Form,
 }
 
 fn outcome_of(
@@ -113,15 +131,15 @@ fn outcome_of(
     let mut old = table(alloc, cells)?;
     let mut new = table(alloc, [0; 6])?;
     let spot = exchanged(&old, &mut new, 1, 0, num(denominator));
-    let (found, is_wide) = (numbers(&new), new.is_wide());
+    let (found, form) = (numbers(&new), form_of(&new));
     let back = exchanged(&new, &mut old, 0, 1, num(next));
     Ok(Outcome {
         spot,
         new: found,
-        is_wide,
+        form,
         back,
         again: numbers(&old),
-        is_wide_again: old.is_wide(),
+        form_again: form_of(&old),
     })
 }
 
@@ -133,7 +151,8 @@ struct Case {
     denominator: i128,
     new: [i128; 6],
     next: i128,
-    is_wide: bool,
+    form: Form,
+    form_again: Form,
 }
 
 fn cases() -> [Case; 4] {
@@ -145,7 +164,8 @@ fn cases() -> [Case; 4] {
             denominator: 2,
             new: [2, 4, 1, -6, 0, -9],
             next: 4,
-            is_wide: false,
+            form: Form::Halves,
+            form_again: Form::Halves,
         },
         Case {
             name: "the divisor shrinks, and the signs are turned",
@@ -153,7 +173,8 @@ fn cases() -> [Case; 4] {
             denominator: 6,
             new: [-36, 24, -18, 6, 0, 11],
             next: 24,
-            is_wide: false,
+            form: Form::Words,
+            form_again: Form::Words,
         },
         Case {
             name: "words",
@@ -161,7 +182,8 @@ fn cases() -> [Case; 4] {
             denominator: 1,
             new: [1, b, 3, -32 * a, 0, 928 * a],
             next: b,
-            is_wide: false,
+            form: Form::Words,
+            form_again: Form::Words,
         },
         Case {
             name: "wide numbers, and back to words",
@@ -169,7 +191,8 @@ fn cases() -> [Case; 4] {
             denominator: 1,
             new: [1, b, a, -c, 0, -a * c],
             next: b,
-            is_wide: true,
+            form: Form::Wide,
+            form_again: Form::Words,
         },
     ]
 }
@@ -181,10 +204,10 @@ fn exchanges_worked_out_by_hand(rt: HostRuntime) -> Result<(), Fail> {
         let want = Outcome {
             spot: Some(None),
             new: Some(case.new),
-            is_wide: case.is_wide,
+            form: case.form,
             back: Some(None),
             again: Some(case.cells),
-            is_wide_again: false,
+            form_again: case.form_again,
         };
         let found = outcome_of(rt.alloc(), case.cells, case.denominator, case.next)?;
         assert_eq!(rt; found, want, "{}", case.name);
