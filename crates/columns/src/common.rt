@@ -1,7 +1,8 @@
 //! What the numbers of an exchange have in common, and its column over that.
 ghost use Rattle.std.specs.Option.{IfSome};
-ghost use Rattle.std.specs.Prelude.{◌≡◌, ◌<◌, ◌*◌, ◌*ℤ◌, ◌<ℤ◌, IsTrue, pos, length, unsigned_abs};
+ghost use Rattle.std.specs.Prelude.{◌≡◌, ◌<◌, ◌*◌, ◌*ℤ◌, ◌<ℤ◌, ◌↔◌, IsTrue, pos, length, unsigned_abs};
 ghost use Prim.Native.Nat.{◌∣◌};
+ghost use Rattle.poly_num.specs.Divisors.{IsGcdOf};
 ghost use Rattle.dictionary.specs.WordExchange.{IsSignOf};
 ghost use Rattle.columns.specs.Cells.{AllowsExchange};
 ghost use Rattle.columns.specs.Steps.{IsCommonFactor, IsOwnColumn, AreFactors};
@@ -11,6 +12,26 @@ use crate::step::Factors;
 use poly_num::{Num, gcd, quotient};
 use words::{Word, product};
 
+// Whether the number is 1.
+#[inline(always)]
+#[tactic(auto, using(std::proofs::lemmas::Bool::Decides::nat_tests))]
+fn is_one(a: Num) -> bool
+    ensures { IsTrue result ↔ a ≡ pos 1 }
+{
+    a == Num::ONE
+}
+
+// The greatest common divisor of the two; no division is made once it is 1.
+#[inline(always)]
+fn common_with(common: Num, c: Num) -> Num
+    ensures { IsGcdOf common c result }
+{
+    if is_one(common) {
+        return common;
+    }
+    gcd(common, c)
+}
+
 // The greatest common divisor of the denominator and of the cells of the exchange's column and row.
 fn common_factor(cells: &[Word], x: &Exchange) -> Num
     requires { AllowsExchange x.now cells.now }
@@ -19,14 +40,14 @@ fn common_factor(cells: &[Word], x: &Exchange) -> Num
     let d = x.denominator;
     let v = word_at(cells, x, x.row, x.column).wide();
     let mut common = gcd(d, v);
-    // common = gcd(common, c)
+    // common = the greatest common divisor of common and c
     'rows: for i in 0..x.height {
         let c = word_at(cells, x, i, x.column).wide();
-        common = gcd(common, c);
+        common = common_with(common, c);
     }
     'columns: for j in 0..x.width {
         let c = word_at(cells, x, x.row, j).wide();
-        common = gcd(common, c);
+        common = common_with(common, c);
     }
     common
 }

@@ -13,12 +13,12 @@ rows-init c =
 
 pub rows-preserved : goal.rows-preserved
 rows-preserved c =
-    factor_column c.args.x.now c.args.cells.now c.rows.i 0 c.rows.common c.wide-c.result c.gcd-common-in-rows.result
-    c.gcd-common-in-rows.ensures.divisor c.rows.invariant (c.wide-c.ensures.value ∙ c.word_at-in-rows.ensures)
+    factor_column c.args.x.now c.args.cells.now c.rows.i 0 c.rows.common c.wide-c.result c.common_with-common.result
+    c.common_with-common.ensures c.rows.invariant (c.wide-c.ensures.value ∙ c.word_at-in-rows.ensures)
 
 pub columns-preserved : goal.columns-preserved
 columns-preserved c =
     let x = c.args.x.now in
     factor_row x c.args.cells.now x.height c.columns.j c.columns.common c.wide-c-in-columns.result
-    c.gcd-common-in-columns.result c.gcd-common-in-columns.ensures.divisor c.columns.invariant
+    c.common_with-common-in-columns.result c.common_with-common-in-columns.ensures c.columns.invariant
     (c.wide-c-in-columns.ensures.value ∙ c.word_at-in-columns.ensures)
