@@ -48,7 +48,7 @@ pub record IsBefore (x : Exchange) (before : Before) : Type 0 where
 
 -- what the new cells are made of is there, and room for all of them; the step is that of another column than the
 -- exchange's
-pub record IsInside (x : Exchange) (before : Before) (step : Step) (new : List ℤ) : Type 0 where
+pub record IsOtherStep (x : Exchange) (before : Before) (step : Step) (new : List ℤ) : Type 0 where
   pub ready : IsBefore x before
   pub room : length new ≡ x.width * x.height
   pub within : step.column < x.width

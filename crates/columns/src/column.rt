@@ -2,7 +2,7 @@
 ghost use Rattle.std.specs.Option.{IfSome};
 ghost use Rattle.std.specs.Prelude.{◌≡◌, ◌≢◌, ◌<◌, ◌*◌, ◌+◌, ◌*ℤ◌, ℤ, IsTrue, pos, length};
 ghost use Rattle.columns.specs.HalfCells.{AreHalvesTo};
-ghost use Rattle.columns.specs.Steps.{IsBefore, IsInside, IsScale, AreHalfFactors, IsColumnWritten, AreKept};
+ghost use Rattle.columns.specs.Steps.{IsBefore, IsOtherStep, IsScale, AreHalfFactors, IsColumnWritten, AreKept};
 
 use crate::exchange::{Exchange, at_place};
 use crate::kernels::{half_column, inside_column};
@@ -36,7 +36,7 @@ fn own_column(before: &Before, new: &mut [Word], x: &Exchange, step: &Step, fact
 
 // The cells of a column of which the exchange takes nothing, and which it multiplies by what it divides by.
 fn copy_column(before: &Before, new: &mut [Word], x: &Exchange, step: &Step, divisor: &WordDivisor)
-    requires inside { IsInside x.now before.now step.now new.old }
+    requires inside { IsOtherStep x.now before.now step.now new.old }
     requires stays { (step.now.b ≡ pos 0) × (step.now.p ≡ divisor.now) }
     ensures written { IsColumnWritten x.now before.now step.now x.now.height divisor.now new.new }
     ensures kept { AreKept (step.now.column * x.now.height) new.old new.new }
@@ -75,7 +75,7 @@ fn is_written_in_halves(
     step: &Step,
     divisor: &WordDivisor,
 ) -> bool
-    requires inside { IsInside x.now before.now step.now new.old }
+    requires inside { IsOtherStep x.now before.now step.now new.old }
     ensures written { IsTrue result → IsColumnWritten x.now before.now step.now x.now.height divisor.now new.new }
     ensures kept { AreKept (step.now.column * x.now.height) new.old new.new }
     ensures halves { IsTrue result → AreHalvesTo (step.now.column * x.now.height) new.old →
@@ -96,7 +96,7 @@ pub(crate) fn other_column(
     step: &Step,
     divisor: &WordDivisor,
 ) -> Option<bool>
-    requires inside { IsInside x.now before.now step.now new.old }
+    requires inside { IsOtherStep x.now before.now step.now new.old }
     ensures written { IfSome result (λ h. IsColumnWritten x.now before.now step.now x.now.height divisor.now new.new) }
     ensures kept { AreKept (step.now.column * x.now.height) new.old new.new }
     ensures halves { IfSome result (λ h. IsTrue h → AreHalvesTo (step.now.column * x.now.height) new.old →

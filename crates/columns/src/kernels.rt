@@ -1,7 +1,7 @@
 //! The inner loops: the new cells of one column, over one divisor.
 ghost use Rattle.std.specs.Prelude.{◌≤◌, ◌*◌, ◌+◌, IsTrue};
 ghost use Rattle.columns.specs.HalfCells.{AreHalvesTo};
-ghost use Rattle.columns.specs.Steps.{IsInside, AreHalfFactors, IsColumnWritten, AreKept};
+ghost use Rattle.columns.specs.Steps.{IsOtherStep, AreHalfFactors, IsColumnWritten, AreKept};
 
 use crate::exchange::{Exchange, at_place};
 use crate::step::{Before, Step};
@@ -16,7 +16,7 @@ pub(crate) fn inside_column(
     step: &Step,
     divisor: &WordDivisor,
 ) -> usize
-    requires inside { IsInside x.now before.now step.now new.old }
+    requires inside { IsOtherStep x.now before.now step.now new.old }
     ensures count { result ≤ x.now.height }
     ensures written { IsColumnWritten x.now before.now step.now result divisor.now new.new }
     ensures kept { AreKept (step.now.column * x.now.height) new.old new.new }
@@ -47,7 +47,7 @@ pub(crate) fn half_column(
     step: &Step,
     half_divisor: &WordDivisor,
 ) -> usize
-    requires inside { IsInside x.now before.now step.now new.old }
+    requires inside { IsOtherStep x.now before.now step.now new.old }
     requires halves { IsTrue before.now.halves }
     requires factors { AreHalfFactors step.now half_divisor.now }
     ensures count { result ≤ x.now.height }

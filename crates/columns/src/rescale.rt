@@ -1,7 +1,7 @@
 //! Where the divisor does not divide a column: it shrinks, and the columns before grow.
 ghost use Rattle.std.specs.Prelude.{◌≡◌, ◌≢◌, ◌<◌, ◌*◌, ◌<ℤ◌, IsTrue, IsFalse, pos, length};
 ghost use Rattle.dictionary.specs.WordExchange.{IsScaled};
-ghost use Rattle.columns.specs.Steps.{IsBefore, IsInside, IsScale, IsNumerator, IsLeftOfColumn, IsColumnDone};
+ghost use Rattle.columns.specs.Steps.{IsBefore, IsOtherStep, IsScale, IsNumerator, IsLeftOfColumn, IsColumnDone};
 
 use crate::column::other_column;
 use crate::exchange::{Exchange, at_place};
@@ -66,7 +66,7 @@ pub(crate) fn column_over_less(
     step: &Step,
     shrinking: &mut Scale,
 ) -> bool
-    requires inside { IsInside x.now before.now step.now new.old }
+    requires inside { IsOtherStep x.now before.now step.now new.old }
     requires scale { IsScale x.now shrinking.old }
     ensures done { IsTrue result →
         IsColumnDone x.now before.now step.now shrinking.old.divisor shrinking.new.divisor new.old new.new }
