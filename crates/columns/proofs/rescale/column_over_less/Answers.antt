@@ -1,0 +1,51 @@
+use Rattle.std.proofs.Common.{◌≡◌, ◌∙◌, ap, subst, sym, ℤ, ◌*ℤ◌, ◌*◌}
+use Rattle.poly_num.proofs.Ring.{mul_assoc}
+use Rattle.dictionary.proofs.LeftLemmas.{quotient_exact, rescaled}
+use Rattle.columns.specs.Steps.{IsLeftOfColumn}
+use Rattle.columns.proofs.ColumnLemmas.{done_less}
+use Rattle.columns.proofs.rescale.column_over_less.Goals.{After-new}
+use Rattle.columns.proofs.rescale.column_over_less.Goals as goal
+
+-- the new divisor is what is left
+left : (c : After-new) →
+    IsLeftOfColumn c.args.x.now c.args.before.now c.args.step.now c.args.x.now.height c.args.shrinking.now.divisor
+    c.new.result
+left c =
+    let is = IsLeftOfColumn c.args.x.now c.args.before.now c.args.step.now c.args.x.now.height in
+    subst (λ (g : ℤ). is g c.new.result) c.word-g.ensures.value
+    (subst (λ (h : ℤ). is c.word-g.result h) (sym (c.new.ensures ∙ c.in-Some.ensures.1)) c.left_of_column-less.ensures)
+
+-- the factor between the two divisors
+times : (c : After-new) → c.in-Some-of.k *ℤ c.new.result ≡ c.args.shrinking.now.divisor
+times c =
+    let u = left c in
+    rw (
+      c.in-Some-of.ensures.1 ∙ c.quotient.ensures,
+      c.wide.ensures.value,
+      c.word-g.ensures.value,
+      ← (c.new.ensures ∙ c.in-Some.ensures.1),
+    )
+    (quotient_exact c.new.result c.args.shrinking.now.divisor u.positive u.divides)
+
+grown_times : (c : After-new) → c.in-Some-product.grown *ℤ c.new.result ≡ c.args.x.now.denominator
+grown_times c =
+    ap (λ (z : ℤ). z *ℤ c.new.result) c.in-Some-product.ensures
+    ∙ mul_assoc c.args.shrinking.now.factor c.in-Some-of.k c.new.result
+    ∙ ap (λ (z : ℤ). c.args.shrinking.now.factor *ℤ z) (times c) ∙ c.requires.scale.whole
+
+pub returns-in-Some-other_column-clause-scale : goal.returns-in-Some-other_column-clause-scale
+returns-in-Some-other_column-clause-scale c _ =
+    let a = (goal.at.returns-in-Some-other_column-clause-scale c).After-new in
+    record { positive = (left a).positive; whole = grown_times a }
+
+pub returns-in-Some-other_column-clause-done : goal.returns-in-Some-other_column-clause-done
+returns-in-Some-other_column-clause-done c _ =
+    let a = (goal.at.returns-in-Some-other_column-clause-done c).After-new in
+    let x = c.args.x.now in
+    let step = c.args.step.now in
+    let u = left a in
+    done_less x c.args.before.now step c.args.shrinking.now.divisor c.new.result c.args.new.now c.scale_columns.new.new
+    c.other_column.new.new u
+    (rescaled (step.column * x.height) c.args.shrinking.now.divisor c.new.result c.in-Some-of.k u.positive (times a)
+    c.args.new.now c.scale_columns.new.new (c.scale_columns.ensures.scaled c.if-not-scale_columns.false))
+    c.other_column.ensures.kept c.in-Some-other_column.ensures.written

@@ -1,0 +1,80 @@
+//! Each public function once, with values worked out by hand.
+ghost use Rattle.std.specs.Prelude.{◌<ℤ◌, pos};
+
+use crate::{Word, WordDivisor, product, wide_cross};
+use poly_num::Num;
+
+fn word(value: i128) -> Word {
+    Word::of(Num::new(value).unwrap_or(Num::ZERO)).unwrap_or(Word::ZERO)
+}
+
+fn positive(value: i128) -> Word
+    ensures { pos 0 <ℤ result }
+{
+    let found = word(value);
+    if found.wide().is_positive() {
+        found
+    } else {
+        Word::ONE
+    }
+}
+
+fn half_quotient(divisor: &WordDivisor, a: Word, p: Word, c: Word, b: Word) -> Option<i128> {
+    if divisor.word().is_half() && a.is_half() && p.is_half() && c.is_half() && b.is_half() {
+        value_of(divisor.exact_half_cross(a, p, c, b))
+    } else {
+        None
+    }
+}
+
+fn value_of(a: Option<Word>) -> Option<i128> {
+    Some(a?.wide().get())
+}
+
+#[test]
+fn products(rt: HostRuntime) {
+    let high = 1 << 62;
+    let table = [(3, -4, Some(-12)), (high, -1, Some(-high)), (high, 2, None)];
+    for (a, b, want) in table {
+        assert_eq!(rt; value_of(product(word(a), word(b))), want, "{a} * {b}");
+    }
+    let most = (1 << 63) - 1;
+    let found = wide_cross(word(most), word(most), word(most), word(-most)).get();
+    assert_eq!(rt; found, 170141183460469231694793815568465002498);
+}
+
+#[test]
+fn exact_quotients(rt: HostRuntime) {
+    let table = [
+        // (5 * 6 - 2 * 3) / 12, and the same over 5
+        (5, 6, 2, 3, 12, Some(2)),
+        (5, 6, 2, 3, 5, None),
+        // (2^40 * 2^41 - 0) / 2^31 is 2^50, which is no half
+        (1 << 40, 1 << 41, 0, 0, 1 << 31, Some(1 << 50)),
+        // 2^81 / 2 is no word
+        (1 << 40, 1 << 41, 0, 0, 2, None),
+    ];
+    for (a, p, c, b, d, want) in table {
+        let divisor = WordDivisor::new(positive(d));
+        let found = divisor.exact_cross(word(a), word(p), word(c), word(b));
+        assert_eq!(rt; value_of(found), want, "over {d}");
+    }
+}
+
+#[test]
+fn exact_quotients_of_halves(rt: HostRuntime) {
+    let table = [
+        (5, 6, 2, 3, 12, Some(2)),
+        (5, 6, 2, 3, 5, None),
+        // 2^40 is no half
+        (1 << 20, 1 << 21, 0, 0, 2, None),
+    ];
+    for (a, p, c, b, d, want) in table {
+        let divisor = WordDivisor::new(positive(d));
+        assert_eq!(rt;
+            half_quotient(&divisor, word(a), word(p), word(c), word(b)),
+            want,
+            "over {d}"
+        );
+    }
+}
