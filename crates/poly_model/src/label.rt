@@ -35,6 +35,7 @@ impl Label {
     pub const CONSTANT: Label = Label { number: CONSTANT };
 
     /// Row i, counted from 1.
+    #[inline]
     pub fn row(i: u32) -> Label
         requires positive { 0 < i }
         requires within { i < coordinates_from }
@@ -44,6 +45,7 @@ impl Label {
     }
 
     /// Coordinate j, counted from 0.
+    #[inline]
     pub fn coordinate(j: u32) -> Label
         requires { j < coordinates_from }
         ensures { result ≡ coordinate_label j }
@@ -54,6 +56,7 @@ impl Label {
     }
 
     /// Its number.
+    #[inline]
     pub fn number(self) -> u16
         ensures { result ≡ self }
     {
@@ -61,6 +64,7 @@ impl Label {
     }
 
     /// Whether it is a row's; `t` counts as row 0.
+    #[inline]
     pub fn is_row(self) -> bool
         ensures row { IsTrue result ↔ IsRow self }
         ensures value { result ≡ is_row self }
@@ -69,6 +73,7 @@ impl Label {
     }
 
     /// Whether it is a coordinate's; the constant column counts as one.
+    #[inline]
     pub fn is_coordinate(self) -> bool
         ensures { IsTrue result ↔ IsCoordinate self }
     {
@@ -76,6 +81,7 @@ impl Label {
     }
 
     /// Whether it is the constant column's.
+    #[inline]
     pub fn is_constant(self) -> bool
         ensures { IsTrue result ↔ (self ≡ constant_label) }
     {
@@ -83,6 +89,7 @@ impl Label {
     }
 
     /// Which coordinate it is, counted from 0.
+    #[inline]
     pub fn coordinate_index(self) -> u32
         requires { IsCoordinate self }
         ensures { result ≡ coordinate_index self }
@@ -91,6 +98,7 @@ impl Label {
     }
 
     /// Whether both are one: `==` as a call that says so.
+    #[inline]
     pub fn is_same(self, other: Label) -> bool
         ensures { IsTrue result ↔ (self ≡ other) }
     {
