@@ -4,14 +4,13 @@ use Rattle.std.specs.Prelude.{unsigned_abs, ◌<ℤ◌}
 use Rattle.std.proofs.lemmas.Nat.Gcd.{dvd_refl, dvd_trans}
 use Rattle.std.proofs.lemmas.List.{length-set}
 use Rattle.poly_num.specs.Divisors.{IsGcdOf}
-use Rattle.poly_num.proofs.Ring.{lin, mul_comm, zero_mul}
-use Rattle.dictionary.specs.WordExchange.{IsRescaled}
-use Rattle.dictionary.proofs.CommonLemmas.{positive_gcd}
+use Rattle.poly_num.proofs.Ring.{lin, mul_comm, mul_assoc, zero_mul}
 use Rattle.columns.specs.declared.exchange.Exchange.{Exchange}
 use Rattle.columns.specs.declared.step.Before.{Before}
 use Rattle.columns.specs.declared.step.Step.{Step}
 use Rattle.columns.specs.Cells.{cell_at}
-use Rattle.columns.specs.Steps.{IsNumerator, IsColumnWritten, AreKept, IsLeftOfColumn, IsColumnDone}
+use Rattle.columns.specs.Steps.{IsNumerator, IsColumnWritten, AreKept, IsLeftOfColumn, IsColumnDone, IsScaled, IsRescaled}
+use Rattle.columns.proofs.DivisorLemmas.{positive_gcd}
 
 pub kept_start : (n : ℕ) (old : List ℤ) → AreKept n old old
 kept_start n old = record { same_length = refl; kept = λ k l. refl }
@@ -31,8 +30,8 @@ kept_then n old mid new u v = record {
 
 -- what is true of the cells of a column down to row i is true of one more
 pub column_more : (x : Exchange) (j : ℕ) (P : ℕ → ℤ → Type 0) (i : ℕ) (new : List ℤ) (q : ℤ) →
-    j * x.height + i < length new → P i q → ((k : ℕ) → k < i → P k (cell_at x new k j)) →
-    (k : ℕ) → k < i + 1 → P k (cell_at x (set new (j * x.height + i) q) k j)
+    j * x.height + i < length new → P i q → ((k : ℕ) → k < i → P k (cell_at x.height new k j)) →
+    (k : ℕ) → k < i + 1 → P k (cell_at x.height (set new (j * x.height + i) q) k j)
 column_more x j P i new q lt h u =
     below_more _ _
     (λ k l.
@@ -92,7 +91,7 @@ module _ (x : Exchange) (before : Before) (step : Step) (g : ℤ) where
   }
 
 module _ (x : Exchange) (before : Before) (step : Step) where
-  pub inside_is : (i : ℕ) (a c n : ℤ) → step.column ≢ x.column → a ≡ cell_at x before.cells.now i step.column →
+  pub inside_is : (i : ℕ) (a c n : ℤ) → step.column ≢ x.column → a ≡ cell_at x.height before.cells.now i step.column →
       c ≡ get_or before.own.now i (pos 0) → n ≡ a *ℤ step.p -ℤ c *ℤ step.b → IsNumerator x before step i n
   inside_is i a c n ne ea ec en = record { own = λ e. absurd (ne e); inside = λ _. en ∙ rw (ea, ec) refl }
 
@@ -105,3 +104,14 @@ pub stays_equation : (g e p c b : ℤ) → (b ≡ pos 0) × (p ≡ g) → e *ℤ
 stays_equation g e p c b stays =
     let k : c *ℤ b ≡ pos 0 = mul_comm c b ∙ rw (stays.0) (zero_mul c) in
     rw (stays.1) (omega (arith, lin))
+
+-- numbers that were over g, times g over h, are over h
+pub rescaled : (place : ℕ) (g h factor : ℤ) → factor *ℤ h ≡ g → (old new : List ℤ) → IsScaled place factor old new →
+    IsRescaled place g h old new
+rescaled place g h factor e old new u = record {
+  same_length = u.same_length;
+  scaled = λ k l.
+      let z = get_or old k (pos 0) in
+      ap (λ (y : ℤ). y *ℤ h) (u.scaled k l) ∙ mul_assoc z factor h ∙ ap (λ (y : ℤ). z *ℤ y) e;
+  rest = u.rest;
+}

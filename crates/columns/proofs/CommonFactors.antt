@@ -4,7 +4,7 @@ use Prim.Native.Nat.{◌∣◌}
 use Rattle.std.specs.Prelude.{◌<ℤ◌, unsigned_abs}
 use Rattle.std.proofs.lemmas.Nat.Gcd.{dvd_trans}
 use Rattle.poly_num.specs.Divisors.{IsGcdOf}
-use Rattle.dictionary.proofs.CommonLemmas.{divides_gcd, positive_gcd}
+use Rattle.columns.proofs.DivisorLemmas.{divides_gcd, positive_gcd}
 use Rattle.columns.specs.declared.exchange.Exchange.{Exchange}
 use Rattle.columns.specs.Cells.{cell_at, pivot_of}
 use Rattle.columns.specs.Steps.{DividesTimes, IsCommonFactor}
@@ -30,14 +30,14 @@ module _ (x : Exchange) (cells : List ℤ) where
   }
 
   module _ (m n : ℕ) (h c g : ℤ) (is : IsGcdOf h c g) (u : IsCommonFactor x cells m n h) where
-    in_column_still : (i : ℕ) → i < m → unsigned_abs g ∣ unsigned_abs (cell_at x cells i x.column)
+    in_column_still : (i : ℕ) → i < m → unsigned_abs g ∣ unsigned_abs (cell_at x.height cells i x.column)
     in_column_still i l = dvd_trans _ is.1.0 (u.in_column i l)
 
-    in_row_still : (j : ℕ) → j < n → unsigned_abs g ∣ unsigned_abs (cell_at x cells x.row j)
+    in_row_still : (j : ℕ) → j < n → unsigned_abs g ∣ unsigned_abs (cell_at x.height cells x.row j)
     in_row_still j l = dvd_trans _ is.1.0 (u.in_row j l)
 
     -- the cell of the column in row m too
-    pub factor_column : c ≡ cell_at x cells m x.column → IsCommonFactor x cells (m + 1) n g
+    pub factor_column : c ≡ cell_at x.height cells m x.column → IsCommonFactor x cells (m + 1) n g
     factor_column e = record {
       positive = positive_gcd h c g u.positive is;
       in_column = below_more _ _ in_column_still (rw (← e) (is.1.1));
@@ -49,7 +49,7 @@ module _ (x : Exchange) (cells : List ℤ) where
     }
 
     -- the cell of the row in column n too
-    pub factor_row : c ≡ cell_at x cells x.row n → IsCommonFactor x cells m (n + 1) g
+    pub factor_row : c ≡ cell_at x.height cells x.row n → IsCommonFactor x cells m (n + 1) g
     factor_row e = record {
       positive = positive_gcd h c g u.positive is;
       in_column = in_column_still;

@@ -3,8 +3,7 @@ use Rattle.std.proofs.Common.{◌≡◌, ◌≢◌, ℕ, ℤ, ◌+◌, ◌*◌, 
 use Rattle.std.specs.Prelude.{◌<ℤ◌, unsigned_abs}
 use Rattle.std.proofs.lemmas.Nat.{mul-add-lt}
 use Rattle.poly_num.specs.Halves.{IsHalf}
-use Rattle.dictionary.proofs.LeftLemmas.{quotient_half}
-use Rattle.dictionary.proofs.UndividedLemmas.{turned_size}
+use Rattle.columns.proofs.DivisorLemmas.{quotient_half, turned_size}
 use Rattle.columns.specs.declared.exchange.Exchange.{Exchange}
 use Rattle.columns.specs.Cells.{cell_at, place}
 use Rattle.columns.specs.HalfCells.{AreHalvesTo}
@@ -29,7 +28,7 @@ turned_half t z e h = let f = turned_size t z e in omega arith
 pub own_halves : (x : Exchange) (cells : List ℤ) (t h : ℤ) (own : List ℤ) → x.column < x.width → pos 0 <ℤ h →
     unsigned_abs t ≡ 1 → IsOwnColumn x cells t h own → AreHalvesTo (x.width * x.height) cells → AreHalvesTo x.height own
 own_halves x cells t h own lt positive size u halves i l =
-    let a = cell_at x cells i x.column in
+    let a = cell_at x.height cells i x.column in
     let inside = mul-add-lt x.column x.height i x.width lt l in
     quotient_half (get_or own i (pos 0)) h (t *ℤ a) positive (u.same i l)
-    (turned_half t a size (halves (place x i x.column) (omega (arith, inside))))
+    (turned_half t a size (halves (place x.height i x.column) (omega (arith, inside))))

@@ -9,9 +9,8 @@ use Rattle.poly_num.specs.Vectors.{DividesEach, IsPrimitive}
 use Rattle.poly_num.proofs.Ring.{expand, lin, zero_mul, mul_assoc}
 use Rattle.poly_num.proofs.Order.{positive_product, positive_factor}
 use Rattle.poly_num.proofs.DivisorLemmas.{quotient_times, unsigned_abs-neg, dvd-multiple}
-use Rattle.dictionary_laws.proofs.Sizes.{size_positive}
-use Rattle.dictionary.proofs.Reduced.{get_or-zero}
-use Rattle.dictionary.proofs.UndividedLemmas.{turned_size}
+use Rattle.columns.proofs.DivisorLemmas.{size_positive, turned_size}
+use Rattle.columns.proofs.MadePrimitive.{get_or-zero}
 use Rattle.columns.specs.declared.exchange.Exchange.{Exchange}
 use Rattle.columns.specs.declared.step.Factors.{Factors}
 use Rattle.columns.specs.Cells.{cell_at, place, pivot_of, AllowsExchange, IsNewCell, IsTableAfter, HasUnit}
@@ -75,7 +74,7 @@ module _ (x : Exchange) (old new : List ℤ) (f : Factors) (g : ℤ) (can : Allo
     new_multiple : (i j : ℕ) → i < x.height → j < x.width →
         (q : ℤ) × IsNewCell x old i j ((f.sign *ℤ f.common) *ℤ (pos more *ℤ q))
     new_multiple i j hi hj =
-        let q = multiple_at d new (place x i j) divides in (
+        let q = multiple_at d new (place x.height i j) divides in (
           q.0,
           subst (λ (z : ℤ). IsNewCell x old i j ((f.sign *ℤ f.common) *ℤ z))
               (ap (λ (z : ℤ). g *ℤ z) q.1 ∙ both_out d g q.0 u.positive)
@@ -91,21 +90,21 @@ module _ (x : Exchange) (old new : List ℤ) (f : Factors) (g : ℤ) (can : Allo
         (divides_product more f.sign f.common q.0 are.turned.size)
 
     in_column : (i : ℕ) → i < x.height →
-        more * unsigned_abs f.common ∣ unsigned_abs x.denominator * unsigned_abs (cell_at x old i x.column)
+        more * unsigned_abs f.common ∣ unsigned_abs x.denominator * unsigned_abs (cell_at x.height old i x.column)
     in_column i hi =
-        let c = cell_at x old i x.column in
+        let c = cell_at x.height old i x.column in
         subst (λ (n : ℕ). more * unsigned_abs f.common ∣ n)
         (unsigned_abs-mul c x.denominator ∙ mul_comm (unsigned_abs c) (unsigned_abs x.denominator))
         (divides_new_cell i x.column hi can.column (c *ℤ x.denominator)
         (record { column = λ _. refl; inside = λ n. absurd (n refl) }))
 
     in_other : (j : ℕ) → j < x.width → j ≢ x.column →
-        more * unsigned_abs f.common ∣ unsigned_abs x.denominator * unsigned_abs (cell_at x old x.row j)
+        more * unsigned_abs f.common ∣ unsigned_abs x.denominator * unsigned_abs (cell_at x.height old x.row j)
     in_other j hj n =
         let k = unit.0 in
-        let a = cell_at x old k j in
-        let c = cell_at x old k x.column in
-        let r = cell_at x old x.row j in
+        let a = cell_at x.height old k j in
+        let c = cell_at x.height old k x.column in
+        let r = cell_at x.height old x.row j in
         subst (λ (m : ℕ). more * unsigned_abs f.common ∣ m)
         (unit_size a (pivot_of x old) c x.denominator r (unit.1.others j hj n) unit.1.own)
         (divides_new_cell k j unit.1.within hj (a *ℤ pivot_of x old -ℤ c *ℤ r)
@@ -142,7 +141,7 @@ module _ (x : Exchange) (old new : List ℤ) (f : Factors) (g : ℤ) (can : Allo
     cells = (
       (f.sign *ℤ f.common) *ℤ g,
       λ i j hi hj.
-          subst (IsNewCell x old i j) (sym (mul_assoc (f.sign *ℤ f.common) g (cell_at x new i j))) (u.done i j hi hj),
+          subst (IsNewCell x old i j) (sym (mul_assoc (f.sign *ℤ f.common) g (cell_at x.height new i j))) (u.done i j hi hj),
     );
     positive = positive;
     least = primitive;

@@ -4,3 +4,5 @@ pub mod HalfCellLemmas
 pub mod OverLemmas
 pub mod LeastCells
 pub mod WideLemmas
+pub mod DivisorLemmas
+pub mod MadePrimitive

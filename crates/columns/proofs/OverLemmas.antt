@@ -45,20 +45,20 @@ inside_cell t h p c e a r v ec ep =
 -- what is to be divided is the new cell, over the sign of the pivot's cell times the common factor
 module _ (x : Exchange) (before : Before) (step : Step) (f : Factors)
     (are : AreFactors x before.cells.now f) (own : IsOwnColumn x before.cells.now f.sign f.common before.own.now)
-    (same : step.p ≡ f.p) (cell : step.b ≡ cell_at x before.cells.now x.row step.column) where
+    (same : step.p ≡ f.p) (cell : step.b ≡ cell_at x.height before.cells.now x.row step.column) where
   pub numerator_is : (i : ℕ) → i < x.height → (n : ℤ) → IsNumerator x before step i n →
       IsNewCell x before.cells.now i step.column ((f.sign *ℤ f.common) *ℤ n)
   numerator_is i hi n is =
       let old = before.cells.now in
       let c = get_or before.own.now i (pos 0) in
-      let a = cell_at x old i x.column in
+      let a = cell_at x.height old i x.column in
       let square = are.turned.square in
       let ec : f.sign *ℤ (c *ℤ f.common) ≡ a = turned_back f.sign (c *ℤ f.common) a square (own.same i hi) in
       record {
         column = λ e. rw (is.own e) (own_cell f.sign f.common c a x.denominator ec);
         inside = λ ne.
             rw (is.inside ne, cell, same)
-            (inside_cell f.sign f.common f.p c (cell_at x old i step.column) a (cell_at x old x.row step.column)
+            (inside_cell f.sign f.common f.p c (cell_at x.height old i step.column) a (cell_at x.height old x.row step.column)
             (pivot_of x old) ec (turned_back f.sign (f.p *ℤ f.common) (pivot_of x old) square are.pivot));
       }
 
@@ -69,7 +69,7 @@ module _ (x : Exchange) (old : List ℤ) (f : ℤ) where
     pub same_length : length now ≡ length old
     pub positive : pos 0 <ℤ g
     pub divides : unsigned_abs g ∣ unsigned_abs x.denominator
-    pub done : (i j : ℕ) → i < x.height → j < n → IsNewCell x old i j (f *ℤ (g *ℤ cell_at x now i j))
+    pub done : (i j : ℕ) → i < x.height → j < n → IsNewCell x old i j (f *ℤ (g *ℤ cell_at x.height now i j))
     pub greatest : (k : ℕ) → k ∣ unsigned_abs x.denominator →
         ((i j : ℕ) → i < x.height → j < n → (q : ℤ) × IsNewCell x old i j (f *ℤ (pos k *ℤ q))) → k ∣ unsigned_abs g
 
@@ -95,19 +95,19 @@ module _ (x : Exchange) (old : List ℤ) (f : ℤ) where
         subst (λ (y : ℤ). k ∣ unsigned_abs y) (ring.mul_comm d.0 (pos k) ∙ sym e) (dvd-multiple (pos k) d.0)
 
     -- the cells of the step's column, and those before
-    done_here : (a : ℕ) → a < x.height → IsNewCell x old a step.column (f *ℤ (h *ℤ cell_at x now a step.column))
+    done_here : (a : ℕ) → a < x.height → IsNewCell x old a step.column (f *ℤ (h *ℤ cell_at x.height now a step.column))
     done_here a ha =
-        let y = cell_at x now a step.column in
+        let y = cell_at x.height now a step.column in
         subst (λ (z : ℤ). IsNewCell x old a step.column (f *ℤ z)) (ring.mul_comm y h)
         (is a ha (y *ℤ h) (c.written a ha))
 
-    done_before : (a b : ℕ) → a < x.height → b < step.column → IsNewCell x old a b (f *ℤ (g *ℤ cell_at x mid a b)) →
-        IsNewCell x old a b (f *ℤ (h *ℤ cell_at x now a b))
+    done_before : (a b : ℕ) → a < x.height → b < step.column → IsNewCell x old a b (f *ℤ (g *ℤ cell_at x.height mid a b)) →
+        IsNewCell x old a b (f *ℤ (h *ℤ cell_at x.height now a b))
     done_before a b ha lt u =
         let l = mul-add-lt b x.height a step.column lt ha in
-        let e = c.rescaled (place x a b) (omega (arith, mul_comm x.height step.column)) in
+        let e = c.rescaled (place x.height a b) (omega (arith, mul_comm x.height step.column)) in
         subst (λ (z : ℤ). IsNewCell x old a b (f *ℤ z))
-        (ring.mul_comm g (cell_at x mid a b) ∙ sym e ∙ ring.mul_comm (cell_at x now a b) h) u
+        (ring.mul_comm g (cell_at x.height mid a b) ∙ sym e ∙ ring.mul_comm (cell_at x.height now a b) h) u
 
     pub over_column : IsOver step.column g mid → IsOver (step.column + 1) h now
     over_column u = record {

@@ -5,11 +5,10 @@ use Rattle.std.proofs.lemmas.Nat.{mul-add-lt}
 use Rattle.poly_num.proofs.Ring.{lin}
 use Rattle.poly_num.proofs.Order.{zero_factor}
 use Rattle.poly_num.proofs.VectorLemmas.{length-scale}
-use Rattle.dictionary.specs.Cells.{IsMadePrimitive}
-use Rattle.dictionary.proofs.Reduced.{get_or-scale}
+use Rattle.columns.proofs.MadePrimitive.{get_or-scale}
 use Rattle.columns.specs.declared.exchange.Exchange.{Exchange}
 use Rattle.columns.specs.Cells.{place, pivot_of, AllowsExchange, IsNewCell, IsTableAfter}
-use Rattle.columns.specs.Steps.{IsNewColumn, AreNewColumns, AreKept}
+use Rattle.columns.specs.Steps.{IsNewColumn, AreNewColumns, AreKept, IsMadePrimitive}
 use Rattle.columns.proofs.ColumnLemmas.{column_more}
 
 module _ (x : Exchange) (old : List ℤ) where
@@ -29,7 +28,7 @@ module _ (x : Exchange) (old : List ℤ) where
         let lt : b < j = omega arith in
         let l = mul-add-lt b x.height a j lt ha in
         subst (λ (y : ℤ). IsNewCell x old a b y)
-        (sym (kept.kept (place x a b) (omega (arith, mul_comm x.height j)))) (u.written a b ha lt))
+        (sym (kept.kept (place x.height a b) (omega (arith, mul_comm x.height j)))) (u.written a b ha lt))
         (cases_eq b j);
   }
 
@@ -44,7 +43,7 @@ module _ (x : Exchange) (old : List ℤ) where
             g,
             λ i j hi hj.
                 subst (IsNewCell x old i j)
-                (ap (λ v. get_or v (place x i j) (pos 0)) made.multiple.1 ∙ get_or-scale g new (place x i j))
+                (ap (λ v. get_or v (place x.height i j) (pos 0)) made.multiple.1 ∙ get_or-scale g new (place x.height i j))
                 (cells.written i j hi hj),
           );
           positive = made.positive;

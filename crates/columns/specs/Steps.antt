@@ -1,14 +1,14 @@
 -- The exchange column by column, over a divisor that shrinks where it does not divide a column.
-use Rattle.std.specs.Prelude.{◌≡◌, ◌≢◌, ℕ, ℤ, ◌<◌, ◌*◌, ◌*ℤ◌, ◌-ℤ◌, ◌<ℤ◌, pos, List, length, unsigned_abs, IsTrue}
+use Rattle.std.specs.Prelude.{◌≡◌, ◌≢◌, ℕ, ℤ, ◌<◌, ◌≤◌, ◌*◌, ◌*ℤ◌, ◌-ℤ◌, ◌<ℤ◌, pos, List, length, unsigned_abs, IsTrue}
 use Rattle.std.specs.List.{slice_index_or}
 use Prim.Native.Nat.{◌∣◌}
 use Rattle.poly_num.specs.Halves.{IsHalf}
+use Rattle.poly_num.specs.Vectors.{IsPrimitive, scale}
 use Rattle.columns.specs.declared.exchange.Exchange.{Exchange}
 use Rattle.columns.specs.declared.step.Before.{Before}
 use Rattle.columns.specs.declared.step.Step.{Step}
 use Rattle.columns.specs.declared.step.Scale.{Scale}
 use Rattle.columns.specs.declared.step.Factors.{Factors}
-use Rattle.dictionary.specs.WordExchange.{IsSignOf}
 use Rattle.columns.specs.Cells.{cell_at, pivot_of, IsNewCell}
 use Rattle.columns.specs.HalfCells.{AreHalvesTo}
 
@@ -17,21 +17,27 @@ use Rattle.columns.specs.HalfCells.{AreHalvesTo}
 pub record DividesTimes (x : Exchange) (cells : List ℤ) (m n d k : ℕ) : Type 0 where
   pub denominator : d ∣ k * unsigned_abs x.denominator
   pub pivot : d ∣ k * unsigned_abs (pivot_of x cells)
-  pub column : (i : ℕ) → i < m → d ∣ k * unsigned_abs (cell_at x cells i x.column)
-  pub row : (j : ℕ) → j < n → d ∣ k * unsigned_abs (cell_at x cells x.row j)
+  pub column : (i : ℕ) → i < m → d ∣ k * unsigned_abs (cell_at x.height cells i x.column)
+  pub row : (j : ℕ) → j < n → d ∣ k * unsigned_abs (cell_at x.height cells x.row j)
 
 -- h divides the first m cells of the exchange's column and the first n cells of its row; and what divides a multiple of
 -- each of them, of the denominator and of the pivot's cell divides that of h
 pub record IsCommonFactor (x : Exchange) (cells : List ℤ) (m n : ℕ) (h : ℤ) : Type 0 where
   pub positive : pos 0 <ℤ h
-  pub in_column : (i : ℕ) → i < m → unsigned_abs h ∣ unsigned_abs (cell_at x cells i x.column)
-  pub in_row : (j : ℕ) → j < n → unsigned_abs h ∣ unsigned_abs (cell_at x cells x.row j)
+  pub in_column : (i : ℕ) → i < m → unsigned_abs h ∣ unsigned_abs (cell_at x.height cells i x.column)
+  pub in_row : (j : ℕ) → j < n → unsigned_abs h ∣ unsigned_abs (cell_at x.height cells x.row j)
   pub greatest : (d k : ℕ) → DividesTimes x cells m n d k → d ∣ k * unsigned_abs h
+
+-- t is 1 or -1, as z is positive or negative
+pub record IsSignOf (z t : ℤ) : Type 0 where
+  pub size : unsigned_abs t ≡ 1
+  pub square : t *ℤ t ≡ pos 1
+  pub positive : z ≢ pos 0 → pos 0 <ℤ (t *ℤ z)
 
 -- `own` has the cells of the exchange's column over h, with the sign t
 pub record IsOwnColumn (x : Exchange) (cells : List ℤ) (t h : ℤ) (own : List ℤ) : Type 0 where
   pub height : length own ≡ x.height
-  pub same : (i : ℕ) → i < x.height → slice_index_or own i (pos 0) *ℤ h ≡ t *ℤ cell_at x cells i x.column
+  pub same : (i : ℕ) → i < x.height → slice_index_or own i (pos 0) *ℤ h ≡ t *ℤ cell_at x.height cells i x.column
 
 -- the common factor, the sign of the pivot's cell, and that cell over the factor with the sign
 pub record AreFactors (x : Exchange) (cells : List ℤ) (factors : Factors) : Type 0 where
@@ -69,16 +75,29 @@ pub record IsScale (x : Exchange) (scale : Scale) : Type 0 where
 pub record IsNumerator (x : Exchange) (before : Before) (step : Step) (i : ℕ) (n : ℤ) : Type 0 where
   pub own : step.column ≡ x.column → n ≡ slice_index_or before.own.now i (pos 0) *ℤ x.denominator
   pub inside : step.column ≢ x.column →
-      n ≡ cell_at x before.cells.now i step.column *ℤ step.p -ℤ slice_index_or before.own.now i (pos 0) *ℤ step.b
+      n ≡ cell_at x.height before.cells.now i step.column *ℤ step.p -ℤ slice_index_or before.own.now i (pos 0) *ℤ step.b
 
 -- the first n cells of the step's column are over g what is to be divided
 abbrev pub IsColumnWritten : Exchange → Before → Step → ℕ → ℤ → List ℤ → Type 0
-IsColumnWritten x before step n g new = (i : ℕ) → i < n → IsNumerator x before step i (cell_at x new i step.column *ℤ g)
+IsColumnWritten x before step n g new = (i : ℕ) → i < n → IsNumerator x before step i (cell_at x.height new i step.column *ℤ g)
 
 -- the first n numbers are as they were
 pub record AreKept (n : ℕ) (old new : List ℤ) : Type 0 where
   pub same_length : length new ≡ length old
   pub kept : (k : ℕ) → k < n → slice_index_or new k (pos 0) ≡ slice_index_or old k (pos 0)
+
+-- the numbers before the place are `factor` times as large, the others as before
+pub record IsScaled (place : ℕ) (factor : ℤ) (old new : List ℤ) : Type 0 where
+  pub same_length : length new ≡ length old
+  pub scaled : (k : ℕ) → k < place → slice_index_or new k (pos 0) ≡ slice_index_or old k (pos 0) *ℤ factor
+  pub rest : (k : ℕ) → place ≤ k → slice_index_or new k (pos 0) ≡ slice_index_or old k (pos 0)
+
+-- the numbers before the place, which were over g, are over h, the others as before
+pub record IsRescaled (place : ℕ) (g h : ℤ) (old new : List ℤ) : Type 0 where
+  pub same_length : length new ≡ length old
+  pub scaled : (k : ℕ) → k < place →
+      slice_index_or new k (pos 0) *ℤ h ≡ slice_index_or old k (pos 0) *ℤ g
+  pub rest : (k : ℕ) → place ≤ k → slice_index_or new k (pos 0) ≡ slice_index_or old k (pos 0)
 
 -- h is what is left of the divisor g where it is to divide the step's column down to row m
 pub record IsLeftOfColumn (x : Exchange) (before : Before) (step : Step) (m : ℕ) (g h : ℤ) : Type 0 where
@@ -97,8 +116,14 @@ pub record IsColumnDone (x : Exchange) (before : Before) (step : Step) (g h : �
 
 -- the first n cells of column j are those after the exchange, before anything is divided out
 pub record IsNewColumn (x : Exchange) (old : List ℤ) (j n : ℕ) (new : List ℤ) : Type 0 where
-  pub written : (i : ℕ) → i < n → IsNewCell x old i j (cell_at x new i j)
+  pub written : (i : ℕ) → i < n → IsNewCell x old i j (cell_at x.height new i j)
 
 -- and all cells of the columns before column n
 pub record AreNewColumns (x : Exchange) (old : List ℤ) (n : ℕ) (new : List ℤ) : Type 0 where
-  pub written : (i j : ℕ) → i < x.height → j < n → IsNewCell x old i j (cell_at x new i j)
+  pub written : (i j : ℕ) → i < x.height → j < n → IsNewCell x old i j (cell_at x.height new i j)
+
+-- the common divisor is divided out, and the number at the place is positive
+pub record IsMadePrimitive (place : ℕ) (old new : List ℤ) : Type 0 where
+  pub multiple : (g : ℤ) × (old ≡ scale g new)
+  pub positive : pos 0 <ℤ slice_index_or new place (pos 0)
+  pub least : IsPrimitive new

@@ -61,7 +61,7 @@ impl Cells {
         requires size { length self.now ≡ x.now.width * x.now.height }
         requires row { i < x.now.height }
         requires column { j < x.now.width }
-        ensures { result ≡ cell_at x.now self.now i j }
+        ensures { result ≡ cell_at x.now.height self.now i j }
     {
         if self.is_wide {
             number_at(&self.wide, x, i, j)
@@ -91,7 +91,7 @@ fn number_at(cells: &[Num], x: &Exchange, i: usize, j: usize) -> Num
     requires size { length cells.now ≡ x.now.width * x.now.height }
     requires row { i < x.now.height }
     requires column { j < x.now.width }
-    ensures { result ≡ cell_at x.now cells.now i j }
+    ensures { result ≡ cell_at x.now.height cells.now i j }
 {
     cells[j * x.height + i]
 }

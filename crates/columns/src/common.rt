@@ -3,9 +3,8 @@ ghost use Rattle.std.specs.Option.{IfSome};
 ghost use Rattle.std.specs.Prelude.{◌≡◌, ◌<◌, ◌*◌, ◌*ℤ◌, ◌<ℤ◌, ◌↔◌, IsTrue, pos, length, unsigned_abs};
 ghost use Prim.Native.Nat.{◌∣◌};
 ghost use Rattle.poly_num.specs.Divisors.{IsGcdOf};
-ghost use Rattle.dictionary.specs.WordExchange.{IsSignOf};
 ghost use Rattle.columns.specs.Cells.{AllowsExchange};
-ghost use Rattle.columns.specs.Steps.{IsCommonFactor, IsOwnColumn, AreFactors};
+ghost use Rattle.columns.specs.Steps.{IsSignOf, IsCommonFactor, IsOwnColumn, AreFactors};
 
 use crate::exchange::{Exchange, word_at};
 use crate::step::Factors;

@@ -32,7 +32,7 @@ pub(crate) fn word_at(cells: &[Word], x: &Exchange, i: usize, j: usize) -> Word
     requires size { length cells.now ≡ x.now.width * x.now.height }
     requires row { i < x.now.height }
     requires column { j < x.now.width }
-    ensures { result ≡ cell_at x.now cells.now i j }
+    ensures { result ≡ cell_at x.now.height cells.now i j }
 {
     cells[j * x.height + i]
 }

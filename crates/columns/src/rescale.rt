@@ -1,7 +1,6 @@
 //! Where the divisor does not divide a column: it shrinks, and the columns before grow.
 ghost use Rattle.std.specs.Prelude.{◌≡◌, ◌≢◌, ◌<◌, ◌*◌, ◌<ℤ◌, IsTrue, IsFalse, pos, length};
-ghost use Rattle.dictionary.specs.WordExchange.{IsScaled};
-ghost use Rattle.columns.specs.Steps.{IsBefore, IsOtherStep, IsScale, IsNumerator, IsLeftOfColumn, IsColumnDone};
+ghost use Rattle.columns.specs.Steps.{IsBefore, IsOtherStep, IsScale, IsNumerator, IsLeftOfColumn, IsColumnDone, IsScaled};
 
 use crate::column::other_column;
 use crate::exchange::{Exchange, at_place};

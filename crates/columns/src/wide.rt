@@ -1,9 +1,8 @@
 //! The exchange of a row and a column in numbers of 127 bits, into another table, and that in words before it.
 ghost use Rattle.std.specs.Prelude.{◌≡◌, ◌≢◌, ◌<◌, ◌*◌, ◌+◌, ◌<ℤ◌, IsTrue, MatchOption, pos, length};
 ghost use Rattle.std.specs.List.{slice_index_or};
-ghost use Rattle.dictionary.specs.Cells.{IsMadePrimitive};
 ghost use Rattle.columns.specs.Cells.{AllowsExchange, HasUnit, IsNewCell, IsTableAfter, CellPasses};
-ghost use Rattle.columns.specs.Steps.{IsNewColumn, AreNewColumns, AreKept};
+ghost use Rattle.columns.specs.Steps.{IsNewColumn, AreNewColumns, AreKept, IsMadePrimitive};
 
 use crate::cells::Cells;
 use crate::exchange::Exchange;

@@ -2,7 +2,7 @@ use Rattle.std.proofs.Common.{◌≡◌, ℤ, pos, arith, sym, subst}
 use Rattle.std.proofs.Math.Nat.{one-dvd}
 use Rattle.poly_num.specs.Divisors.{IsGcdOf}
 use Rattle.poly_num.proofs.Ring.{lin}
-use Rattle.dictionary.proofs.CommonLemmas.{gcd_divides}
+use Rattle.columns.proofs.DivisorLemmas.{gcd_divides}
 use Rattle.columns.proofs.common.common_with.Goals as goal
 
 pub returns-then-is_one : goal.returns-then-is_one

@@ -1,7 +1,7 @@
 use Rattle.std.proofs.Common.{◌≡◌, ◌∙◌, ap, ℤ, ◌*ℤ◌}
 use Rattle.std.specs.Prelude.{int_div}
 use Rattle.poly_num.proofs.Ring.{mul_assoc}
-use Rattle.dictionary.proofs.LeftLemmas.{quotient_exact}
+use Rattle.columns.proofs.DivisorLemmas.{quotient_exact}
 use Rattle.columns.proofs.common.signed_over.Goals as goal
 
 pub returns : goal.returns

@@ -1,6 +1,6 @@
 use Rattle.std.proofs.Common.{◌≡◌, subst, sym, ℤ, ℕ, ◌∙◌, arith, ◌*ℤ◌, refl, mul_comm}
 use Rattle.poly_num.proofs.Ring.{one_mul}
-use Rattle.dictionary.proofs.UndividedLemmas.{factor_nonzero}
+use Rattle.columns.proofs.DivisorLemmas.{factor_nonzero}
 use Rattle.columns.specs.declared.step.Step.{Step}
 use Rattle.columns.specs.Cells.{pivot_of}
 use Rattle.columns.specs.HalfCells.{AreHalvesTo}

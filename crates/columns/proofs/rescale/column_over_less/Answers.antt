@@ -1,8 +1,8 @@
 use Rattle.std.proofs.Common.{◌≡◌, ◌∙◌, ap, subst, sym, ℤ, ◌*ℤ◌, ◌*◌}
 use Rattle.poly_num.proofs.Ring.{mul_assoc}
-use Rattle.dictionary.proofs.LeftLemmas.{quotient_exact, rescaled}
 use Rattle.columns.specs.Steps.{IsLeftOfColumn}
-use Rattle.columns.proofs.ColumnLemmas.{done_less}
+use Rattle.columns.proofs.ColumnLemmas.{done_less, rescaled}
+use Rattle.columns.proofs.DivisorLemmas.{quotient_exact}
 use Rattle.columns.proofs.rescale.column_over_less.Goals.{After-new}
 use Rattle.columns.proofs.rescale.column_over_less.Goals as goal
 
@@ -46,6 +46,6 @@ returns-in-Some-other_column-clause-done c _ =
     let u = left a in
     done_less x c.args.before.now step c.args.shrinking.now.divisor c.new.result c.args.new.now c.scale_columns.new.new
     c.other_column.new.new u
-    (rescaled (step.column * x.height) c.args.shrinking.now.divisor c.new.result c.in-Some-of.k u.positive (times a)
+    (rescaled (step.column * x.height) c.args.shrinking.now.divisor c.new.result c.in-Some-of.k (times a)
     c.args.new.now c.scale_columns.new.new (c.scale_columns.ensures.scaled c.if-not-scale_columns.false))
     c.other_column.ensures.kept c.in-Some-other_column.ensures.written

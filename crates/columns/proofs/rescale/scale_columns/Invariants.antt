@@ -1,4 +1,4 @@
-use Rattle.dictionary.specs.WordExchange.{IsScaled}
+use Rattle.columns.specs.Steps.{IsScaled}
 use Rattle.columns.proofs.rescale.scale_columns.Given as goal
 
 abbrev pub invariant-cells : goal.invariant-cells

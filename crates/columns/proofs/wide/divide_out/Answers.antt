@@ -1,4 +1,4 @@
-use Rattle.dictionary.proofs.Reduced.{kept, turned}
+use Rattle.columns.proofs.MadePrimitive.{kept, turned}
 use Rattle.columns.proofs.wide.divide_out.Goals as goal
 
 pub returns-then-not-is_positive : goal.returns-then-not-is_positive
