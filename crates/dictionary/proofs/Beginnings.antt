@@ -1,15 +1,15 @@
 -- The table of the coordinates is whole, and is the dictionary of the coordinates in its spaces.
-use Rattle.std.proofs.Common.{◌≡◌, ◌≢◌, ◌⊎◌, ℕ, zero, suc, ◌+◌, ◌-◌, ◌<◌, ◌≤◌, ◌++◌, Bool, true, false, ℤ, pos, cond, List, [], ◌∷◌, map, length, get_or, arith, refl, sym, ap, subst, ◌∙◌, inl, inr, ⊎_elim}
+use Rattle.std.proofs.Common.{◌≡◌, ◌≢◌, ℕ, zero, suc, ◌+◌, ◌-◌, ◌*◌, ◌<◌, ◌≤◌, ◌++◌, Bool, true, false, ℤ, pos, cond, List, [], ◌∷◌, map, length, get_or, arith, refl, sym, ap, subst, ◌∙◌, ⊎_elim}
 use Rattle.std.specs.Prelude.{◌==◌, if◌then◌else◌}
 use Rattle.std.specs.List.{Contains, range_with_len}
 use Rattle.std.proofs.lemmas.Bool.{cases_eq, eq-eqb, ne_eqb}
 use Rattle.std.proofs.lemmas.Int.{ints}
 use Rattle.std.proofs.lemmas.List.FromFn.{length-map-range_with_len}
-use Rattle.linear_laws.proofs.Members.{Contains-first, Contains-later, Contains-nil, all_at}
-use Rattle.std.proofs.lemmas.List.Elements.{Contains-append_right}
+use Rattle.std.proofs.lemmas.List.Elements.{Contains-append_left, Contains-append_right}
+use Rattle.linear_laws.proofs.Members.{Contains-nil}
 use Rattle.poly_model.specs.Limits.{most_columns, most_cone_rows}
 use Rattle.poly_model.specs.declared.overflow.Phase.{Phase}
-use Rattle.poly_model.specs.Keys.{IsAscending, IsKey}
+use Rattle.poly_model.specs.Keys.{IsKey}
 use Rattle.poly_model.specs.Systems.{Row, row_of}
 use Rattle.poly_model.specs.Cones.{at, coordinate}
 use Rattle.poly_model.specs.Spaces.{Space}
@@ -20,35 +20,17 @@ use Rattle.dictionary_laws.specs.Coordinates.{coordinate_key, HasCoordinates, co
 use Rattle.dictionary_laws.proofs.CoordinateDictionary.{coordinate_dictionary, form_at}
 use Rattle.dictionary_laws.proofs.CoordinateSpaces.{coordinate_keys}
 use Rattle.dictionary_laws.proofs.Filters.{range_only, ascending_range}
-use Rattle.dictionary_laws.proofs.Members.{contains_cases, all_from}
+use Rattle.dictionary_laws.proofs.KeyExchange.{ascending_distinct}
+use Rattle.dictionary_laws.proofs.Members.{contains_cases}
 use Rattle.dictionary_laws.proofs.SameLabels.{agreeing_dictionary}
-use Rattle.dictionary.specs.Views.{Dictionary, number, table_of, IsDictionaryIn, IsUnitRow, IsWhole}
-use Rattle.dictionary.specs.New.{first_label, row_cells}
+use Rattle.dictionary.specs.Views.{Dictionary, number, table_of, IsDictionaryIn, IsWhole}
+use Rattle.dictionary.specs.New.{first_label, first_width, first_number}
+use Rattle.dictionary.proofs.Joined.{joined_cases, ascending_joined}
+use Rattle.dictionary.proofs.Numbers.{own_number, other_number, row_number}
 use Rattle.dictionary.proofs.PlaceLemmas.{place_within}
-use Rattle.dictionary.proofs.FirstNumbers.{first_cells, first_labels, first_length, row_number, unit_number}
+use Rattle.dictionary.proofs.FirstNumbers.{first_cells, first_length, first_cell}
 
 -- ---- labels
-members : (ks ls : List ℕ) (k : ℕ) → Contains (ks ++ ls) k → Contains ks k ⊎ Contains ls k
-members [] ls k c = inr c
-members (x ∷ ks) ls k c =
-    ⊎_elim
-    (λ (e : k ≡ x). inl (subst (λ (i : ℕ). Contains (x ∷ ks) i) (sym e) (Contains-first x ks)))
-    (λ (d : Contains (ks ++ ls) k).
-    ⊎_elim (λ (h : Contains ks k). inl (Contains-later k x ks h)) (λ (h : Contains ls k). inr h) (members ks ls k d))
-    (contains_cases x (ks ++ ls) k c)
-
-pub ascending_joined : (ks ls : List ℕ) → IsAscending ks → IsAscending ls →
-    ((k l : ℕ) → Contains ks k → Contains ls l → k < l) → IsAscending (ks ++ ls)
-ascending_joined [] ls h g below = g
-ascending_joined (x ∷ ks) ls h g below = (
-  all_from (λ k. x < k) (ks ++ ls)
-      (λ k c. ⊎_elim
-      (λ (d : Contains ks k). all_at (λ i. x < i) ks h.0 k d)
-      (λ (d : Contains ls k). below x k (Contains-first x ks) d)
-      (members ks ls k c)),
-  ascending_joined ks ls h.1 g (λ k l c d. below k l (Contains-later k x ks c) d),
-)
-
 key_upper : (j m k : ℕ) → Contains (map coordinate_label (range_with_len j m)) k → k < coordinate_label (j + m)
 key_upper j zero k c = absurd (Contains-nil k c)
 key_upper j (suc m) k c =
@@ -70,11 +52,10 @@ coordinate_at (suc c) (suc j) =
     (λ (n : j ≢ c). ap (λ b. cond b (pos 1) (pos 0)) (ne_eqb j c n ∙ sym (ne_eqb (suc j) (suc c) (λ e. n (omega arith)))))
     (cases_eq j c)
 
--- the width of a row of cells
-width_of_row : (b : Bool) (n : ℕ) (entries : List ℤ) → 0 < n → length entries ≡ n →
-    length (row_cells b entries) ≡ suc (length (coordinate_key (first_label b) n))
-width_of_row true n entries h e = let l = length-map-range_with_len coordinate_label 1 (n - 1) in omega (arith, l, e)
-width_of_row false n entries h e = let l = length-map-range_with_len coordinate_label 0 (n - 0) in omega (arith, l, e)
+-- the width of a row of cells is the number of columns with the constants
+pub width_of_columns : (b : Bool) (n : ℕ) → 0 < n → suc (length (coordinate_key (first_label b) n)) ≡ first_width b n
+width_of_columns true n h = let l = length-map-range_with_len coordinate_label 1 (n - 1) in omega (arith, l)
+width_of_columns false n h = let l = length-map-range_with_len coordinate_label 0 (n - 0) in omega (arith, l)
 
 room_of_key : (b : Bool) (n : ℕ) → length (coordinate_key (first_label b) n) ≤ n
 room_of_key true n = let l = length-map-range_with_len coordinate_label 1 (n - 1) in omega (arith, l)
@@ -90,43 +71,45 @@ coordinates_are_key j n h = record {
   ascending = (coordinate_keys j n).ascending;
 }
 
-module _ (phase : Phase) (rows : List Row) (b : Bool) (n m : ℕ) (some : 0 < n) (narrow : n ≤ most_columns) (few : m ≤ most_cone_rows)
-    (widths : (i : ℕ) → 0 < i → i ≤ m → length (row_of rows i).entries ≡ n) where
+module _ (phase : Phase) (rows : List Row) (b : Bool) (n m : ℕ) (some : 0 < n) (narrow : n ≤ most_columns) (few : m ≤ most_cone_rows) where
   abbrev pub columns : List ℕ
   columns = coordinate_key (first_label b) n
 
-  abbrev pub cells_of : ℕ → List ℤ
-  cells_of i = row_cells b (row_of rows i).entries
+  abbrev pub labels : List ℕ
+  labels = range_with_len 1 m ++ columns
+
+  abbrev width : ℕ
+  width = suc (length columns)
 
   labels_apart : (k : ℕ) → Contains columns k → m < k
   labels_apart k c = let l = (coordinate_keys (first_label b) n).coordinates k c in omega (arith, l)
 
-  cell_widths : (i : ℕ) → 1 ≤ i → i < 1 + m → length (cells_of i) ≡ suc (length columns)
-  cell_widths i l h = width_of_row b n (row_of rows i).entries some (widths i l (omega arith))
+  no_column : (i : ℕ) → Contains (range_with_len 1 m) i → Contains columns i → ⊥
+  no_column i c d = let h = (range_only 1 m i c).1 in let g = labels_apart i d in omega (arith, h, g)
 
   abbrev pub first : Dictionary
   first = record {
     phase = phase;
-    labels = first_labels m columns;
+    labels = labels;
     key = columns;
     columns = columns;
+    rows = range_with_len 1 m;
     denominator = pos 1;
-    cells = first_cells cells_of m columns;
+    cells = first_cells (first_number b rows) m (first_width b n);
   }
 
-  coordinate_unit : (k : ℕ) → Contains columns k → IsUnitRow first k
-  coordinate_unit k c = record {
-    own = let l = place_within columns k c in
-        unit_number cells_of m columns labels_apart cell_widths k (suc (place_in columns k)) c (omega arith)
-        ∙ ap (λ t. cond t (pos 1) (pos 0)) (eq-eqb (suc (place_in columns k)) (suc (place_in columns k)) refl);
-    others = λ j h q.
-        unit_number cells_of m columns labels_apart cell_widths k j c h
-        ∙ ap (λ t. cond t (pos 1) (pos 0)) (ne_eqb j (suc (place_in columns k)) q);
-  }
+  same_width : width ≡ first_width b n
+  same_width = width_of_columns b n some
+
+  row_there : (i : ℕ) → Contains labels i → (Contains columns i → ⊥) → Contains (range_with_len 1 m) i
+  row_there i c n =
+      ⊎_elim (λ (d : Contains (range_with_len 1 m) i). d) (λ (d : Contains columns i). absurd (n d))
+      (joined_cases (range_with_len 1 m) columns i c)
 
   pub first_whole : IsWhole first
   first_whole = record {
-    size = first_length cells_of m columns labels_apart cell_widths;
+    size = first_length (first_number b rows) m (first_width b n)
+        ∙ ap (λ w. w * length (range_with_len 1 m)) (sym same_width);
     positive = omega (arith, ints);
     labels = ascending_joined (range_with_len 1 m) columns (ascending_range 1 m)
         (coordinate_keys (first_label b) n).ascending
@@ -134,7 +117,7 @@ module _ (phase : Phase) (rows : List Row) (b : Bool) (n m : ℕ) (some : 0 < n)
     below = λ i c. ⊎_elim
         (λ (d : Contains (range_with_len 1 m) i). let h = (range_only 1 m i d).1 in omega (arith, h))
         (λ (d : Contains columns i). let h = upper_of_key b n i some d in omega (arith, h))
-        (members (range_with_len 1 m) columns i c);
+        (joined_cases (range_with_len 1 m) columns i c);
     key = record {
       room = let l = room_of_key b n in omega (arith, l);
       ascending = (coordinate_keys (first_label b) n).ascending;
@@ -142,24 +125,37 @@ module _ (phase : Phase) (rows : List Row) (b : Bool) (n m : ℕ) (some : 0 < n)
     same = record { there = λ k c. c; back = λ k c. c };
     distinct = (coordinate_keys (first_label b) n).distinct;
     inside = λ k c. Contains-append_right (range_with_len 1 m) columns k c;
-    units = coordinate_unit;
+    distinct_rows = ascending_distinct (range_with_len 1 m) (ascending_range 1 m);
+    row_there = row_there;
+    row_back = λ i c. (Contains-append_left (range_with_len 1 m) columns i c, no_column i c);
   }
 
   -- in a space whose coordinates have these labels, and whose rows have these cells as forms
   module _ (space : Space) (h : HasCoordinates space columns) (same : first.labels ≡ space.labels)
-      (forms : (i j : ℕ) → 0 < i → i ≤ m → j < suc (length columns) → at j (space.form i) ≡ get_or (cells_of i) j (pos 0)) where
-    number_is : (i j : ℕ) → Contains space.labels i → j < suc (length columns) → at j (space.form i) ≡ number first i j
+      (forms : (i j : ℕ) → 0 < i → i ≤ m → j < width → at j (space.form i) ≡ first_number b rows i j) where
+    -- a coordinate is its own form
+    coordinate_is : (i j : ℕ) → Contains columns i → at j (space.form i) ≡ number first i j
+    coordinate_is i j d =
+        ap (λ v. at j v) (form_at space.form columns 1 h.forms i d (suc (place_in columns i)) (omega arith))
+        ∙ coordinate_at (suc (place_in columns i)) j
+        ∙ ⊎_elim
+        (λ (e : j ≡ suc (place_in columns i)).
+        ap (λ t. cond t (pos 1) (pos 0)) (eq-eqb j (suc (place_in columns i)) e) ∙ sym (own_number first i j d e))
+        (λ (n : j ≢ suc (place_in columns i)).
+        ap (λ t. cond t (pos 1) (pos 0)) (ne_eqb j (suc (place_in columns i)) n) ∙ sym (other_number first i j d n))
+        (cases_eq j (suc (place_in columns i)))
+
+    number_is : (i j : ℕ) → Contains space.labels i → j < width → at j (space.form i) ≡ number first i j
     number_is i j l hj =
         ⊎_elim
         (λ (d : Contains (range_with_len 1 m) i).
         let r = range_only 1 m i d in
-        forms i j r.0 (let u = r.1 in omega (arith, u)) hj
-        ∙ sym (row_number cells_of m columns labels_apart cell_widths i j r.0 (let u = r.1 in omega (arith, u)) hj))
-        (λ (d : Contains columns i).
-        ap (λ v. at j v) (form_at space.form columns 1 h.forms i d (suc (place_in columns i)) (omega arith))
-        ∙ coordinate_at (suc (place_in columns i)) j
-        ∙ sym (unit_number cells_of m columns labels_apart cell_widths i j d hj))
-        (members (range_with_len 1 m) columns i (subst (λ (ks : List ℕ). Contains ks i) (sym same) l))
+        let below : i ≤ m = let u = r.1 in omega (arith, u) in
+        forms i j r.0 below hj
+        ∙ sym (row_number first i j (no_column i d)
+        ∙ first_cell (first_number b rows) m (first_width b n) i j r.0 below (subst (λ (w : ℕ). j < w) same_width hj)))
+        (λ (d : Contains columns i). coordinate_is i j d)
+        (joined_cases (range_with_len 1 m) columns i (subst (λ (ks : List ℕ). Contains ks i) (sym same) l))
 
     agrees : Agree space columns (coordinate_table space columns) (table_of first)
     agrees = record {

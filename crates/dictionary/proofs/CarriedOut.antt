@@ -1,60 +1,63 @@
 -- What the fields of a `Dict` hold after a pivot is the pivot of what they held.
-use Rattle.std.proofs.Common.{◌≡◌, ℕ, suc, ◌-◌, ◌<◌, ℤ, List, length, set, remove, arith, refl, ap, subst}
-use Rattle.std.proofs.lemmas.List.{length-set}
+use Rattle.std.proofs.Common.{◌≡◌, ℕ, suc, ◌-◌, ◌<◌, ℤ, List, length, set, remove, arith, ap, subst, ◌∙◌, sym}
+use Rattle.std.specs.List.{Contains}
 use Rattle.poly_model.specs.Keys.{with_label}
 use Rattle.dictionary_laws.specs.Keys.{place_in}
 use Rattle.dictionary_laws.specs.Laws.{IsExchangedKey}
 use Rattle.dictionary_laws.proofs.KeyExchange.{exchanged_key}
-use Rattle.dictionary.specs.declared.exchange.Exchange.{Exchange}
-use Rattle.dictionary.specs.Cells.{pivot_cell, HasPivot, IsExchanged}
+use Rattle.columns.specs.declared.exchange.Exchange.{Exchange}
+use Rattle.columns.specs.Cells.{pivot_of, AllowsExchange, IsTableAfter}
 use Rattle.dictionary.specs.Views.{Dictionary, exchange_at, CanPivot, IsPivot, IsWhole}
+use Rattle.dictionary.proofs.Numbers.{row_number}
 use Rattle.dictionary.proofs.PlaceLemmas.{place_within, at_place}
 use Rattle.dictionary.proofs.Pivots.{pivot_is, whole_new}
 
-pub column_bound : (d : Dictionary) (r s : ℕ) → IsWhole d → CanPivot d r s → (x : Exchange) → x ≡ exchange_at d r s →
-    x.column < x.width
-column_bound d r s whole can x e = rw e (let l = place_within d.columns s (whole.same.there s can.inside) in omega arith)
+module _ (d : Dictionary) (r s : ℕ) (whole : IsWhole d) (can : CanPivot d r s) where
+  pub has_row : Contains d.rows r
+  has_row = whole.row_there r can.label (λ m. can.outside (whole.same.back r m))
 
-pub can_exchange : (d : Dictionary) (r s : ℕ) → IsWhole d → CanPivot d r s → HasPivot (exchange_at d r s) d.cells
-can_exchange d r s whole can = record {
-  row = place_within d.labels r can.label;
-  column = column_bound d r s whole can (exchange_at d r s) refl;
-  denominator = whole.positive;
-  nonzero = can.nonzero;
-}
+  pub has_column : Contains d.columns s
+  has_column = whole.same.there s can.inside
 
-pub place_bound : (d : Dictionary) (r s : ℕ) → IsWhole d → CanPivot d r s → (x : Exchange) → x ≡ exchange_at d r s →
-    (n : ℕ) → length d.columns ≡ n → x.column - 1 < n
-place_bound d r s whole can x e n same =
-    rw e (let l = place_within d.columns s (whole.same.there s can.inside) in omega (arith, same))
+  pub allows_exchange : AllowsExchange (exchange_at d r s) d.cells
+  allows_exchange = record {
+    size = whole.size;
+    row = place_within d.rows r has_row;
+    column = let l = place_within d.columns s has_column in omega arith;
+    denominator = whole.positive;
+    nonzero = λ e.
+        can.nonzero
+        (row_number d r (suc (place_in d.columns s)) (λ m. can.outside (whole.same.back r m)) ∙ e);
+  }
 
-pub width_after : (d : Dictionary) (r s i : ℕ) (x : Exchange) → x ≡ exchange_at d r s →
-    x.width ≡ suc (length (set d.columns i r))
-width_after d r s i x e = rw (e, length-set) refl
+  pub column_bound : (x : Exchange) → x ≡ exchange_at d r s → (n : ℕ) → length d.columns ≡ n → x.column - 1 < n
+  column_bound x e n same = rw e (let l = place_within d.columns s has_column in omega (arith, same))
 
-new_key : (d : Dictionary) (r s : ℕ) → IsWhole d → CanPivot d r s →
-    IsExchangedKey d.key (with_label r (remove d.key (place_in d.key s))) r s
-new_key d r s whole can =
-    let l = place_within d.key s can.inside in
-    subst (λ (i : ℕ). IsExchangedKey d.key (with_label r (remove d.key (place_in d.key s))) r i)
-    (at_place d.key s 0 can.inside)
-    (exchanged_key d.key r (place_in d.key s) whole.key can.outside l)
+  pub row_bound : (x : Exchange) → x ≡ exchange_at d r s → (n : ℕ) → length d.rows ≡ n → x.row < n
+  row_bound x e n same = rw e (let l = place_within d.rows r has_row in omega (arith, same))
 
-module _ (d : Dictionary) (r s : ℕ) (whole : IsWhole d) (can : CanPivot d r s) (x : Exchange)
-    (at : x ≡ exchange_at d r s) (cells news : List ℤ) (ex : IsExchanged x cells news) (same : cells ≡ d.cells) where
-  ex_at : IsExchanged (exchange_at d r s) d.cells news
-  ex_at = subst (λ (y : Exchange). IsExchanged y d.cells news) at
-      (subst (λ (v : List ℤ). IsExchanged x v news) same ex)
+  new_key : IsExchangedKey d.key (with_label r (remove d.key (place_in d.key s))) r s
+  new_key =
+      let l = place_within d.key s can.inside in
+      subst (λ (i : ℕ). IsExchangedKey d.key (with_label r (remove d.key (place_in d.key s))) r i)
+      (at_place d.key s 0 can.inside)
+      (exchanged_key d.key r (place_in d.key s) whole.key can.outside l)
 
-  pub carried_out : (key columns : List ℕ) (denominator : ℤ) (written : List ℤ) →
-      key ≡ with_label r (remove d.key (place_in d.key s)) → columns ≡ set d.columns (x.column - 1) r →
-      denominator ≡ pivot_cell x written → written ≡ news →
-      IsPivot d r s (record { phase = d.phase; labels = d.labels; key = key; columns = columns; denominator = denominator; cells = written })
-      × IsWhole (record { phase = d.phase; labels = d.labels; key = key; columns = columns; denominator = denominator; cells = written })
-  carried_out key columns denominator written ekey ecolumns edenominator ewritten =
-      let column = ap (λ (y : Exchange). y.column) at in
-      let place : x.column - 1 ≡ place_in d.columns s = omega arith in
-      rw (edenominator, ewritten, ecolumns, place, ekey, at) (
-        pivot_is d r s whole can news ex_at (with_label r (remove d.key (place_in d.key s))) (new_key d r s whole can),
-        whole_new d r s whole can news ex_at (with_label r (remove d.key (place_in d.key s))) (new_key d r s whole can),
-      )
+  module _ (x : Exchange) (at : x ≡ exchange_at d r s) (old news : List ℤ) (same : old ≡ d.cells) (least : ℤ)
+      (after : IsTableAfter x old least news) where
+    after_at : IsTableAfter (exchange_at d r s) d.cells least news
+    after_at = subst (λ (y : Exchange). IsTableAfter y d.cells least news) at
+        (subst (λ (v : List ℤ). IsTableAfter x v least news) same after)
+
+    pub carried_out : (key columns rows : List ℕ) → key ≡ with_label r (remove d.key (place_in d.key s)) →
+        columns ≡ set d.columns (x.column - 1) r → rows ≡ set d.rows x.row s →
+        IsPivot d r s (record { phase = d.phase; labels = d.labels; key = key; columns = columns; rows = rows; denominator = least; cells = news })
+        × IsWhole (record { phase = d.phase; labels = d.labels; key = key; columns = columns; rows = rows; denominator = least; cells = news })
+    carried_out key columns rows ekey ecolumns erows =
+        let column = ap (λ (y : Exchange). y.column) at in
+        let row : x.row ≡ place_in d.rows r = ap (λ (y : Exchange). y.row) at in
+        let place : x.column - 1 ≡ place_in d.columns s = omega arith in
+        rw (erows, ecolumns, place, row, ekey) (
+          pivot_is d r s whole can least news after_at (with_label r (remove d.key (place_in d.key s))) new_key,
+          whole_new d r s whole can least news after_at (with_label r (remove d.key (place_in d.key s))) new_key,
+        )

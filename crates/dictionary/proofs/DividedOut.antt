@@ -1,18 +1,27 @@
 -- The common divisor of all cells and the denominator is divided out of them.
-use Rattle.std.proofs.Common.{◌≡◌, ℕ, suc, ◌+◌, ◌-◌, ◌*◌, ◌<◌, ℤ, pos, ◌*ℤ◌, List, [], ◌∷◌, ◌++◌, length, get_or, take, arith, sym, ap, subst, ◌∙◌, length-append}
+use Rattle.std.proofs.Common.{◌≡◌, ◌≢◌, ℕ, zero, suc, ◌+◌, ◌-◌, ◌*◌, ◌<◌, ℤ, pos, ◌*ℤ◌, List, [], ◌∷◌, ◌++◌, length, get_or, take, arith, refl, sym, ap, subst, ◌∙◌, ⊎_elim, length-append}
+use Rattle.std.specs.List.{Contains}
+use Rattle.std.proofs.lemmas.Bool.{cases_eq}
 use Rattle.std.specs.Prelude.{◌<ℤ◌}
 use Rattle.std.proofs.lemmas.Int.{ints}
 use Rattle.std.proofs.lemmas.List.{take_more, take_all, same_from_push, map_push}
 use Rattle.poly_num.specs.Vectors.{scale, IsZero, IsPrimitive}
 use Rattle.poly_num.specs.Divisors.{MakesPrimitive}
-use Rattle.poly_num.proofs.Order.{positive_factor, positive_nonzero, cancel, zero_factor}
+use Rattle.poly_num.proofs.Order.{positive_factor, positive_nonzero}
+use Rattle.poly_num.proofs.Ring.{mul_zero}
 use Rattle.poly_num.proofs.VectorLemmas.{length-scale}
 use Rattle.linear_laws.proofs.AllLemmas.{all_right}
 use Rattle.dictionary_laws.specs.Keys.{place_in}
-use Rattle.dictionary.specs.Cells.{cell}
-use Rattle.dictionary.specs.Views.{Dictionary, number, IsUnitRow, IsWhole}
+use Rattle.dictionary_laws.proofs.Members.{contains_or}
+use Rattle.columns.specs.Cells.{place, cell_at}
+use Rattle.dictionary.specs.Views.{Dictionary, number, IsWhole}
 use Rattle.dictionary.specs.MainPhase.{IsDividedOut}
-use Rattle.dictionary.proofs.Reduced.{get_or-scale}
+use Rattle.dictionary.proofs.Numbers.{own_number, other_number, row_number}
+
+get_or-scale : (g : ℤ) (v : List ℤ) (k : ℕ) → get_or (scale g v) k (pos 0) ≡ g *ℤ get_or v k (pos 0)
+get_or-scale g [] k = sym (mul_zero g)
+get_or-scale g (x ∷ v) zero = refl
+get_or-scale g (x ∷ v) (suc k) = get_or-scale g v k
 
 positive_pos : (g : ℕ) → 0 < g → pos 0 <ℤ pos g
 positive_pos g l = omega (arith, ints)
@@ -67,19 +76,21 @@ module _ (d : Dictionary) (least : ℤ) (cells : List ℤ) (h : IsDividedOut d.c
   -- each number is the divisor times what is left
   pub times_left : (i j : ℕ) → number d i j ≡ pos h.factor *ℤ number divided_of i j
   times_left i j =
-      ap (λ v. cell (suc (length d.columns)) v (place_in d.labels i) j) h.multiple
-      ∙ get_or-scale (pos h.factor) cells (place_in d.labels i * suc (length d.columns) + j)
-
-  divided_unit : (k : ℕ) → IsUnitRow d k → IsUnitRow divided_of k
-  divided_unit k unit = record {
-    own = cancel (pos h.factor) (number divided_of k (suc (place_in d.columns k))) least
-        (positive_nonzero (pos h.factor) positive_divisor)
-        (sym (times_left k (suc (place_in d.columns k))) ∙ unit.own ∙ h.over);
-    others = λ j l n.
-        zero_factor (pos h.factor) (number divided_of k j)
-        (sym (times_left k j) ∙ unit.others j l n)
-        (positive_nonzero (pos h.factor) positive_divisor);
-  }
+      ⊎_elim
+      (λ (c : Contains d.columns i).
+      ⊎_elim
+      (λ (e : j ≡ suc (place_in d.columns i)).
+      own_number d i j c e ∙ h.over ∙ ap (λ z. pos h.factor *ℤ z) (sym (own_number divided_of i j c e)))
+      (λ (n : j ≢ suc (place_in d.columns i)).
+      other_number d i j c n ∙ sym (mul_zero (pos h.factor))
+      ∙ ap (λ z. pos h.factor *ℤ z) (sym (other_number divided_of i j c n)))
+      (cases_eq j (suc (place_in d.columns i))))
+      (λ (n : Contains d.columns i → ⊥).
+      row_number d i j n
+      ∙ ap (λ v. cell_at (length d.rows) v (place_in d.rows i) j) h.multiple
+      ∙ get_or-scale (pos h.factor) cells (place (length d.rows) (place_in d.rows i) j)
+      ∙ ap (λ z. pos h.factor *ℤ z) (sym (row_number divided_of i j n)))
+      (contains_or d.columns i)
 
   pub whole_divided : IsWhole d → IsWhole divided_of
   whole_divided whole = record {
@@ -92,5 +103,7 @@ module _ (d : Dictionary) (least : ℤ) (cells : List ℤ) (h : IsDividedOut d.c
     same = whole.same;
     distinct = whole.distinct;
     inside = whole.inside;
-    units = λ k c. divided_unit k (whole.units k c);
+    distinct_rows = whole.distinct_rows;
+    row_there = whole.row_there;
+    row_back = whole.row_back;
   }

@@ -98,11 +98,11 @@ module _ (old : Dictionary) (whole : IsWhole old) (rows : List Row) (free : List
       times = record {
         denominator = h.over;
         constants = λ i l.
-            sym (constant_kept old (stays_in rows []) (stays_in rows free) i (label_there i l))
+            sym (constant_kept old (stays_in rows []) (stays_in rows free) whole i (label_there i l))
             ∙ times_left (staying old rows free) least cells h i 0;
         entries = λ i k l m.
             let c = whole_new.same.there k m in
-            sym (entry_kept old (stays_in rows []) (stays_in rows free) i k (label_there i l) c)
+            sym (entry_kept old (stays_in rows []) (stays_in rows free) whole i k (label_there i l) c)
             ∙ times_left (staying old rows free) least cells h i (suc (place_in new.columns k));
       }
 
@@ -143,18 +143,19 @@ module _ (old : Dictionary) (whole : IsWhole old) (rows : List Row) (free : List
     }
 
 -- the same of what the code has
-pub made_main : (old : Dictionary) (sys : System) (free labels key columns : List ℕ) (denominator least : ℤ)
+pub made_main : (old : Dictionary) (sys : System) (free labels key columns row_labels : List ℕ) (denominator least : ℤ)
     (mid cells : List ℤ) → IsWhole old → length sys.rows ≤ most_cone_rows → labels ≡ (staying old sys.rows free).labels →
     key ≡ (staying old sys.rows free).key → columns ≡ (staying old sys.rows free).columns →
+    row_labels ≡ (staying old sys.rows free).rows →
     denominator ≡ old.denominator → mid ≡ (staying old sys.rows free).cells → IsDividedOut mid denominator cells least →
-    IsWhole (record { phase = Main; labels = labels; key = key; columns = columns; denominator = least; cells = cells })
+    IsWhole (record { phase = Main; labels = labels; key = key; columns = columns; rows = row_labels; denominator = least; cells = cells })
     × EntersMainPhase old sys free
-    (record { phase = Main; labels = labels; key = key; columns = columns; denominator = least; cells = cells })
-made_main old sys free labels key columns denominator least mid cells whole few el ek ec ed em h =
+    (record { phase = Main; labels = labels; key = key; columns = columns; rows = row_labels; denominator = least; cells = cells })
+made_main old sys free labels key columns row_labels denominator least mid cells whole few el ek ec er ed em h =
     let left : IsDividedOut (staying old sys.rows free).cells old.denominator cells least =
     subst (λ (z : ℤ). IsDividedOut (staying old sys.rows free).cells z cells least) ed
     (subst (λ (v : List ℤ). IsDividedOut v denominator cells least) em h) in
-    rw (el, ek, ec) (
+    rw (el, ek, ec, er) (
       whole_new old whole sys.rows free least cells left,
       enters_main old whole sys.rows free least cells left sys refl few,
     )

@@ -1,101 +1,153 @@
 -- What stays of a dictionary has its old numbers, by labels, and is whole again.
-use Rattle.std.proofs.Common.{◌≡◌, ◌≢◌, ℕ, zero, suc, ◌*◌, ◌<◌, Bool, true, List, ℤ, pos, length, get_or, arith, sym, ap, ◌∙◌}
+use Rattle.std.proofs.Common.{◌≡◌, ◌≢◌, ◌⊎◌, ℕ, zero, suc, ◌*◌, ◌<◌, Bool, true, false, List, ◌++◌, ◌∷◌, ℤ, pos, map, length, get_or, arith, refl, sym, ap, subst, ◌∙◌, inl, inr, ⊎_elim}
+use Rattle.std.specs.Prelude.{not, ◌&&◌}
 use Rattle.std.specs.List.{Contains, filter}
+use Rattle.std.proofs.lemmas.Bool.{cases_eq}
 use Rattle.std.proofs.lemmas.List.{length-map, get_or-map}
-use Rattle.std.proofs.lemmas.List.Elements.{Contains-get_or}
-use Rattle.dictionary_laws.specs.Keys.{place_in}
+use Rattle.std.proofs.lemmas.List.Elements.{Contains-append_left, Contains-append_right}
+use Rattle.dictionary_laws.specs.Keys.{place_in, AreDistinct}
 use Rattle.dictionary_laws.proofs.Filters.{filter_only, filter_kept, distinct_filter, ascending_filter}
-use Rattle.dictionary.specs.Cells.{cell}
-use Rattle.dictionary.specs.Views.{Dictionary, number, IsUnitRow, IsWhole}
-use Rattle.dictionary.specs.MainPhase.{places_from, kept_row, kept}
-use Rattle.dictionary.proofs.PlaceLemmas.{place_within, place_at, one_at_place}
-use Rattle.dictionary.proofs.KeptPlaces.{length_places, place_kept, key_filter, same_filter, length_rows, row_at}
+use Rattle.dictionary_laws.proofs.Members.{contains_or}
+use Rattle.columns.specs.Cells.{cell_at}
+use Rattle.dictionary.specs.Views.{Dictionary, number, by_columns, IsWhole}
+use Rattle.dictionary.specs.MainPhase.{kept_rows, kept_columns, kept}
+use Rattle.dictionary.proofs.ByColumns.{length_by_columns, cell_by_columns}
+use Rattle.dictionary.proofs.Joined.{joined_cases, distinct_joined}
+use Rattle.dictionary.proofs.KeptLabels.{key_filter, same_filter}
+use Rattle.dictionary.proofs.Numbers.{own_number, other_number, row_number}
+use Rattle.dictionary.proofs.PlaceLemmas.{place_within, at_place, one_at_place}
 
-module _ (d : Dictionary) (left stays : ℕ → Bool) where
+both_true : (a b : Bool) → (a && not b) ≡ true → (a ≡ true) × (b ≡ false)
+both_true true false e = (refl, refl)
+both_true true true e = absurd cc
+both_true false b e = absurd cc
+
+left_only : (a b : Bool) → a ≡ true → b ≡ false → (a && not b) ≡ true
+left_only a b e f = rw (e, f) refl
+
+module _ (d : Dictionary) (left stays : ℕ → Bool) (whole : IsWhole d) where
   abbrev rows : List ℕ
-  rows = places_from 0 left d.labels
+  rows = kept_rows d left stays
 
   abbrev columns : List ℕ
-  columns = places_from 0 stays d.columns
+  columns = filter stays d.columns
 
-  abbrev width : ℕ
-  width = suc (length (filter stays d.columns))
+  abbrev leaves : ℕ → Bool
+  leaves k = left k && not (stays k)
 
-  abbrev row_of : ℕ → List ℤ
-  row_of i = kept_row (suc (length d.columns)) d.cells columns i
+  -- ---- the labels of the rows
+  -- a label of the rows is left, and is not one of the columns
+  row_back : (i : ℕ) → Contains rows i → Contains (filter left d.labels) i × (Contains columns i → ⊥)
+  row_back i m =
+      ⊎_elim
+      (λ (c : Contains (filter left d.rows) i).
+      let p = filter_only left d.rows i c in
+      let back = whole.row_back i p.0 in
+      (filter_kept left d.labels i back.0 p.1, λ s. back.1 (filter_only stays d.columns i s).0))
+      (λ (c : Contains (filter leaves d.columns) i).
+      let p = filter_only leaves d.columns i c in
+      let b = both_true (left i) (stays i) p.1 in
+      (
+        filter_kept left d.labels i (whole.inside i p.0) b.0,
+        λ s. let e : true ≡ false = sym (filter_only stays d.columns i s).1 ∙ b.1 in absurd cc,
+      ))
+      (joined_cases (filter left d.rows) (filter leaves d.columns) i m)
 
-  row_width : (i : ℕ) → length (row_of i) ≡ width
-  row_width i =
-      ap suc (length-map columns (λ j. cell (suc (length d.columns)) d.cells i (suc j))
-      ∙ length_places 0 stays d.columns)
+  row_there : (i : ℕ) → Contains (filter left d.labels) i → (Contains columns i → ⊥) → Contains rows i
+  row_there i l n =
+      let p = filter_only left d.labels i l in
+      ⊎_elim
+      (λ (c : Contains d.columns i).
+      Contains-append_right (filter left d.rows) (filter leaves d.columns) i
+      (filter_kept leaves d.columns i c (left_only (left i) (stays i) p.1 (not_staying i c n))))
+      (λ (c : Contains d.columns i → ⊥).
+      Contains-append_left (filter left d.rows) (filter leaves d.columns) i
+      (filter_kept left d.rows i (whole.row_there i p.0 c) p.1))
+      (contains_or d.columns i)
+    where
+      not_staying : (k : ℕ) → Contains d.columns k → (Contains columns k → ⊥) → stays k ≡ false
+      not_staying k c no = by (stays k) refl
+        where
+          by : (b : Bool) → stays k ≡ b → stays k ≡ false
+          by true e = absurd (no (filter_kept stays d.columns k c e))
+          by false e = e
 
-  -- the row of a label that is left, where it stood
-  kept_number : (l j : ℕ) → Contains (filter left d.labels) l → j < width →
-      number (kept d left stays) l j ≡ get_or (row_of (place_in d.labels l)) j (pos 0)
-  kept_number l j c lt =
-      let within = place_within (filter left d.labels) l c in
-      row_at row_of width row_width rows (place_in (filter left d.labels) l) j 0
-      (omega (arith, length_places 0 left d.labels)) lt
-      ∙ ap (λ i. get_or (row_of i) j (pos 0)) (place_kept 0 left d.labels l 0 c ∙ omega arith)
+  distinct_rows : AreDistinct rows
+  distinct_rows =
+      distinct_joined (filter left d.rows) (filter leaves d.columns) (distinct_filter left d.rows whole.distinct_rows)
+      (distinct_filter leaves d.columns whole.distinct)
+      (λ k m c. (whole.row_back k (filter_only left d.rows k m).0).1 (filter_only leaves d.columns k c).0)
 
-  pub constant_kept : (l : ℕ) → Contains (filter left d.labels) l →
-      number (kept d left stays) l 0 ≡ number d l 0
-  constant_kept l c = kept_number l 0 c (omega arith)
+  -- ---- the numbers
+  column_count : length (kept_columns d.columns columns) ≡ suc (length columns)
+  column_count = ap suc (length-map columns (λ k. suc (place_in d.columns k)))
 
-  pub entry_kept : (l k : ℕ) → Contains (filter left d.labels) l → Contains (filter stays d.columns) k →
-      number (kept d left stays) l (suc (place_in (filter stays d.columns) k)) ≡ number d l (suc (place_in d.columns k))
-  entry_kept l k c e =
-      let within = place_within (filter stays d.columns) k e in
-      kept_number l (suc (place_in (filter stays d.columns) k)) c (omega arith)
-      ∙ get_or-map (λ j. cell (suc (length d.columns)) d.cells (place_in d.labels l) (suc j)) columns
-      (place_in (filter stays d.columns) k) 0 (pos 0) (omega (arith, length_places 0 stays d.columns))
-      ∙ ap (λ j. cell (suc (length d.columns)) d.cells (place_in d.labels l) (suc j))
-      (place_kept 0 stays d.columns k 0 e ∙ omega arith)
+  -- a row has the numbers of its label, in the old columns
+  row_kept : (i b : ℕ) → Contains rows i → b < suc (length columns) →
+      number (kept d left stays) i b ≡ number d i (get_or (kept_columns d.columns columns) b 0)
+  row_kept i b m l =
+      row_number (kept d left stays) i b (row_back i m).1
+      ∙ cell_by_columns (number d) rows (kept_columns d.columns columns) (place_in rows i) b (place_within rows i m)
+      (omega (arith, column_count))
+      ∙ ap (λ k. number d k (get_or (kept_columns d.columns columns) b 0)) (at_place rows i 0 m)
 
-  -- a label of the key that stays has a row that is left
-  module _ (whole : IsWhole d) (both : (k : ℕ) → stays k ≡ true → left k ≡ true) where
-    kept_label : (k : ℕ) → Contains (filter stays d.columns) k → Contains (filter left d.labels) k
-    kept_label k c =
-        let m = filter_only stays d.columns k c in
-        filter_kept left d.labels k (whole.inside k m.0) (both k m.1)
+  -- the old column of a label that stays
+  old_column : (k : ℕ) → Contains columns k →
+      get_or (kept_columns d.columns columns) (suc (place_in columns k)) 0 ≡ suc (place_in d.columns k)
+  old_column k c =
+      get_or-map (λ i. suc (place_in d.columns i)) columns (place_in columns k) 0 0 (place_within columns k c)
+      ∙ ap (λ i. suc (place_in d.columns i)) (at_place columns k 0 c)
 
-    kept_zero : (k : ℕ) → Contains (filter stays d.columns) k → (j : ℕ) → j < width →
-        j ≢ suc (place_in (filter stays d.columns) k) → number (kept d left stays) k j ≡ pos 0
-    kept_zero k c zero lt n =
-        constant_kept k (kept_label k c)
-        ∙ (whole.units k (filter_only stays d.columns k c).0).others 0 (omega arith) (λ e. omega arith)
-    kept_zero k c (suc j) lt n =
-        let lt2 : j < length (filter stays d.columns) = omega arith in
-        let other = get_or (filter stays d.columns) j 0 in
-        let place : place_in (filter stays d.columns) other ≡ j =
-        place_at (filter stays d.columns) j 0 (distinct_filter stays d.columns whole.distinct) lt2 in
-        let stands = Contains-get_or (filter stays d.columns) j 0 lt2 in
-        let here = (filter_only stays d.columns k c).0 in
-        let there = (filter_only stays d.columns other stands).0 in
-        let within = place_within d.columns other there in
-        ap (λ b. number (kept d left stays) k (suc b)) (sym place)
-        ∙ entry_kept k other (kept_label k c) stands
-        ∙ (whole.units k here).others (suc (place_in d.columns other)) (omega arith)
-        (λ e.
-        let same : place_in d.columns other ≡ place_in d.columns k = omega arith in
-        let one = one_at_place d.columns other k there here same in
-        n (ap suc (sym place ∙ ap (λ q. place_in (filter stays d.columns) q) one)))
+  pub constant_kept : (i : ℕ) → Contains (filter left d.labels) i → number (kept d left stays) i 0 ≡ number d i 0
+  constant_kept i l =
+      ⊎_elim
+      (λ (c : Contains columns i).
+      other_number (kept d left stays) i 0 c (λ e. omega arith)
+      ∙ sym (other_number d i 0 (filter_only stays d.columns i c).0 (λ e. omega arith)))
+      (λ (n : Contains columns i → ⊥). row_kept i 0 (row_there i l n) (omega arith))
+      (contains_or columns i)
 
-    kept_unit : (k : ℕ) → Contains (filter stays d.columns) k → IsUnitRow (kept d left stays) k
-    kept_unit k c = record {
-      own = entry_kept k k (kept_label k c) c ∙ (whole.units k (filter_only stays d.columns k c).0).own;
-      others = kept_zero k c;
-    }
+  pub entry_kept : (i k : ℕ) → Contains (filter left d.labels) i → Contains columns k →
+      number (kept d left stays) i (suc (place_in columns k)) ≡ number d i (suc (place_in d.columns k))
+  entry_kept i k l c =
+      ⊎_elim
+      (λ (m : Contains columns i). own_kept m)
+      (λ (n : Contains columns i → ⊥).
+      row_kept i (suc (place_in columns k)) (row_there i l n) (let h = place_within columns k c in omega arith)
+      ∙ ap (λ j. number d i j) (old_column k c))
+      (contains_or columns i)
+    where
+      own_kept : Contains columns i →
+          number (kept d left stays) i (suc (place_in columns k)) ≡ number d i (suc (place_in d.columns k))
+      own_kept m =
+          let old_i = (filter_only stays d.columns i m).0 in
+          let old_k = (filter_only stays d.columns k c).0 in
+          ⊎_elim
+          (λ (e : k ≡ i).
+          own_number (kept d left stays) i (suc (place_in columns k)) m (ap (λ q. suc (place_in columns q)) e)
+          ∙ sym (own_number d i (suc (place_in d.columns k)) old_i (ap (λ q. suc (place_in d.columns q)) e)))
+          (λ (n : k ≢ i).
+          other_number (kept d left stays) i (suc (place_in columns k)) m
+          (λ e. n (one_at_place columns k i c m (omega (arith, e))))
+          ∙ sym (other_number d i (suc (place_in d.columns k)) old_i
+          (λ e. n (one_at_place d.columns k i old_k old_i (omega (arith, e))))))
+          (cases_eq k i)
 
+  -- a label of the key that stays is left
+  module _ (both : (k : ℕ) → stays k ≡ true → left k ≡ true) where
     pub whole_kept : IsWhole (kept d left stays)
     whole_kept = record {
-      size = length_rows row_of width row_width rows ∙ ap (λ n. n * width) (length_places 0 left d.labels);
+      size = length_by_columns (number d) rows (kept_columns d.columns columns)
+          ∙ ap (λ n. n * length rows) column_count;
       positive = whole.positive;
       labels = ascending_filter left d.labels whole.labels;
       below = λ i c. whole.below i (filter_only left d.labels i c).0;
       key = key_filter stays d.key whole.key;
       same = same_filter stays d.key d.columns whole.same;
       distinct = distinct_filter stays d.columns whole.distinct;
-      inside = kept_label;
-      units = kept_unit;
+      inside = λ k c.
+          let m = filter_only stays d.columns k c in filter_kept left d.labels k (whole.inside k m.0) (both k m.1);
+      distinct_rows = distinct_rows;
+      row_there = row_there;
+      row_back = row_back;
     }

@@ -1,10 +1,11 @@
-pub mod Written
-pub mod KeptPlaces
+pub mod PlaceLemmas
+pub mod Numbers
+pub mod ByColumns
+pub mod Joined
+pub mod KeptLabels
 pub mod KeptNumbers
 pub mod DividedOut
 pub mod EnteringMain
-pub mod Reduced
-pub mod PlaceLemmas
 pub mod EachNumber
 pub mod Pivots
 pub mod CarriedOut
@@ -13,10 +14,3 @@ pub mod RangeLemmas
 pub mod FirstNumbers
 pub mod Beginnings
 pub mod BeginSpaces
-pub mod CommonLemmas
-pub mod LeftLemmas
-pub mod WrittenOver
-pub mod UndividedLemmas
-pub mod LeastOver
-pub mod NarrowCells
-pub mod UnitRows

@@ -1,34 +1,28 @@
 -- From the phase `prepare` to the phase `main`: which labels stay, what stays of a dictionary, and its
 -- common divisor out.
-use Rattle.std.specs.Prelude.{◌≡◌, ℕ, suc, ◌+◌, ◌-◌, ◌<◌, Bool, not, if◌then◌else◌, ℤ, pos, ◌*ℤ◌, List, [], ◌∷◌, ◌++◌, map, length}
-use Rattle.std.specs.List.{filter, flat_map}
+use Rattle.std.specs.Prelude.{◌≡◌, ℕ, suc, ◌<◌, Bool, not, ◌&&◌, if◌then◌else◌, ℤ, pos, ◌*ℤ◌, List, [], ◌∷◌, ◌++◌, map}
+use Rattle.std.specs.List.{filter}
 use Rattle.poly_num.specs.Vectors.{scale, IsPrimitive}
 use Rattle.poly_model.specs.declared.overflow.Phase.TheVariants.{Main}
 use Rattle.poly_model.specs.Systems.{Row, row_of, Polyhedron, System, cone_of}
 use Rattle.poly_model.specs.Spaces.{is_member, prepare_space, main_space}
 use Rattle.poly_model.specs.Labels.{is_row, coordinate_index}
+use Rattle.dictionary_laws.specs.Keys.{place_in}
 use Rattle.dictionary_laws.specs.MainSpace.{stays, CanEnterMain}
-use Rattle.dictionary.specs.Cells.{cell}
-use Rattle.dictionary.specs.Views.{Dictionary, table_of, IsDictionaryIn}
+use Rattle.dictionary.specs.Views.{Dictionary, number, by_columns, table_of, IsDictionaryIn}
 
 -- a label stays: it is neither that of a linear row nor that of a free coordinate
 abbrev pub stays_in : List Row → List ℕ → ℕ → Bool
 stays_in rows free k =
     if is_row k then not (row_of rows k).linear else not (is_member (coordinate_index k) free)
 
--- the places of the labels that pass a test, where the first label has place i
-abbrev pub places_from : ℕ → (ℕ → Bool) → List ℕ → List ℕ
-places_from i test [] = []
-places_from i test (k ∷ ks) =
-    if test k then i ∷ places_from (i + 1) test ks else places_from (i + 1) test ks
+-- the labels that are left and not in the new cobasis: those outside the old one, and those that only leave it
+abbrev pub kept_rows : Dictionary → (ℕ → Bool) → (ℕ → Bool) → List ℕ
+kept_rows d left stays = filter left d.rows ++ filter (λ k. left k && not (stays k)) d.columns
 
--- the constant in row i of rows of `width` cells, and its entries at these places
-abbrev pub kept_row : ℕ → List ℤ → List ℕ → ℕ → List ℤ
-kept_row width cells columns i = cell width cells i 0 ∷ map (λ j. cell width cells i (suc j)) columns
-
--- these of the rows
-abbrev pub kept_cells : ℕ → List ℤ → List ℕ → List ℕ → List ℤ
-kept_cells width cells rows columns = flat_map (kept_row width cells columns) rows
+-- the columns of the constants and of the labels that stay in the cobasis
+abbrev pub kept_columns : List ℕ → List ℕ → List ℕ
+kept_columns columns staying = 0 ∷ map (λ k. suc (place_in columns k)) staying
 
 -- the rows of the labels that are left, with the columns of those that stay
 abbrev pub kept : Dictionary → (ℕ → Bool) → (ℕ → Bool) → Dictionary
@@ -37,8 +31,9 @@ kept d left stays = record {
   labels = filter left d.labels;
   key = filter stays d.key;
   columns = filter stays d.columns;
+  rows = kept_rows d left stays;
   denominator = d.denominator;
-  cells = kept_cells (suc (length d.columns)) d.cells (places_from 0 left d.labels) (places_from 0 stays d.columns);
+  cells = by_columns (number d) (kept_rows d left stays) (kept_columns d.columns (filter stays d.columns));
 }
 
 -- the common divisor of the cells and the denominator is divided out of all of them

@@ -1,12 +1,12 @@
 -- The dictionary with which a phase begins.
-use Rattle.std.specs.Prelude.{◌≡◌, ℕ, ◌-◌, ◌<◌, ◌≤◌, ◌==◌, Bool, true, false, if◌then◌else◌, pos, map, length, ◌++◌}
-use Rattle.std.specs.List.{range_with_len}
+use Rattle.std.specs.Prelude.{◌≡◌, ℕ, ◌-◌, ◌<◌, ◌≤◌, ◌==◌, Bool, true, false, if◌then◌else◌, pos, ◌+◌, ℤ, List, length, ◌++◌}
+use Rattle.std.specs.List.{range_with_len, slice_index_or}
 use Rattle.poly_num.specs.Vectors.{Vector}
 use Rattle.poly_model.specs.declared.kind.Kind.{Kind}
 use Rattle.poly_model.specs.declared.kind.Kind.TheVariants.{H, V}
 use Rattle.poly_model.specs.declared.overflow.Phase.{Phase}
 use Rattle.poly_model.specs.declared.overflow.Phase.TheVariants.{Cone, Prepare, Main, First}
-use Rattle.poly_model.specs.Systems.{System, Polyhedron, row_of, cone_of}
+use Rattle.poly_model.specs.Systems.{Row, System, Polyhedron, row_of, cone_of}
 use Rattle.poly_model.specs.Spaces.{Space, IsSpaceOf, in_front}
 use Rattle.dictionary_laws.specs.Coordinates.{coordinate_key}
 use Rattle.dictionary.specs.Views.{Dictionary, IsDictionaryIn}
@@ -31,13 +31,13 @@ row_count constants rows = if constants then rows - 1 else rows
 abbrev pub row_cells : Bool → Vector → Vector
 row_cells constants entries = if constants then entries else in_front entries
 
--- 1 in column c, 0 in the others
-abbrev pub unit_row : ℕ → ℕ → Vector
-unit_row width c = map (λ j. if j == c then pos 1 else pos 0) (range_with_len 0 width)
+-- how many columns of cells there are for rows of so many entries
+abbrev pub first_width : Bool → ℕ → ℕ
+first_width constants n = if constants then n else n + 1
 
--- the first m rows have an entry for each coordinate
-abbrev pub HasWidths : System → ℕ → Type 0
-HasWidths sys m = (i : ℕ) → 0 < i → i ≤ m → length (row_of sys.rows i).entries ≡ sys.n
+-- the cell of row i in column j
+abbrev pub first_number : Bool → List Row → ℕ → ℕ → ℤ
+first_number constants rows i j = slice_index_or (row_cells constants (row_of rows i).entries) j (pos 0)
 
 -- the dictionary of the coordinates, over the denominator 1, with the labels of the rows and of the coordinates; in
 -- each space of this phase of a polyhedron with this cone

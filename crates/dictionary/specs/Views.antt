@@ -1,32 +1,38 @@
 -- What a `Dict` is seen as, when that is the dictionary of its cobasis, and what a pivot makes of it.
-use Rattle.std.specs.Prelude.{◌≡◌, ◌≢◌, ℕ, zero, suc, ◌<◌, ◌*◌, ℤ, pos, ◌<ℤ◌, List, length}
-use Rattle.std.specs.List.{Contains, slice_index_or}
+use Rattle.std.specs.Prelude.{◌≡◌, ◌≢◌, ℕ, zero, suc, ◌<◌, ◌*◌, ◌==◌, ℤ, pos, ◌<ℤ◌, if◌then◌else◌, List, length, map}
+use Rattle.std.specs.List.{Contains, slice_index_or, flat_map}
 use Rattle.poly_model.specs.Labels.{constant_label}
 use Rattle.poly_model.specs.declared.overflow.Phase.{Phase}
 use Rattle.poly_model.specs.declared.overflow.Overflow.{Overflow}
 use Rattle.poly_model.specs.Keys.{IsAscending, IsKey}
-use Rattle.poly_model.specs.Spaces.{Space, HasPoints}
+use Rattle.poly_model.specs.Spaces.{Space, HasPoints, is_member}
 use Rattle.poly_model.specs.Dictionaries.{Table, IsDictionary}
 use Rattle.poly_model.specs.Overflows.{IsPassing}
 use Rattle.dictionary_laws.specs.Keys.{place_in, AreDistinct, HaveSameLabels}
 use Rattle.dictionary_laws.specs.Laws.{IsExchangedKey}
-use Rattle.dictionary.specs.declared.exchange.Exchange.{Exchange}
-use Rattle.dictionary.specs.Cells.{cell}
+use Rattle.columns.specs.declared.exchange.Exchange.{Exchange}
+use Rattle.columns.specs.Cells.{cell_at}
 
--- a row of numbers for each label of a phase: its constant, and its entry at each label of the key.
--- The rows lie one after the other in `cells`
+-- the labels of a phase over a cobasis: for each label outside the cobasis a row of cells, a constant and an entry for
+-- each label of the cobasis
 pub record Dictionary : Type 0 where
   pub phase : Phase
   pub labels : List ℕ
   -- the cobasis, ascending, and the same labels as their columns stand
   pub key : List ℕ
   pub columns : List ℕ
+  -- the labels outside the cobasis, as their rows stand
+  pub rows : List ℕ
   pub denominator : ℤ
+  -- one column after the other, the constants first
   pub cells : List ℤ
 
--- the number in the row of label i and in column j, where column 0 has the constants
+-- the number of label i in column j, where column 0 has the constants. A label of the cobasis has no cells: it is the
+-- denominator in its own column, and 0 in the others
 abbrev pub number : Dictionary → ℕ → ℕ → ℤ
-number d i j = cell (suc (length d.columns)) d.cells (place_in d.labels i) j
+number d i j =
+    if is_member i d.columns then (if j == suc (place_in d.columns i) then d.denominator else pos 0)
+    else cell_at (length d.rows) d.cells (place_in d.rows i) j
 
 -- its numbers by their labels
 abbrev pub table_of : Dictionary → Table
@@ -35,6 +41,10 @@ table_of d = record {
   constant = λ i. number d i 0;
   entry = λ i k. number d i (suc (place_in d.columns k));
 }
+
+-- the numbers of these rows in these columns, one column after the other
+abbrev pub by_columns : (ℕ → ℕ → ℤ) → List ℕ → List ℕ → List ℤ
+by_columns f rows columns = flat_map (λ j. map (λ i. f i j) rows) columns
 
 -- d is the dictionary of its cobasis in the space
 pub record IsDictionaryIn (space : Space) (d : Dictionary) : Type 0 where
@@ -70,9 +80,9 @@ NothingPasses d r s = (o : Overflow) → IsOverflow d r s o → ⊥
 -- the exchange of the row of r and the column of s
 abbrev pub exchange_at : Dictionary → ℕ → ℕ → Exchange
 exchange_at d r s = record {
-  height = length d.labels;
   width = suc (length d.columns);
-  row = place_in d.labels r;
+  height = length d.rows;
+  row = place_in d.rows r;
   column = suc (place_in d.columns s);
   denominator = d.denominator;
 }
@@ -82,15 +92,10 @@ abbrev pub column_label : Dictionary → ℕ → ℕ
 column_label d zero = constant_label
 column_label d (suc j) = slice_index_or d.columns j 0
 
--- the row of a label of the cobasis: the denominator in its own column, 0 in the others
-pub record IsUnitRow (d : Dictionary) (k : ℕ) : Type 0 where
-  pub own : number d k (suc (place_in d.columns k)) ≡ d.denominator
-  pub others : (j : ℕ) → j < suc (length d.columns) → j ≢ suc (place_in d.columns k) → number d k j ≡ pos 0
-
--- what holds of every `Dict`: the cells fill its rows, the denominator is positive, and the columns have
--- the labels of the key, each once, all of them labels of rows, none that of the constants
+-- what holds of every `Dict`: the cells fill its rows and columns, the denominator is positive, the columns have the
+-- labels of the key, each once, and the rows all other labels, each once; none is that of the constants
 pub record IsWhole (d : Dictionary) : Type 0 where
-  pub size : length d.cells ≡ length d.labels * suc (length d.columns)
+  pub size : length d.cells ≡ suc (length d.columns) * length d.rows
   pub positive : pos 0 <ℤ d.denominator
   pub labels : IsAscending d.labels
   pub below : (i : ℕ) → Contains d.labels i → i < constant_label
@@ -98,4 +103,6 @@ pub record IsWhole (d : Dictionary) : Type 0 where
   pub same : HaveSameLabels d.key d.columns
   pub distinct : AreDistinct d.columns
   pub inside : (k : ℕ) → Contains d.columns k → Contains d.labels k
-  pub units : (k : ℕ) → Contains d.columns k → IsUnitRow d k
+  pub distinct_rows : AreDistinct d.rows
+  pub row_there : (i : ℕ) → Contains d.labels i → (Contains d.columns i → ⊥) → Contains d.rows i
+  pub row_back : (i : ℕ) → Contains d.rows i → Contains d.labels i × (Contains d.columns i → ⊥)

@@ -1,13 +1,12 @@
-//! The dictionary of a cobasis in one table, with pivots in place.
+//! The dictionary of a cobasis in one table by columns.
 ghost use Rattle.std.specs.Prelude.{◌≡◌, ◌≢◌, ◌<◌, ◌<ℤ◌, ◌↔◌, IsTrue, suc, pos, IfOk, length};
 ghost use Rattle.std.specs.List.{Contains};
 ghost use Rattle.poly_model.specs.Dictionaries.{Table};
 ghost use Rattle.dictionary_laws.specs.Keys.{place_in};
-ghost use Rattle.dictionary.specs.Cells.{cell};
-ghost use Rattle.dictionary.specs.Views.{table_of};
+ghost use Rattle.dictionary.specs.Views.{number, table_of};
 
-use crate::cells::cell_at;
 use crate::places::{has, place_of};
+use columns::Cells;
 use poly_model::{Key, Label, OutOfMemory, Phase};
 use poly_num::Num;
 use std::marker::Model;
@@ -17,34 +16,34 @@ use std::marker::Model;
 ///
 ///     denominator * value(i) = constant(i) + sum of entry(i, k) * value(k)
 ///
-/// (V. Chvatal, "Linear Programming", 1983). The denominator is the least positive one.
+/// (V. Chvatal, "Linear Programming", 1983). The denominator is the least positive one. There are cells for the labels
+/// outside the cobasis alone: a label inside is the denominator in its own column, and 0 in the others.
 #[derive(Drop)]
 pub struct Dict {
     pub(crate) phase: Phase,
     pub(crate) key: Key,
-    // a label for each row of cells, ascending
+    // all labels, ascending
     pub(crate) labels: Vec<Label>,
-    // a label for each column of cells behind the first, which has the constants
+    // a label of the cobasis for each column of cells behind the first, which has the constants
     pub(crate) columns: Vec<Label>,
+    // a label outside the cobasis for each row of cells
+    pub(crate) rows: Vec<Label>,
     pub(crate) denominator: Num,
-    pub(crate) cells: Vec<Num>,
-    // room for a copy of a row
-    pub(crate) pivot_row: Vec<Num>,
-    // whether the denominator and all cells are known to fit a machine word; false says nothing
-    pub(crate) narrow: bool,
+    pub(crate) cells: Cells,
+    // room for the cells after the next pivot, and for one column
+    pub(crate) spare: Cells,
+    pub(crate) own: Cells,
 }
 
 impl Model for Dict {
-    ghost use Rattle.std.specs.Prelude.{◌≡◌, suc, length, IsTrue};
-    ghost use Rattle.dictionary_laws.specs.Keys.{place_in};
-    ghost use Rattle.dictionary.specs.Cells.{cell, AreNarrow};
+    ghost use Rattle.std.specs.Prelude.{◌≡◌, length};
     ghost use Rattle.dictionary.specs.Views.{Dictionary, IsWhole};
 
     ghost Value = { Dictionary };
 
-    ghost view = { λ d. record { phase = d.phase; labels = d.labels.items; key = d.key; columns = d.columns.items; denominator = d.denominator; cells = d.cells.items } };
+    ghost view = { λ d. record { phase = d.phase; labels = d.labels.items; key = d.key; columns = d.columns.items; rows = d.rows.items; denominator = d.denominator; cells = d.cells } };
 
-    ghost invariant = { λ d. (length d.pivot_row.items ≡ suc (length d.columns.items)) × IsWhole (record { phase = d.phase; labels = d.labels.items; key = d.key; columns = d.columns.items; denominator = d.denominator; cells = d.cells.items }) × (IsTrue d.narrow → AreNarrow d.cells.items d.denominator) };
+    ghost invariant = { λ d. (length d.spare ≡ length d.cells) × (length d.own ≡ length d.rows.items) × IsWhole (record { phase = d.phase; labels = d.labels.items; key = d.key; columns = d.columns.items; rows = d.rows.items; denominator = d.denominator; cells = d.cells }) };
 }
 
 impl Dict {
@@ -89,7 +88,7 @@ impl Dict {
         requires { Contains self.now.labels row }
         ensures { result ≡ Table.constant (table_of self.now) row }
     {
-        self.constant_at(self.row_of(row))
+        self.number(row, 0)
     }
 
     /// The entry of a label in the column of a label of the cobasis. That of such a label itself is the
@@ -101,9 +100,7 @@ impl Dict {
         ensures own { row ≡ col → result ≡ self.now.denominator }
         ensures unit { Contains self.now.key row → row ≢ col → result ≡ pos 0 }
     {
-        let i = self.row_of(row);
-        let j = self.column_of(col);
-        cell_at(&self.cells, self.labels.len(), self.pivot_row.len(), i, j)
+        self.number(row, self.column_of(col))
     }
 
     /// A dictionary that is equal.
@@ -115,10 +112,11 @@ impl Dict {
             key: self.key,
             labels: self.labels.clone()?,
             columns: self.columns.clone()?,
+            rows: self.rows.clone()?,
             denominator: self.denominator,
-            cells: self.cells.clone()?,
-            pivot_row: self.pivot_row.clone()?,
-            narrow: self.narrow,
+            cells: self.cells.copy()?,
+            spare: self.spare.copy()?,
+            own: self.own.copy()?,
         })
     }
 
@@ -132,18 +130,36 @@ impl Dict {
         to.key = self.key;
         to.labels.copy_from_slice(&self.labels);
         to.columns.copy_from_slice(&self.columns);
+        to.rows.copy_from_slice(&self.rows);
         to.denominator = self.denominator;
-        to.cells.copy_from_slice(&self.cells);
-        to.narrow = self.narrow;
+        self.cells.copy_into(&mut to.cells);
     }
 
-    // The row of cells of a label.
-    pub(crate) fn row_of(&self, row: Label) -> usize
-        requires { Contains self.now.labels row }
-        ensures value { result ≡ place_in self.now.labels row }
-        ensures within { result < length self.now.labels }
+    // The number of a label in a column of cells.
+    pub(crate) fn number(&self, label: Label, column: usize) -> Num
+        requires label { Contains self.now.labels label }
+        requires column { column < suc (length self.now.columns) }
+        ensures { result ≡ number self.now label column }
     {
-        place_of(&self.labels, row)
+        let place = place_of(&self.columns, label);
+        if place < self.columns.len() {
+            return self.own_number(place, column);
+        }
+        let i = place_of(&self.rows, label);
+        self.cells.at(self.rows.len(), i, column)
+    }
+
+    // What the label of a column behind the constants is in a column.
+    fn own_number(&self, place: usize, column: usize) -> Num
+        requires { place < length self.now.columns }
+        ensures own { column ≡ suc place → result ≡ self.now.denominator }
+        ensures other { column ≢ suc place → result ≡ pos 0 }
+    {
+        if column > 0 && column - 1 == place {
+            self.denominator
+        } else {
+            Num::ZERO
+        }
     }
 
     // The column of cells of a label of the cobasis.
@@ -155,26 +171,13 @@ impl Dict {
         place_of(&self.columns, col) + 1
     }
 
-    // The constant in row i of the cells.
-    pub(crate) fn constant_at(&self, i: usize) -> Num
-        requires { i < length self.now.labels }
-        ensures { result ≡ cell (suc (length self.now.columns)) self.now.cells i 0 }
+    // The row of cells of a label outside the cobasis.
+    pub(crate) fn row_of(&self, row: Label) -> usize
+        requires label { Contains self.now.labels row }
+        requires outside { Contains self.now.key row → ⊥ }
+        ensures value { result ≡ place_in self.now.rows row }
+        ensures within { result < length self.now.rows }
     {
-        cell_at(&self.cells, self.labels.len(), self.pivot_row.len(), i, 0)
-    }
-
-    // The entry in row i of the cells, in column j of those behind the constants.
-    pub(crate) fn entry_at(&self, i: usize, j: usize) -> Num
-        requires row { i < length self.now.labels }
-        requires column { j < length self.now.columns }
-        ensures { result ≡ cell (suc (length self.now.columns)) self.now.cells i (suc j) }
-    {
-        cell_at(
-            &self.cells,
-            self.labels.len(),
-            self.pivot_row.len(),
-            i,
-            j + 1,
-        )
+        place_of(&self.rows, row)
     }
 }

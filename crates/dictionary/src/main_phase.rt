@@ -1,12 +1,14 @@
 //! From the phase `prepare` to the phase `main`: equations and free coordinates go.
-ghost use Rattle.std.specs.Prelude.{◌≡◌, ◌<◌, ◌*◌, ◌<ℤ◌, ◌++◌, suc, pos, IfOk, length};
+ghost use Rattle.std.specs.Prelude.{◌≡◌, ◌<◌, ◌<ℤ◌, ◌++◌, ◌&&◌, suc, not, pos, map, [], IfOk, length};
 ghost use Rattle.std.specs.Result.{OnOk};
-ghost use Rattle.std.specs.List.{All, filter};
-ghost use Rattle.dictionary.specs.MainPhase.{stays_in, places_from, kept_row, kept_cells, IsDividedOut, EntersMainPhase};
+ghost use Rattle.std.specs.List.{All, Contains, filter, slice_index_or};
+ghost use Rattle.dictionary_laws.specs.Keys.{place_in};
+ghost use Rattle.dictionary.specs.Views.{number, by_columns};
+ghost use Rattle.dictionary.specs.MainPhase.{stays_in, kept_rows, kept_columns, IsDividedOut, EntersMainPhase};
 
 use crate::Dict;
-use crate::cells::at_place;
 use crate::places::key_of;
+use columns::Cells;
 use poly_model::{FreeColumns, Label, OutOfMemory, Phase, System};
 use poly_num::{Num, primitive};
 use std::alloc::Global;
@@ -20,24 +22,6 @@ fn stays(sys: &System, free: &FreeColumns, label: Label) -> bool
     } else {
         !free.contains(label.coordinate_index())
     }
-}
-
-// The places of the labels that stay.
-fn kept_places(
-    alloc: Global,
-    sys: &System,
-    free: &FreeColumns,
-    labels: &[Label],
-) -> Result<Vec<usize>, OutOfMemory>
-    ensures { IfOk result (λ v. v.items ≡ places_from 0 (stays_in sys.now.rows free.now) labels.now) }
-{
-    let mut places = Vec::new(alloc);
-    'labels: for (i, label) in labels.iter().enumerate() {
-        if stays(sys, free, *label) {
-            places.push(i)?;
-        }
-    }
-    Ok(places)
 }
 
 // The labels that stay.
@@ -58,6 +42,25 @@ fn kept_labels(
     Ok(kept)
 }
 
+// Puts the labels that do not stay, but would if no coordinate were free, behind those that are kept.
+fn push_leaving(
+    kept: &mut Vec<Label>,
+    sys: &System,
+    free: &FreeColumns,
+    labels: &[Label],
+) -> Result<(), OutOfMemory>
+    ensures { OnOk result (kept.new.items ≡ kept.old.items ++
+        filter (λ k. stays_in sys.now.rows [] k && not (stays_in sys.now.rows free.now k)) labels.now) }
+{
+    let none = FreeColumns::from_vec(Vec::new(*kept.allocator()));
+    'labels: for label in labels {
+        if stays(sys, &none, *label) && !stays(sys, free, *label) {
+            kept.push(*label)?;
+        }
+    }
+    Ok(())
+}
+
 // Divides what is common out of the cells and the denominator. The new denominator.
 fn divide_out(cells: &mut Vec<Num>, denominator: Num) -> Result<Num, OutOfMemory>
     requires { pos 0 <ℤ denominator }
@@ -71,30 +74,48 @@ fn divide_out(cells: &mut Vec<Num>, denominator: Num) -> Result<Num, OutOfMemory
     Ok(least)
 }
 
+fn at_place(numbers: &[Num], place: usize) -> Num
+    requires { place < length numbers.now }
+    ensures { result ≡ slice_index_or numbers.now place (pos 0) }
+{
+    numbers[place]
+}
+
 impl Dict {
-    // Puts the constant of row i and its entries at these places behind what is kept.
-    fn keep_row(&self, kept: &mut Vec<Num>, columns: &[usize], i: usize) -> Result<(), OutOfMemory>
-        requires row { i < length self.now.labels }
-        requires columns { All (λ j. j < length self.now.columns) columns.now }
-        ensures { OnOk result (kept.new.items ≡ kept.old.items ++
-            kept_row (suc (length self.now.columns)) self.now.cells columns.now i) }
+    // The numbers of the constants and of these labels' columns.
+    fn columns_of(&self, labels: &[Label]) -> Result<Vec<usize>, OutOfMemory>
+        requires { All (λ k. Contains self.now.key k) labels.now }
+        ensures { IfOk result (λ v. v.items ≡ kept_columns self.now.columns labels.now) }
     {
-        kept.push(self.constant_at(i))?;
-        'columns: for j in columns {
-            kept.push(self.entry_at(i, *j))?;
+        let mut columns = Vec::new(*self.columns.allocator());
+        columns.push(0)?;
+        'labels: for label in labels {
+            columns.push(self.column_of(*label))?;
+        }
+        Ok(columns)
+    }
+
+    // Puts the numbers of these labels in a column behind what is kept.
+    fn keep_column(&self, kept: &mut Vec<Num>, rows: &[Label], column: usize) -> Result<(), OutOfMemory>
+        requires rows { All (λ l. Contains self.now.labels l) rows.now }
+        requires column { column < suc (length self.now.columns) }
+        ensures { OnOk result (kept.new.items ≡ kept.old.items ++ map (λ l. number self.now l column) rows.now) }
+    {
+        'rows: for label in rows {
+            kept.push(self.number(*label, column))?;
         }
         Ok(())
     }
 
-    // The cells in these rows, the constants and those at these places of columns.
-    fn kept_cells(&self, rows: &[usize], columns: &[usize]) -> Result<Vec<Num>, OutOfMemory>
-        requires rows { All (λ i. i < length self.now.labels) rows.now }
-        requires columns { All (λ j. j < length self.now.columns) columns.now }
-        ensures { IfOk result (λ v. v.items ≡ kept_cells (suc (length self.now.columns)) self.now.cells rows.now columns.now) }
+    // The numbers of these labels in these columns.
+    fn kept_cells(&self, rows: &[Label], columns: &[usize]) -> Result<Vec<Num>, OutOfMemory>
+        requires rows { All (λ l. Contains self.now.labels l) rows.now }
+        requires columns { All (λ j. j < suc (length self.now.columns)) columns.now }
+        ensures { IfOk result (λ v. v.items ≡ by_columns (number self.now) rows.now columns.now) }
     {
-        let mut kept = Vec::new(*self.cells.allocator());
-        'rows: for i in rows {
-            self.keep_row(&mut kept, columns, *i)?;
+        let mut kept = Vec::new(*self.rows.allocator());
+        'columns: for j in columns {
+            self.keep_column(&mut kept, rows, *j)?;
         }
         Ok(kept)
     }
@@ -106,29 +127,28 @@ impl Dict {
     pub fn to_main(self, sys: &System, free: &FreeColumns) -> Result<Dict, OutOfMemory>
         ensures { IfOk result (λ d. EntersMainPhase self sys.now free.now d) }
     {
-        let alloc = *self.cells.allocator();
+        let alloc = *self.rows.allocator();
         let none = FreeColumns::from_vec(Vec::new(alloc));
         // no label of a row is that of a coordinate
         sys.keeps_limits();
-        let rows = kept_places(alloc, sys, &none, &self.labels)?;
-        let places = kept_places(alloc, sys, free, &self.columns)?;
-        let mut cells = self.kept_cells(&rows, &places)?;
-        let denominator = divide_out(&mut cells, self.denominator)?;
-        let labels = kept_labels(alloc, sys, &none, &self.labels)?;
         let columns = kept_labels(alloc, sys, free, &self.columns)?;
+        let mut rows = kept_labels(alloc, sys, &none, &self.rows)?;
+        push_leaving(&mut rows, sys, free, &self.columns)?;
+        let numbers = self.columns_of(&columns)?;
+        let mut kept = self.kept_cells(&rows, &numbers)?;
+        let denominator = divide_out(&mut kept, self.denominator)?;
+        let cells = Cells::new(kept)?;
         let key_labels = kept_labels(alloc, sys, free, self.key.labels())?;
-        let key = key_of(&key_labels);
-        let mut pivot_row = Vec::new(alloc);
-        pivot_row.resize(columns.len() + 1, Num::ZERO)?;
         Ok(Dict {
             phase: Phase::Main,
-            key,
-            labels,
-            columns,
+            key: key_of(&key_labels),
+            labels: kept_labels(alloc, sys, &none, &self.labels)?,
             denominator,
+            spare: cells.copy()?,
+            own: Cells::new(Vec::from_elem(alloc, Num::ZERO, rows.len())?)?,
+            columns,
+            rows,
             cells,
-            pivot_row,
-            narrow: false,
         })
     }
 }

@@ -1,15 +1,16 @@
 //! The dictionary of the coordinates, with which a phase begins.
-ghost use Rattle.std.specs.Prelude.{◌≡◌, ◌⊎◌, ◌≤◌, ◌<◌, ◌+◌, ◌-◌, ◌++◌, ◌==◌, if◌then◌else◌, pos, length, vec_len, IfOk, OnOk};
-ghost use Rattle.std.specs.List.{flat_map, range_with_len};
+ghost use Rattle.std.specs.Prelude.{◌≡◌, ◌⊎◌, ◌≤◌, ◌<◌, ◌+◌, ◌-◌, ◌++◌, ◌==◌, if◌then◌else◌, pos, length, vec_len, map, IfOk, OnOk};
+ghost use Rattle.std.specs.List.{range_with_len, slice_index_or};
 ghost use Rattle.poly_model.specs.Limits.{most_columns, most_cone_rows};
 ghost use Rattle.poly_model.specs.Keys.{IsKey};
-ghost use Rattle.poly_model.specs.Systems.{row_of};
 ghost use Rattle.poly_model.specs.declared.overflow.Phase.TheVariants.{Cone, Prepare};
 ghost use Rattle.dictionary_laws.specs.Coordinates.{coordinate_key};
-ghost use Rattle.dictionary.specs.New.{first_label, has_constants, row_count, row_cells, unit_row, HasWidths, IsCoordinateDictionary};
+ghost use Rattle.dictionary.specs.Views.{by_columns};
+ghost use Rattle.dictionary.specs.New.{first_label, has_constants, row_count, row_cells, first_number, first_width, IsCoordinateDictionary};
 
 use crate::Dict;
 use crate::places::key_of;
+use columns::Cells;
 use poly_model::{Kind, Label, OutOfMemory, Phase, System};
 use poly_num::Num;
 use std::alloc::Global;
@@ -22,20 +23,20 @@ impl Dict {
         ensures { IfOk result (λ d. IsCoordinateDictionary sys.now phase d) }
     {
         let constants = has_constants(sys.kind(), phase);
-        let rows = row_count(sys, constants);
+        let count = row_count(sys, constants);
         let columns = coordinate_labels(alloc, constants, sys.n())?;
-        let labels = all_labels(alloc, rows, &columns)?;
-        let width = columns.len() + 1;
-        let cells = all_cells(alloc, sys, rows, constants, width)?;
+        let rows = row_labels(alloc, count)?;
+        let cells = Cells::new(all_cells(alloc, sys, constants, count, columns.len() + 1)?)?;
         Ok(Dict {
             phase,
             key: key_of(&columns),
-            labels,
-            columns,
+            labels: joined(&rows, &columns)?,
             denominator: Num::ONE,
+            spare: cells.copy()?,
+            own: Cells::new(Vec::from_elem(alloc, Num::ZERO, rows.len())?)?,
+            columns,
+            rows,
             cells,
-            pivot_row: Vec::from_elem(alloc, Num::ZERO, width)?,
-            narrow: false,
         })
     }
 }
@@ -79,93 +80,76 @@ fn coordinate_labels(alloc: Global, constants: bool, n: u32) -> Result<Vec<Label
     Ok(labels)
 }
 
-// The labels of the rows, and then those.
-fn all_labels(alloc: Global, rows: u32, columns: &[Label]) -> Result<Vec<Label>, OutOfMemory>
-    requires { rows ≤ most_cone_rows }
-    ensures { IfOk result (λ v. v.items ≡ range_with_len 1 rows ++ columns.now) }
+// The labels of the first rows.
+fn row_labels(alloc: Global, count: u32) -> Result<Vec<Label>, OutOfMemory>
+    requires { count ≤ most_cone_rows }
+    ensures { IfOk result (λ v. v.items ≡ range_with_len 1 count) }
 {
-    let mut labels = Vec::with_capacity(alloc, rows as usize + columns.len())?;
-    for i in 0..rows {
+    let mut labels = Vec::with_capacity(alloc, count as usize)?;
+    for i in 0..count {
         labels.push(Label::row(i + 1))?;
     }
+    Ok(labels)
+}
+
+// The labels of the rows, and then those of the columns.
+fn joined(rows: &Vec<Label>, columns: &[Label]) -> Result<Vec<Label>, OutOfMemory>
+    ensures { IfOk result (λ v. v.items ≡ rows.now.items ++ columns.now) }
+{
+    let mut labels = rows.clone()?;
     labels.extend_from_slice(columns)?;
     Ok(labels)
 }
 
-// The cells of the rows and then of the coordinates, `width` to a row, in one block of memory.
+// The cells of the first rows, `width` columns one after the other.
 fn all_cells(
     alloc: Global,
     sys: &System,
-    rows: u32,
     constants: bool,
+    count: u32,
     width: usize,
 ) -> Result<Vec<Num>, OutOfMemory>
-    requires rows { rows ≤ length sys.now.rows }
-    requires few { rows ≤ most_cone_rows }
-    requires some { 0 < width }
-    requires narrow { width ≤ most_columns + 1 }
-    ensures value { IfOk result (λ v. v.items ≡
-        flat_map (λ i. row_cells constants (row_of sys.now.rows i).entries) (range_with_len 1 rows) ++
-        flat_map (unit_row width) (range_with_len 1 (width - 1))) }
-    ensures widths { IfOk result (λ v. HasWidths sys.now rows) }
+    requires rows { count ≤ length sys.now.rows }
+    requires width { width ≡ first_width constants sys.now.n }
+    ensures { IfOk result (λ v. v.items ≡
+        by_columns (first_number constants sys.now.rows) (range_with_len 1 count) (range_with_len 0 width)) }
 {
-    let mut cells = Vec::with_capacity(alloc, (rows as usize + width) * width)?;
-    push_rows(&mut cells, sys, rows, constants)?;
-    push_units(&mut cells, width)?;
+    let mut cells = Vec::with_capacity(alloc, count as usize * width)?;
+    for j in 0..width {
+        push_column(&mut cells, sys, constants, count, j)?;
+    }
     Ok(cells)
 }
 
-// The cells of the first rows.
-fn push_rows(
+// The cells of the first rows in column j.
+fn push_column(
     cells: &mut Vec<Num>,
     sys: &System,
-    rows: u32,
     constants: bool,
+    count: u32,
+    j: usize,
 ) -> Result<(), OutOfMemory>
-    requires { rows ≤ length sys.now.rows }
-    ensures value { OnOk result (cells.new.items ≡ cells.old.items ++
-        flat_map (λ i. row_cells constants (row_of sys.now.rows i).entries) (range_with_len 1 rows)) }
-    ensures widths { OnOk result (HasWidths sys.now rows) }
-{
-    for i in 0..rows {
-        push_row(cells, sys.row(i + 1), constants)?;
-    }
-    Ok(())
-}
-
-// The cells of a row: without constants there is a 0 in front.
-fn push_row(cells: &mut Vec<Num>, row: &[Num], constants: bool) -> Result<(), OutOfMemory>
-    ensures { OnOk result (cells.new.items ≡ cells.old.items ++ row_cells constants row.now) }
-{
-    if !constants {
-        cells.push(Num::ZERO)?;
-    }
-    cells.extend_from_slice(row)
-}
-
-// The rows of the coordinates: each is 1 in its own column.
-fn push_units(cells: &mut Vec<Num>, width: usize) -> Result<(), OutOfMemory>
-    requires { 0 < width }
+    requires rows { count ≤ length sys.now.rows }
+    requires column { j < first_width constants sys.now.n }
     ensures { OnOk result (cells.new.items ≡ cells.old.items ++
-        flat_map (unit_row width) (range_with_len 1 (width - 1))) }
+        map (λ i. first_number constants sys.now.rows i j) (range_with_len 1 count)) }
 {
-    for c in 1..width {
-        push_unit(cells, width, c)?;
+    for i in 0..count {
+        cells.push(row_cell(sys.row(i + 1), constants, j))?;
     }
     Ok(())
 }
 
-fn push_unit(cells: &mut Vec<Num>, width: usize, c: usize) -> Result<(), OutOfMemory>
-    ensures { OnOk result (cells.new.items ≡ cells.old.items ++ unit_row width c) }
+// The cell of a row in column j: without constants there is a 0 in front.
+fn row_cell(row: &[Num], constants: bool, j: usize) -> Num
+    requires { j < first_width constants (length row.now) }
+    ensures { result ≡ slice_index_or (row_cells constants row.now) j (pos 0) }
 {
-    for j in 0..width {
-        cells.push(unit_cell(j, c))?;
+    if constants {
+        row[j]
+    } else if j == 0 {
+        Num::ZERO
+    } else {
+        row[j - 1]
     }
-    Ok(())
-}
-
-fn unit_cell(j: usize, c: usize) -> Num
-    ensures { result ≡ (if j == c then pos 1 else pos 0) }
-{
-    if j == c { Num::ONE } else { Num::ZERO }
 }

@@ -1,5 +1,5 @@
 //! The cone of a polyhedron.
-ghost use Rattle.std.specs.Prelude.{◌≡◌, ◌≤◌, ◌<◌, length};
+ghost use Rattle.std.specs.Prelude.{◌≡◌, ◌≤◌, ◌<◌, ℕ, length};
 ghost use Rattle.poly_model.specs.Limits.{most_columns, most_cone_rows};
 ghost use Rattle.poly_model.specs.Systems.{row_of};
 ghost use Rattle.poly_model.specs.Tables.{IsShaped, cone_rows_in, is_point_kind};
@@ -86,9 +86,19 @@ impl System {
         ensures some { 0 < self.now.n }
         ensures narrow { self.now.n ≤ most_columns }
         ensures few { length self.now.rows ≤ most_cone_rows }
+        ensures widths { (i : ℕ) → 0 < i → i ≤ length self.now.rows → length (row_of self.now.rows i).entries ≡ self.now.n }
     {
         self.n();
         self.rows();
+        self.row_width();
+    }
+
+    // How many numbers each row has.
+    fn row_width(&self) -> u32
+        ensures value { result ≡ self.now.n }
+        ensures each { (i : ℕ) → 0 < i → i ≤ length self.now.rows → length (row_of self.now.rows i).entries ≡ result }
+    {
+        self.n
     }
 
     /// Row i, counted from 1: n numbers.

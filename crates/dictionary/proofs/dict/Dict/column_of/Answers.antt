@@ -5,7 +5,7 @@ use Rattle.dictionary.proofs.dict.Dict.column_of.Goals as goal
 
 pub overflow_add-result : goal.overflow_add-result
 overflow_add-result c =
-    let member = has_column _ c.args.self.now c.deref.result.now c.args.col c.self.invariant.1 c.self.view_is
+    let member = has_column _ c.args.self.now c.deref.result.now c.args.col c.self.invariant.2 c.self.view_is
     c.deref.ensures.value c.requires in
     let l = c.place_of.ensures.within member in
     let bound = c.deref.type_inv.0 in
@@ -13,7 +13,7 @@ overflow_add-result c =
 
 pub returns-clause-within : goal.returns-clause-within
 returns-clause-within c =
-    let member = has_column _ c.args.self.now c.deref.result.now c.args.col c.self.invariant.1 c.self.view_is
+    let member = has_column _ c.args.self.now c.deref.result.now c.args.col c.self.invariant.2 c.self.view_is
     c.deref.ensures.value c.requires in
     let l = c.place_of.ensures.within member in
     let e = c.deref.ensures.value in

@@ -1,0 +1,35 @@
+use Rattle.std.proofs.Common.{◌≡◌, ◌≢◌, ℕ, subst, sym, ap, ◌∙◌}
+use Rattle.dictionary.specs.Views.{Dictionary, IsWhole}
+use Rattle.dictionary.proofs.OverflowLemmas.{PassesAtLabel, passes_at_label}
+use Rattle.dictionary.proofs.dict.Dict.overflow_in.Goals.{After-column_of}
+use Rattle.dictionary.proofs.dict.Dict.overflow_in.Goals as goal
+
+passes : (c : After-column_of) →
+    PassesAtLabel c.args.self.now c.args.row c.args.col c.label_after-label.result c.args.spot.column
+passes c =
+    let now = c.args.self.now in
+    passes_at_label now c.args.row c.args.col (subst (λ (d : Dictionary). IsWhole d) c.self.view_is c.self.invariant.2)
+    c.requires.can c.args.spot.row c.args.spot.column c.requires.passes c.label_after-label.result
+    (λ e. c.label_after-label.ensures.here (e ∙ sym c.row_of.ensures.value))
+    (λ n. c.label_after-label.ensures.beside (λ e. n (e ∙ c.row_of.ensures.value)))
+
+pub product_overflow-requires-clause-label : goal.product_overflow-requires-clause-label
+product_overflow-requires-clause-label c = (passes (goal.at.product_overflow-requires-clause-label c).After-column_of).label
+
+pub product_overflow-requires-clause-passes : goal.product_overflow-requires-clause-passes
+product_overflow-requires-clause-passes c =
+    (passes (goal.at.product_overflow-requires-clause-passes c).After-column_of).own (c.if-spot-column_of.true ∙ c.column_of.ensures.value)
+
+pub cross_overflow-requires-clause-label : goal.cross_overflow-requires-clause-label
+cross_overflow-requires-clause-label c = (passes (goal.at.cross_overflow-requires-clause-label c).After-column_of).label
+
+pub cross_overflow-requires-clause-other : goal.cross_overflow-requires-clause-other
+cross_overflow-requires-clause-other c =
+    (passes (goal.at.cross_overflow-requires-clause-other c).After-column_of).other (λ e. c.if-spot-column_of.false (e ∙ sym c.column_of.ensures.value))
+
+pub cross_overflow-requires-clause-passes : goal.cross_overflow-requires-clause-passes
+cross_overflow-requires-clause-passes c =
+    (passes (goal.at.cross_overflow-requires-clause-passes c).After-column_of).cross (λ e. c.if-spot-column_of.false (e ∙ sym c.column_of.ensures.value))
+
+pub returns-then-spot-column_of : goal.returns-then-spot-column_of
+returns-then-spot-column_of c = c.product_overflow.ensures c.args.row

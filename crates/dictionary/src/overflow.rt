@@ -1,0 +1,120 @@
+//! Which product of a pivot passes, by its labels.
+ghost use Rattle.std.specs.Prelude.{◌≡◌, ◌≢◌, ◌<◌, ◌*ℤ◌, ℕ, suc, length};
+ghost use Rattle.std.specs.List.{Contains, slice_index_or};
+ghost use Rattle.poly_num.specs.Numbers.{IsNum, Crosses};
+ghost use Rattle.poly_model.specs.Dictionaries.{Table};
+ghost use Rattle.poly_model.specs.Overflows.{IsPlace};
+ghost use Rattle.dictionary_laws.specs.Keys.{place_in};
+ghost use Rattle.columns.specs.Cells.{CellPasses, Passes};
+ghost use Rattle.dictionary.specs.Views.{exchange_at, column_label, number, table_of, CanPivot, IsOverflow};
+
+use crate::Dict;
+use columns::{Passing, Spot};
+use poly_model::{Label, Overflow, Place};
+
+fn place(row: Label, col: Label) -> Place
+    ensures { IsPlace result row col }
+{
+    Place { row, col }
+}
+
+impl Dict {
+    // The overflow of a pivot where its exchange of cells passes.
+    pub(crate) fn overflow_at(&self, row: Label, col: Label, passing: Passing) -> Overflow
+        requires can { CanPivot self.now row col }
+        requires passes { Passes (exchange_at self.now row col) self.now.cells passing }
+        ensures { IsOverflow self.now row col result }
+    {
+        let _ = &self.phase;
+        match passing {
+            Passing::Denominator => self.product_overflow(row, col),
+            Passing::Cell(spot) => self.overflow_in(row, col, spot),
+        }
+    }
+
+    // The same at a cell. The exchange's row has the label that leaves the cobasis.
+    fn overflow_in(&self, row: Label, col: Label, spot: Spot) -> Overflow
+        requires can { CanPivot self.now row col }
+        requires passes { CellPasses (exchange_at self.now row col) self.now.cells spot.row spot.column }
+        ensures { IsOverflow self.now row col result }
+    {
+        let _ = &self.phase;
+        let label = self.label_after(self.row_of(row), col, spot.row);
+        if spot.column == self.column_of(col) {
+            self.product_overflow(label, col)
+        } else {
+            self.cross_overflow(row, col, label, spot.column)
+        }
+    }
+
+    // The label of row i of the cells where the exchange's row has another one.
+    fn label_after(&self, exchanged: usize, other: Label, i: usize) -> Label
+        requires { i < length self.now.rows }
+        ensures here { i ≡ exchanged → result ≡ other }
+        ensures beside { i ≢ exchanged → result ≡ slice_index_or self.now.rows i 0 }
+    {
+        if i == exchanged { other } else { self.rows[i] }
+    }
+
+    // The overflow of the product of the entry of `label` and the denominator.
+    fn product_overflow(&self, label: Label, col: Label) -> Overflow
+        requires label { Contains self.now.labels label }
+        requires column { Contains self.now.key col }
+        requires passes { ¬ (IsNum (Table.entry (table_of self.now) label col *ℤ self.now.denominator)) }
+        ensures { (r : ℕ) → IsOverflow self.now r col result }
+    {
+        let _ = &self.phase;
+        // a place cannot be passed twice
+        let at = place(label, col);
+        let own = place(col, col);
+        let same = place(label, col);
+        let denominator = place(col, col);
+        self.overflow(at, own, same, denominator)
+    }
+
+    // The overflow of the products of the entry of `row` and `col` and the number of `label` in a column, and crosswise,
+    // or of their difference.
+    fn cross_overflow(&self, row: Label, col: Label, label: Label, column: usize) -> Overflow
+        requires inside { Contains self.now.key col }
+        requires label { Contains self.now.labels label }
+        requires other { label ≢ row }
+        requires column { column < suc (length self.now.columns) }
+        requires apart { column ≢ suc (place_in self.now.columns col) }
+        requires passes { ¬ (Crosses (Table.entry (table_of self.now) row col) (number self.now label column)
+            (Table.entry (table_of self.now) label col) (number self.now row column)) }
+        ensures { IsOverflow self.now row col result }
+    {
+        let _ = &self.phase;
+        let other = self.column_label(column);
+        let pivot = place(row, col);
+        let inside = place(label, other);
+        let at = place(label, col);
+        let across = place(row, other);
+        self.overflow(pivot, inside, at, across)
+    }
+
+    fn overflow(&self, a: Place, b: Place, c: Place, d: Place) -> Overflow
+        ensures { result ≡ record { phase = self.now.phase; key = self.now.key; a = a; b = b; c = c; d = d } }
+    {
+        Overflow {
+            phase: self.phase,
+            key: self.key,
+            a,
+            b,
+            c,
+            d,
+        }
+    }
+
+    // The label of a column of the cells.
+    fn column_label(&self, column: usize) -> Label
+        requires { column < suc (length self.now.columns) }
+        ensures { result ≡ column_label self.now column }
+    {
+        if column == 0 {
+            Label::CONSTANT
+        } else {
+            self.columns[column - 1]
+        }
+    }
+}
