@@ -1,4 +1,4 @@
--- Parts of ascending lists, and one label more or less.
+-- Ascending lists with one label more or less, and equal keys.
 use Rattle.std.proofs.Common.{◌≡◌, ◌≢◌, ◌≤◌, ◌<◌, ◌+◌, ◌++◌, ◌-◌, ◌∷◌, [], ℕ, zero, suc, Bool, true, false, cond, List, length, take, drop, get_or, arith, refl, sym, ap, subst, ◌∙◌, add-one}
 use Rattle.std.proofs.Math.ListN.{replicate}
 use Rattle.std.proofs.Math.Seq.{take-append_seam}
