@@ -1,46 +1,17 @@
--- Parts of ascending lists, and one label more or less.
-use Rattle.std.proofs.Common.{◌≡◌, ◌≢◌, ◌≤◌, ◌<◌, ◌+◌, ◌++◌, ◌-◌, ◌∷◌, [], ℕ, zero, suc, Bool, true, false, cond, List, length, take, drop, get_or, arith, refl, sym, ap, subst, ◌∙◌, length-append, append_assoc, add-one, drop-cons, take-append-drop}
-use Rattle.std.proofs.lemmas.List.{take_more}
+-- Ascending lists with one label more or less, and equal keys.
+use Rattle.std.proofs.Common.{◌≡◌, ◌≢◌, ◌≤◌, ◌<◌, ◌+◌, ◌++◌, ◌-◌, ◌∷◌, [], ℕ, zero, suc, Bool, true, false, cond, List, length, take, drop, get_or, arith, refl, sym, ap, subst, ◌∙◌, add-one}
 use Rattle.std.proofs.Math.ListN.{replicate}
 use Rattle.std.proofs.Math.Seq.{take-append_seam}
 use Rattle.std.proofs.Math.Dec.{eqb}
 use lib.Pointwise.{pointwise}
 use Rattle.std.proofs.lemmas.Slice.Eq.{slice_eq-Decides}
 use Rattle.std.proofs.lemmas.Bool.Decides.{Decides-eqb, Decides-and}
-use Rattle.std.specs.Prelude.{nat_lt, nat_le, ◌==◌, ◌&&◌, if◌then◌else◌}
+use Rattle.std.specs.Prelude.{insert, nat_lt, nat_le, ◌==◌, ◌&&◌}
 use Rattle.std.proofs.lemmas.Bool.{ltb-true, ltb-false, leb-true, leb-false, eqb-true, eqb-false}
 use Rattle.std.specs.List.{AllByRecursion}
 use Rattle.std.specs.List.Sorted.{IsStrictlyIncreasing}
 use Rattle.poly_model.specs.Limits.{most_labels}
 use Rattle.poly_model.specs.Keys.{IsAscending, IsKey, lower_of, with_label}
-
--- a front of a list, element by element
-all_front : (P : ℕ → Type 0) (xs ys : List ℕ) → AllByRecursion P (xs ++ ys) → AllByRecursion P xs
-all_front P [] ys h = tt
-all_front P (x ∷ xs) ys h = (h.0, all_front P xs ys h.1)
-
-all_back : (P : ℕ → Type 0) (xs ys : List ℕ) → AllByRecursion P (xs ++ ys) → AllByRecursion P ys
-all_back P [] ys h = h
-all_back P (x ∷ xs) ys h = all_back P xs ys h.1
-
-all_joined : (P : ℕ → Type 0) (xs ys : List ℕ) → AllByRecursion P xs → AllByRecursion P ys → AllByRecursion P (xs ++ ys)
-all_joined P [] ys h k = k
-all_joined P (x ∷ xs) ys h k = (h.0, all_joined P xs ys h.1 k)
-
-pub ascending_front : (xs ys : List ℕ) → IsAscending (xs ++ ys) → IsAscending xs
-ascending_front [] ys h = tt
-ascending_front (x ∷ xs) ys h = (all_front (λ y. x < y) xs ys h.0, ascending_front xs ys h.1)
-
--- a front of a key is a key
-pub key_front : (xs ys : List ℕ) → IsKey (xs ++ ys) → IsKey xs
-key_front xs ys h = record { room = omega (arith, h.room, length-append xs ys); ascending = ascending_front xs ys h.ascending }
-
--- a key whose labels are taken one after the other is a key on the way
-pub key_on_the_way : (xs ys : List ℕ) (i other : ℕ) → i < length ys → IsKey (xs ++ ys) → IsKey (xs ++ take i ys ++ get_or ys i other ∷ [])
-key_on_the_way xs ys i other l h = key_front _ (drop (i + 1) ys) (subst IsKey split h)
-  where
-    split : xs ++ ys ≡ xs ++ take i ys ++ get_or ys i other ∷ [] ++ drop (i + 1) ys
-    split = ap (λ zs. xs ++ zs) (sym (take-append-drop (i + 1) ys) ∙ ap (λ zs. zs ++ drop (i + 1) ys) (take_more ys i other l) ∙ append_assoc (take i ys) _ _) ∙ sym (append_assoc xs (take i ys) _) ∙ sym (append_assoc (xs ++ take i ys) _ _)
 
 -- one number less
 all_without : (P : ℕ → Type 0) (i : ℕ) (xs : List ℕ) → AllByRecursion P xs → AllByRecursion P (take i xs ++ drop (suc i) xs)
@@ -119,15 +90,15 @@ with_old label (x ∷ xs) l e = by (with_old label xs) (nat_le label x) (nat_lt 
 
 -- the place of a label that is new
 pub with_new : (label : ℕ) (xs : List ℕ) → (lower_of label xs < length xs → get_or xs (lower_of label xs) 0 ≢ label) →
-    with_label label xs ≡ take (lower_of label xs) xs ++ label ∷ [] ++ drop (lower_of label xs) xs
+    with_label label xs ≡ insert xs (lower_of label xs) label
 with_new label [] n = refl
 with_new label (x ∷ xs) n = by (with_new label xs) (nat_le label x) (nat_lt label x) (label == x) refl refl refl n
   where
-    by : ((lower_of label xs < length xs → get_or xs (lower_of label xs) 0 ≢ label) → with_label label xs ≡ take (lower_of label xs) xs ++ label ∷ [] ++ drop (lower_of label xs) xs) →
+    by : ((lower_of label xs < length xs → get_or xs (lower_of label xs) 0 ≢ label) → with_label label xs ≡ insert xs (lower_of label xs) label) →
         (s t e : Bool) → nat_le label x ≡ s → nat_lt label x ≡ t → (label == x) ≡ e →
         (cond s zero (suc (lower_of label xs)) < length (x ∷ xs) → get_or (x ∷ xs) (cond s zero (suc (lower_of label xs))) 0 ≢ label) →
         cond t (label ∷ x ∷ xs) (cond e (x ∷ xs) (x ∷ with_label label xs)) ≡
-        take (cond s zero (suc (lower_of label xs))) (x ∷ xs) ++ label ∷ [] ++ drop (cond s zero (suc (lower_of label xs))) (x ∷ xs)
+        insert (x ∷ xs) (cond s zero (suc (lower_of label xs))) label
     by same true true e k l m n = refl
     by same true false true k l m n = absurd (n (omega arith) (sym (eqb-true label x m)))
     by same true false false k l m n = absurd (omega (arith, ltb-false label x l, leb-true label x k, eqb-false label x m))
@@ -135,22 +106,9 @@ with_new label (x ∷ xs) n = by (with_new label xs) (nat_le label x) (nat_lt la
     by same false false true k l m n = absurd (omega (arith, eqb-true label x m, leb-false label x k))
     by same false false false k l m n = ap (λ ys. x ∷ ys) (same (λ r. n (omega arith)))
 
--- the parts of a key with a new label
-pub key_with_below : (label : ℕ) (xs : List ℕ) → IsKey xs → length xs < most_labels → (lower_of label xs < length xs → get_or xs (lower_of label xs) 0 ≢ label) →
-    IsKey (take (lower_of label xs) xs ++ label ∷ [])
-key_with_below label xs h l n = key_front _ (drop (lower_of label xs) xs) (subst IsKey (with_new label xs n) (key_with label xs h l))
-
 pub key_with_new : (label : ℕ) (xs : List ℕ) → IsKey xs → length xs < most_labels → (lower_of label xs < length xs → get_or xs (lower_of label xs) 0 ≢ label) →
-    IsKey (take (lower_of label xs) xs ++ label ∷ [] ++ drop (lower_of label xs) xs)
+    IsKey (insert xs (lower_of label xs) label)
 key_with_new label xs h l n = subst IsKey (with_new label xs n) (key_with label xs h l)
-
--- a front of a key, by a number
-pub key_take : (i : ℕ) (xs : List ℕ) → IsKey xs → IsKey (take i xs)
-key_take i xs h = key_front (take i xs) (drop i xs) (subst IsKey (sym (take-append-drop i xs)) h)
-
--- one number further
-pub lower_at : (label : ℕ) (i : ℕ) (xs : List ℕ) → i < length xs → lower_of label (drop i xs) ≡ (if nat_le label (get_or xs i 0) then zero else suc (lower_of label (drop (i + 1) xs)))
-lower_at label i xs l = rw (add-one, drop-cons xs i 0) refl
 
 -- neighbours that rise
 rises_tail : (x : ℕ) (xs : List ℕ) → IsStrictlyIncreasing (x ∷ xs) → IsStrictlyIncreasing xs

@@ -1,5 +1,6 @@
 pub mod RowLemmas
 pub mod KeyLemmas
+pub mod RoomLemmas
 pub mod TableLemmas
 mod LabelKnownValues
 mod ListingKnownValues

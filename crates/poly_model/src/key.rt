@@ -1,5 +1,5 @@
 //! Sets of labels that fit in place.
-ghost use Rattle.std.specs.Prelude.{◌≡◌, ◌≢◌, ◌≤◌, ◌<◌, ◌+◌, ◌++◌, ◌∷◌, [], length, IsTrue, IsFalse, ◌↔◌, remove, slice_index};
+ghost use Rattle.std.specs.Prelude.{◌≡◌, ◌≢◌, ◌≤◌, ◌<◌, ◌+◌, ◌++◌, ◌∷◌, [], length, IsTrue, IsFalse, ◌↔◌, remove, insert, slice_index};
 ghost use Rattle.std.specs.Prelude.{take};
 ghost use Rattle.std.specs.Option.{SomeIff};
 ghost use Rattle.std.specs.List.Sorted.{IsStrictlyIncreasing};
@@ -92,8 +92,9 @@ impl Key {
         ensures value { result ≡ remove self.now at }
         ensures room { length result + 1 ≡ length self.now }
     {
-        let labels = self.labels();
-        Key::of(&labels[..at]).followed_by(&labels[at + 1..])
+        let mut key = *self;
+        key.remove_at(at);
+        key
     }
 
     /// The same with this label too.
@@ -102,40 +103,65 @@ impl Key {
         ensures value { result ≡ with_label label self.now }
         ensures room { length result ≤ length self.now + 1 }
     {
-        let labels = self.labels();
-        let at = lower(labels, label);
-        if stands_at(labels, at, label) {
-            return *self;
+        let mut key = *self;
+        key.insert(label);
+        key
+    }
+
+    /// In place of the label at this place, counted from 0, the key has this one.
+    pub fn exchange_at(&mut self, at: usize, label: Label)
+        requires { at < length self.old }
+        ensures { self.new ≡ with_label label (remove self.old at) }
+    {
+        self.remove_at(at);
+        self.insert(label);
+    }
+
+    // The labels behind this place move down over it.
+    fn remove_at(&mut self, at: usize)
+        requires { at < length self.old }
+        ensures value { self.new ≡ remove self.old at }
+        ensures len { length self.new + 1 ≡ length self.old }
+        ensures room { length self.new < most_labels }
+    {
+        let last = self.len as usize - 1;
+        self.labels.copy_within(at + 1..last + 1, at);
+        self.labels[last] = Label::EXTRA;
+        self.len -= 1;
+    }
+
+    fn insert(&mut self, label: Label)
+        requires { length self.old < most_labels }
+        ensures value { self.new ≡ with_label label self.old }
+        ensures room { length self.new ≤ length self.old + 1 }
+    {
+        let at = lower(self.labels(), label);
+        if !stands_at(self.labels(), at, label) {
+            self.insert_at(at, label);
         }
-        let (below, above) = labels.split_at(at);
-        Key::of(below).followed_by(&[label]).followed_by(above)
+    }
+
+    // The label comes to this place, and those from there on move up.
+    fn insert_at(&mut self, at: usize, label: Label)
+        requires within { at ≤ length self.old }
+        requires key { IsKey (insert self.old at label) }
+        ensures { self.new ≡ insert self.old at label }
+    {
+        self.labels.copy_within(at..self.len as usize, at + 1);
+        self.labels[at] = label;
+        self.len += 1;
     }
 
     fn of(labels: &[Label]) -> Key
         requires { IsKey labels.now }
         ensures { result ≡ labels.now }
     {
-        Key::empty().followed_by(labels)
-    }
-
-    // The labels of this key and then those.
-    fn followed_by(self, labels: &[Label]) -> Key
-        requires { IsKey (self ++ labels.now) }
-        ensures { result ≡ self ++ labels.now }
-    {
-        let mut longer = self;
-        for label in labels {
-            longer.push(*label);
+        let mut room = [Label::EXTRA; MOST_LABELS];
+        room[..labels.len()].copy_from_slice(labels);
+        Key {
+            labels: room,
+            len: labels.len() as u16,
         }
-        longer
-    }
-
-    fn push(&mut self, label: Label)
-        requires { IsKey (self.old ++ label ∷ []) }
-        ensures { self.new ≡ self.old ++ label ∷ [] }
-    {
-        self.labels[self.len as usize] = label;
-        self.len += 1;
     }
 }
 

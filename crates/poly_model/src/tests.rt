@@ -47,6 +47,30 @@ fn keys_gain_and_lose_labels(rt: HostRuntime) -> Result<(), Fail> {
 }
 
 #[test]
+fn a_key_exchanges_its_middle_label(rt: HostRuntime) -> Result<(), Fail> {
+    let (second, fifth, ninth) = (Label::row(2), Label::row(5), Label::row(9));
+    let key = Key::from_ascending(&[second, fifth, ninth]).ok_or("ascending")?;
+    let (first, seventh) = (Label::row(1), Label::row(7));
+    let coordinate = Label::coordinate(0);
+    let cases = [
+        (first, Key::from_ascending(&[first, second, ninth])),
+        (seventh, Key::from_ascending(&[second, seventh, ninth])),
+        (
+            coordinate,
+            Key::from_ascending(&[second, ninth, coordinate]),
+        ),
+        (fifth, Some(key)),
+        (ninth, Key::from_ascending(&[second, ninth])),
+    ];
+    for (label, wanted) in &cases {
+        let mut exchanged = key;
+        exchanged.exchange_at(1, *label);
+        assert_eq!(rt; Some(exchanged), *wanted);
+    }
+    Ok(())
+}
+
+#[test]
 fn polyhedra_and_cones_give_their_rows(rt: HostRuntime) -> Result<(), Fail> {
     let alloc = rt.alloc();
     let marks = Vec::from_slice(alloc, &[false, true])?;
