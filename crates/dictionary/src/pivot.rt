@@ -39,7 +39,7 @@ impl Dict {
                 swap(&mut self.cells, &mut self.spare);
                 self.denominator = denominator;
                 let at = place_of(self.key.labels(), col);
-                self.key = self.key.without_at(at).with(row);
+                self.key.exchange_at(at, row);
                 self.columns[x.column - 1] = row;
                 self.rows[x.row] = col;
                 Ok(())
