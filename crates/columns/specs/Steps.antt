@@ -63,7 +63,7 @@ pub record AreParts (cells : List ℤ) (parts : Parts ℤ) (z : ℤ) : Type 0 wh
 -- the parts of an exchange in words, so that its row needs no case: e p - (p + u) e is - u e. Where `halves` is set,
 -- all cells and the exchange's column are halves
 pub record AreWordParts (cells : List ℤ) (parts : Parts ℤ) : Type 0 where
-  pub parts : AreParts cells parts (parts.p +ℤ parts.u)
+  pub are : AreParts cells parts (parts.p +ℤ parts.u)
   pub small : IsTrue parts.halves →
       AreHalvesTo (parts.x.now.width * parts.x.now.height) cells × AreHalvesTo parts.x.now.height parts.own.now
 

@@ -1,6 +1,6 @@
 //! The new words of one column, by the quickest way that serves.
 ghost use Rattle.std.specs.Option.{IfSome};
-ghost use Rattle.std.specs.Prelude.{◌≡◌, ◌≢◌, ◌<◌, ◌*◌, ◌+◌, ◌*ℤ◌, ℤ, IsTrue, pos, length};
+ghost use Rattle.std.specs.Prelude.{◌≡◌, ◌≢◌, ◌<◌, ◌*◌, ◌+◌, ◌*ℤ◌, ℤ, List, IsTrue, pos, length};
 ghost use Rattle.std.specs.List.{slice_index_or};
 ghost use Rattle.poly_num.specs.Halves.{IsHalf};
 ghost use Rattle.columns.specs.Cells.{cell_at};
@@ -27,13 +27,15 @@ fn own_number(parts: &Parts<Word>, i: usize) -> Word
 }
 
 // The new cells of the exchange's column: whether all fit.
-fn own_column(cells: &[Word], parts: &Parts<Word>, new: &mut [Word], factor: Word) -> bool
-    requires parts { AreWordParts cells.now parts.now }
+fn own_column(parts: &Parts<Word>, new: &mut [Word], factor: Word) -> bool
+    requires own { length parts.now.own.now ≡ parts.now.x.now.height }
     requires room { length new.old ≡ parts.now.x.now.width * parts.now.x.now.height }
-    ensures written { IsTrue result → (g : ℤ) → factor *ℤ g ≡ parts.now.x.now.denominator →
-        IsColumnWritten cells.now parts.now parts.now.x.now.column parts.now.x.now.height g new.new }
+    requires within { parts.now.x.now.column < parts.now.x.now.width }
+    ensures written { IsTrue result → (cells : List ℤ) (g : ℤ) → factor *ℤ g ≡ parts.now.x.now.denominator →
+        IsColumnWritten cells parts.now parts.now.x.now.column parts.now.x.now.height g new.new }
     ensures kept { AreKept (parts.now.x.now.column * parts.now.x.now.height) new.old new.new }
-    ensures halves { IsTrue result → IsTrue parts.now.halves → factor ≡ pos 1 → IsHalf parts.now.u →
+    ensures halves { IsTrue result → factor ≡ pos 1 → IsHalf parts.now.u →
+        AreHalvesTo parts.now.x.now.height parts.now.own.now →
         AreHalvesTo (parts.now.x.now.column * parts.now.x.now.height) new.old →
         AreHalvesTo (parts.now.x.now.column * parts.now.x.now.height + parts.now.x.now.height) new.new }
 {
@@ -175,7 +177,7 @@ pub(crate) fn write_column(
         return other_column(cells, parts, new, column, &scale.divisor);
     }
     let halves = own_halves(parts, scale.factor);
-    if own_column(cells, parts, new, scale.factor) {
+    if own_column(parts, new, scale.factor) {
         Some(halves)
     } else {
         None

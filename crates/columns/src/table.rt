@@ -3,7 +3,7 @@ ghost use Rattle.std.specs.Option.{IfSome};
 ghost use Rattle.std.specs.Prelude.{◌≡◌, ◌*◌, IfOk, IfErr, IsTrue, length};
 ghost use Rattle.columns.specs.Cells.{AllowsExchange, IsTableAfter, Passes};
 ghost use Rattle.poly_num.specs.Halves.{IsHalf};
-ghost use Rattle.columns.specs.Steps.{AreFactors};
+ghost use Rattle.columns.specs.Steps.{AreFactors, AreWordParts};
 
 use crate::cells::Cells;
 use crate::common::{factors_of, own_of, wide_own_of};
@@ -66,8 +66,6 @@ impl Cells {
         if self.is_wide {
             return None;
         }
-        new.is_wide = false;
-        new.halves = false;
         own.is_wide = false;
         own.halves = false;
         if !own_of(&self.words, &mut own.words, x, factors) {
@@ -84,9 +82,25 @@ impl Cells {
             u,
             halves,
         };
-        let written = exchange_into(&self.words, &parts, &mut new.words)?;
-        new.halves = written.halves;
-        Some(written.denominator.wide())
+        new.write_words(&self.words, &parts)
+    }
+
+    // The words after the exchange, where all of them fit: the new denominator.
+    fn write_words(&mut self, cells: &[Word], parts: &Parts<Word>) -> Option<Num>
+        requires parts { AreWordParts cells.now parts.now }
+        requires room { length self.old ≡ parts.now.x.now.width * parts.now.x.now.height }
+        ensures exchanged { IfSome result (λ d. IsTableAfter parts.now.x.now cells.now d self.new) }
+        ensures room { length self.new ≡ length self.old }
+    {
+        self.is_wide = false;
+        self.halves = false;
+        match exchange_into(cells, parts, &mut self.words) {
+            Some(written) => {
+                self.halves = written.halves;
+                Some(written.denominator.wide())
+            }
+            None => None,
+        }
     }
 
     // The exchange in wide numbers: the new denominator.

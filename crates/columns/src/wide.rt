@@ -1,5 +1,5 @@
 //! The exchange of a row and a column in numbers of 127 bits, into another table.
-ghost use Rattle.std.specs.Prelude.{◌≡◌, ◌<◌, ◌≤◌, ◌+◌, ◌*◌, ◌*ℤ◌, ◌<ℤ◌, IsOk, IfOk, IfErr, MatchResult, pos, length, unsigned_abs};
+ghost use Rattle.std.specs.Prelude.{◌≡◌, ◌<◌, ◌≤◌, ◌+◌, ◌*◌, ◌*ℤ◌, ◌<ℤ◌, IfOk, IfErr, MatchResult, pos, length, unsigned_abs};
 ghost use Prim.Native.Nat.{◌∣◌};
 ghost use Rattle.columns.specs.Cells.{CellPasses, IsTableAfter, Passes};
 ghost use Rattle.columns.specs.Steps.{AreWideParts, factor_of, IsScale, IsOtherColumn, IsColumnDone, IsScaled, IsRescaled, PassesScaled, PassesRescaled, IsOver};
@@ -71,7 +71,7 @@ fn column_over_left(
     ensures done { MatchResult result
         (λ u. IsColumnDone old.now parts.now column scale.old.divisor scale.new.divisor new.old new.new)
         (λ s. CellPasses parts.now.x.now old.now s.row s.column) }
-    ensures scale { IsOk result → IsScale parts.now.x.now scale.new.divisor scale.new.factor }
+    ensures scale { IfOk result (λ u. IsScale parts.now.x.now scale.new.divisor scale.new.factor) }
 {
     let height = parts.x.height;
     let less = left_of_column(old, parts, column, scale.divisor)?;
@@ -102,10 +102,10 @@ fn wide_column(
     ensures done { MatchResult result
         (λ u. IsColumnDone old.now parts.now column scale.old.divisor scale.new.divisor new.old new.new)
         (λ s. CellPasses parts.now.x.now old.now s.row s.column) }
-    ensures scale { IsOk result → IsScale parts.now.x.now scale.new.divisor scale.new.factor }
+    ensures scale { IfOk result (λ u. IsScale parts.now.x.now scale.new.divisor scale.new.factor) }
 {
     if column == parts.x.column {
-        return wide_own_column(old, parts, new, scale);
+        return wide_own_column(parts, new, scale);
     }
     if stays(old, parts, column, scale.divisor) {
         same_column(old, parts, new, column, scale.divisor);

@@ -1,5 +1,5 @@
 //! The new wide numbers of one column.
-ghost use Rattle.std.specs.Prelude.{◌≡◌, ◌≢◌, ◌<◌, ◌*◌, ◌<ℤ◌, IsTrue, IfOk, MatchOption, MatchResult, pos, length};
+ghost use Rattle.std.specs.Prelude.{◌≡◌, ◌≢◌, ◌<◌, ◌*◌, ◌*ℤ◌, ◌<ℤ◌, ℤ, List, IsTrue, IfOk, MatchOption, MatchResult, pos, length};
 ghost use Rattle.columns.specs.Cells.{cell_at, CellPasses};
 ghost use Rattle.columns.specs.Steps.{AreWideParts, IsOtherColumn, IsScale, IsNumerator, IsLeftOfRow, IsLeftOfColumn, DividesColumn, IsColumnWritten, AreKept};
 
@@ -178,17 +178,18 @@ pub(crate) fn same_column(
 
 // The new cells of the exchange's column; the place at which one passes.
 pub(crate) fn wide_own_column(
-    old: &Cells,
     parts: &Parts<Num>,
     new: &mut [Num],
     scale: &WideScale,
 ) -> Result<(), Spot>
-    requires parts { AreWideParts old.now parts.now }
+    requires own { length parts.now.own.now ≡ parts.now.x.now.height }
     requires room { length new.old ≡ parts.now.x.now.width * parts.now.x.now.height }
+    requires within { parts.now.x.now.column < parts.now.x.now.width }
     requires scale { IsScale parts.now.x.now scale.now.divisor scale.now.factor }
     ensures written { MatchResult result
-        (λ u. IsColumnWritten old.now parts.now parts.now.x.now.column parts.now.x.now.height scale.now.divisor new.new)
-        (λ s. CellPasses parts.now.x.now old.now s.row s.column) }
+        (λ u. (cells : List ℤ) → AreWideParts cells parts.now → IsColumnWritten cells parts.now
+            parts.now.x.now.column parts.now.x.now.height scale.now.divisor new.new)
+        (λ s. (cells : List ℤ) → AreWideParts cells parts.now → CellPasses parts.now.x.now cells s.row s.column) }
     ensures kept { AreKept (parts.now.x.now.column * parts.now.x.now.height) new.old new.new }
 {
     let height = parts.x.height;
