@@ -1,6 +1,6 @@
 -- Cells that are halves, one more at a time; those of the exchange's column over a common factor.
 use Rattle.std.proofs.Common.{◌≡◌, ◌≢◌, ℕ, ℤ, ◌+◌, ◌*◌, ◌<◌, ◌*ℤ◌, ◌+ℤ◌, refl, pos, List, length, get_or, set, arith, sym, subst, get_or-set_same, get_or-set_other, below_more, ap, ◌∙◌, ⊎_elim}
-use Rattle.std.specs.Prelude.{◌<ℤ◌, unsigned_abs, IsTrue}
+use Rattle.std.specs.Prelude.{unsigned_abs, IsTrue}
 use Rattle.std.proofs.lemmas.Bool.{cases_eq}
 use Rattle.std.proofs.lemmas.Nat.{mul-add-lt}
 use Rattle.poly_num.specs.Halves.{IsHalf}

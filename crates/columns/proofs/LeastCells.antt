@@ -1,5 +1,5 @@
 -- Nothing is left to divide: the denominator and the cells that the exchange leaves have no common divisor.
-use Rattle.std.proofs.Common.{◌≡◌, ◌≢◌, ℕ, zero, suc, ◌+◌, ◌*◌, ◌<◌, ℤ, pos, negsuc, neg_ℤ, ◌*ℤ◌, ◌-ℤ◌, List, [], ◌∷◌, get_or, arith, refl, sym, ap, subst, ◌∙◌, mul_comm, ⊎_elim}
+use Rattle.std.proofs.Common.{◌≡◌, ◌≢◌, ℕ, zero, suc, ◌*◌, ◌<◌, ℤ, pos, negsuc, neg_ℤ, ◌*ℤ◌, List, [], ◌∷◌, get_or, arith, refl, sym, ap, subst, ◌∙◌, mul_comm, ⊎_elim}
 use Prim.Native.Nat.{◌∣◌}
 use Rattle.std.specs.Prelude.{◌<ℤ◌, unsigned_abs, int_div}
 use Rattle.std.proofs.lemmas.Bool.{cases_eq}

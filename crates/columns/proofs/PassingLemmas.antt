@@ -1,18 +1,18 @@
 -- Where a number that the exchange makes passes, so does what its place takes.
-use Rattle.std.proofs.Common.{◌≡◌, ◌≢◌, ℕ, ◌+◌, ◌*◌, ◌<◌, ◌≤◌, ℤ, pos, neg_ℤ, ◌*ℤ◌, ◌-ℤ◌, List, get_or, arith, refl, sym, ap, subst, ◌∙◌, Option, Some, None, Result, Ok, Err}
+use Rattle.std.proofs.Common.{◌≡◌, ◌≢◌, ℕ, ◌*◌, ◌<◌, ◌≤◌, ℤ, pos, neg_ℤ, ◌*ℤ◌, ◌-ℤ◌, List, get_or, arith, sym, ap, subst, ◌∙◌, Option, Some, None, Result, Ok, Err}
 use Rattle.std.specs.Prelude.{◌<ℤ◌, unsigned_abs}
 use Rattle.std.specs.Option.{SomeIff, MatchOption}
 use Rattle.std.specs.Result.{MatchResult}
 use Rattle.std.proofs.lemmas.Int.{unsigned_abs-mul}
 use Rattle.poly_num.specs.Numbers.{IsNum, Crosses}
-use Rattle.poly_num.proofs.Ring.{expand, lin, mul_comm, mul_assoc}
-use Rattle.poly_num.proofs.Order.{mul_nonzero, positive_nonzero, cancel}
+use Rattle.poly_num.proofs.Ring.{expand, mul_assoc}
+use Rattle.poly_num.proofs.Order.{mul_nonzero, positive_nonzero}
 use Rattle.poly_num.proofs.FractionLemmas as fractions
 use Rattle.poly_num.proofs.DivisorLemmas.{unsigned_abs-neg}
 use Rattle.columns.proofs.DivisorLemmas.{at_least}
 use Rattle.columns.specs.declared.exchange.Exchange.{Exchange}
 use Rattle.columns.specs.declared.parts.Parts.{Parts}
-use Rattle.columns.specs.Cells.{cell_at, place, pivot_of, IsNewCell, CellPasses}
+use Rattle.columns.specs.Cells.{cell_at, pivot_of, IsNewCell, CellPasses}
 use Rattle.columns.specs.Steps.{IsNumerator, AreParts, factor_of, IsOver, IsScaled, IsRescaled, PassesScaled, PassesRescaled}
 use Rattle.columns.proofs.ColumnLemmas.{rescaled}
 use Rattle.columns.proofs.OverLemmas.{pivot_back, own_back, nonzero, inside_new, numerator_is, denominator_is}
@@ -47,18 +47,24 @@ passes_new x cells i j z hi hj is fails = record {
 }
 
 -- numbers over a divisor, times a factor of it
-pub rescaled_or_passes : {T : Type 0} (n : ℕ) (g h k : ℤ) (old new : List ℤ) → k *ℤ h ≡ g → pos 0 <ℤ h →
+pub rescaled_or_passes : {T : Type 0} (n : ℕ) (g h k : ℤ) (old new : List ℤ) → k *ℤ h ≡ g →
     (r : Result T ℕ) → MatchResult r (λ u. IsScaled n k old new) (λ i. PassesScaled n k old i) →
     MatchResult r (λ u. IsRescaled n g h old new) (λ i. PassesRescaled n g h old i)
-rescaled_or_passes n g h k old new e lt (Ok u) w = rescaled n g h k e old new w
-rescaled_or_passes n g h k old new e lt (Err i) w = record {
-  within = w.within;
-  passes = λ z same num.
-      let y = get_or old i (pos 0) in
-      let is : h *ℤ z ≡ h *ℤ (y *ℤ k) =
-      mul_comm h z ∙ same ∙ ap (λ (m : ℤ). y *ℤ m) (sym e) ∙ sym (mul_assoc y k h) ∙ mul_comm (y *ℤ k) h in
-      w.passes (subst IsNum (cancel h z (y *ℤ k) (positive_nonzero h lt) is) num);
-}
+rescaled_or_passes n g h k old new e (Ok u) w = rescaled n g h k e old new w
+rescaled_or_passes n g h k old new e (Err i) w =
+    let y = get_or old i (pos 0) in
+    record {
+      within = w.within;
+      number = y *ℤ k;
+      same = mul_assoc y k h ∙ ap (λ (z : ℤ). y *ℤ z) e;
+      passes = w.passes;
+    }
+
+-- an answer that says more
+pub answered_more : {T E : Type 0} {P P' : T → Type 0} {Q Q' : E → Type 0} (r : Result T E) → ((t : T) → P t → P' t) →
+    ((e : E) → Q e → Q' e) → MatchResult r P Q → MatchResult r P' Q'
+answered_more (Ok t) p q h = p t h
+answered_more (Err e) p q h = q e h
 
 -- two ways to group three factors
 grouped : (f g q : ℤ) → f *ℤ (q *ℤ g) ≡ (f *ℤ g) *ℤ q

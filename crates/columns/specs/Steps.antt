@@ -138,7 +138,9 @@ pub record IsRescaled (place : ℕ) (g h : ℤ) (old new : List ℤ) : Type 0 wh
 -- k is one of the first n places, and the number there, which was over g, passes over h
 pub record PassesRescaled (n : ℕ) (g h : ℤ) (old : List ℤ) (k : ℕ) : Type 0 where
   pub within : k < n
-  pub passes : (z : ℤ) → z *ℤ h ≡ slice_index_or old k (pos 0) *ℤ g → ¬ (IsNum z)
+  pub number : ℤ
+  pub same : number *ℤ h ≡ slice_index_or old k (pos 0) *ℤ g
+  pub passes : ¬ (IsNum number)
 
 -- h is what is left of the divisor g where it is to divide row i of column j, if that is not the exchange's
 pub record IsLeftOfRow (cells : List ℤ) (parts : Parts ℤ) (j i : ℕ) (g h : ℤ) : Type 0 where

@@ -78,11 +78,13 @@ fn column_over_left(
     if let Err(place) = numbers_over_less(new, column * height, scale.divisor, less) {
         return Err(spot_of(place, height));
     }
-    *scale = WideScale {
+    let smaller = WideScale {
         divisor: less,
         factor: quotient(parts.x.denominator, less),
     };
-    divided_column(old, parts, new, column, scale)
+    divided_column(old, parts, new, column, &smaller)?;
+    *scale = smaller;
+    Ok(())
 }
 
 // The new cells of a column; where the divisor does not divide it, it shrinks, and the columns before grow. The place

@@ -188,7 +188,7 @@ pub(crate) fn wide_own_column(
     requires scale { IsScale parts.now.x.now scale.now.divisor scale.now.factor }
     ensures written { MatchResult result
         (λ u. (cells : List ℤ) → AreWideParts cells parts.now → IsColumnWritten cells parts.now
-            parts.now.x.now.column parts.now.x.now.height scale.now.divisor new.new)
+        parts.now.x.now.column parts.now.x.now.height scale.now.divisor new.new)
         (λ s. (cells : List ℤ) → AreWideParts cells parts.now → CellPasses parts.now.x.now cells s.row s.column) }
     ensures kept { AreKept (parts.now.x.now.column * parts.now.x.now.height) new.old new.new }
 {

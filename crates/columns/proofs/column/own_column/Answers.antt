@@ -1,4 +1,4 @@
-use Rattle.std.proofs.Common.{refl, rules, arith, ◌<◌, ◌+◌, ◌*◌, length, ◌∙◌, ap, sym, ℤ, ◌*ℤ◌, ◌≡◌, ◌≢◌, pos, subst, ℕ, get_or, ⊎_elim}
+use Rattle.std.proofs.Common.{refl, rules, arith, ◌<◌, ◌+◌, ◌*◌, length, ◌∙◌, ap, sym, ℤ, ◌*ℤ◌, ◌≡◌, ◌≢◌, pos, subst, ℕ, ⊎_elim}
 use Rattle.std.proofs.lemmas.Bool.{cases_eq}
 use Rattle.poly_num.specs.Halves.{IsHalf}
 use Rattle.poly_num.proofs.Ring.{mul_assoc, one_mul, mul_comm}

@@ -1,4 +1,4 @@
-use Rattle.std.proofs.Common.{ℤ, subst, ◌∙◌}
+use Rattle.std.proofs.Common.{ℤ, subst}
 use Rattle.poly_num.specs.Divisors.{IsGcdOf}
 use Rattle.columns.proofs.CommonFactors.{factor_start, factor_column, factor_row}
 use Rattle.columns.proofs.common.common_factor.Goals as goal

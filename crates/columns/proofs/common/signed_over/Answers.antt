@@ -1,4 +1,4 @@
-use Rattle.std.proofs.Common.{◌≡◌, ◌∙◌, ap, ℤ, ◌*ℤ◌}
+use Rattle.std.proofs.Common.{◌∙◌, ap, ℤ, ◌*ℤ◌}
 use Rattle.poly_num.proofs.Ring.{mul_assoc}
 use Rattle.columns.proofs.DivisorLemmas.{quotient_exact}
 use Rattle.columns.proofs.common.signed_over.Goals as goal

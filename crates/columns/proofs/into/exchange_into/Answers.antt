@@ -1,4 +1,4 @@
-use Rattle.std.proofs.Common.{◌≡◌, ◌+ℤ◌, subst, sym, ℤ, ℕ, ◌∙◌, arith, refl, mul_comm}
+use Rattle.std.proofs.Common.{◌≡◌, ◌+ℤ◌, subst, sym, ℤ, ℕ, ◌∙◌, arith, mul_comm}
 use Rattle.poly_num.proofs.Ring.{one_mul}
 use Rattle.columns.specs.Cells.{IsTableAfter}
 use Rattle.columns.specs.HalfCells.{AreHalvesTo}

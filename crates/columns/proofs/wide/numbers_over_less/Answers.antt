@@ -26,5 +26,5 @@ returns-then-is_one c =
 pub returns : goal.returns
 returns c =
     rescaled_or_passes c.args.count c.args.divisor c.args.less c.quotient-factor.result c.args.new.now
-    c.scale_numbers.new.new (times (goal.at.returns c).After-quotient-factor) c.requires.positive c.scale_numbers.result
+    c.scale_numbers.new.new (times (goal.at.returns c).After-quotient-factor) c.scale_numbers.result
     c.scale_numbers.ensures

@@ -1,4 +1,4 @@
-use Rattle.std.proofs.Common.{◌≡◌, ◌<◌, ◌*ℤ◌, ◌∙◌, ℤ, rules, arith, ap, sym, subst}
+use Rattle.std.proofs.Common.{◌*ℤ◌, ◌∙◌, ℤ, rules, arith, ap, sym, subst}
 use Rattle.poly_num.specs.Numbers.{IsNum}
 use Rattle.columns.proofs.wide.scale_numbers.Goals as goal
 

@@ -1,4 +1,4 @@
-use Rattle.std.proofs.Common.{◌≡◌, ◌≢◌, refl, rules, arith, ◌<◌, ◌+◌, ◌*◌, ◌*ℤ◌, ◌∙◌, ap, ℕ, ℤ, pos, List, length, get_or}
+use Rattle.std.proofs.Common.{◌≡◌, refl, rules, arith, ◌<◌, ◌+◌, ◌*◌, ◌*ℤ◌, ◌∙◌, ap, ℕ, ℤ, pos, List, length, get_or}
 use Rattle.poly_num.proofs.Ring.{mul_assoc}
 use Rattle.columns.specs.Steps.{AreWideParts, IsNumerator}
 use Rattle.columns.proofs.ColumnLemmas.{written_more, kept_more, own_is}
