@@ -71,7 +71,7 @@ pub record AreWordParts (cells : List ℤ) (parts : Parts ℤ) : Type 0 where
 abbrev pub AreWideParts : List ℤ → Parts ℤ → Type 0
 AreWideParts cells parts = AreParts cells parts parts.u
 
--- what a new cell, over the sign of the pivot's cell times the common factor, is divided by next
+-- what is to be divided is the new cell over this: the sign of the pivot's cell times the common factor
 abbrev pub factor_of : Parts ℤ → ℤ
 factor_of parts = parts.factors.now.sign *ℤ parts.factors.now.common
 
