@@ -1,15 +1,15 @@
 -- One cell more of a column, and one column more.
-use Rattle.std.proofs.Common.{◌≡◌, ◌≢◌, ℕ, ℤ, ◌+◌, ◌<◌, ◌≤◌, ◌*ℤ◌, ◌-ℤ◌, ◌*◌, pos, List, length, get_or, set, arith, ◌∙◌, sym, subst, refl, ap, get_or-set_same, get_or-set_other, below_more}
+use Rattle.std.proofs.Common.{◌≡◌, ◌≢◌, ℕ, ℤ, ◌+◌, ◌<◌, ◌≤◌, ◌*ℤ◌, ◌+ℤ◌, ◌-ℤ◌, neg_ℤ, ◌*◌, pos, List, length, get_or, set, arith, ◌∙◌, sym, subst, refl, ap, get_or-set_same, get_or-set_other, below_more, ⊎_elim}
 use Rattle.std.specs.Prelude.{unsigned_abs, ◌<ℤ◌}
+use Rattle.std.proofs.lemmas.Bool.{cases_eq}
 use Rattle.std.proofs.lemmas.Nat.Gcd.{dvd_refl, dvd_trans}
 use Rattle.std.proofs.lemmas.List.{length-set}
 use Rattle.poly_num.specs.Divisors.{IsGcdOf}
-use Rattle.poly_num.proofs.Ring.{lin, mul_comm, mul_assoc, zero_mul}
+use Rattle.poly_num.proofs.Ring.{expand, lin, mul_comm, mul_assoc, zero_mul}
 use Rattle.columns.specs.declared.exchange.Exchange.{Exchange}
-use Rattle.columns.specs.declared.step.Before.{Before}
-use Rattle.columns.specs.declared.step.Step.{Step}
+use Rattle.columns.specs.declared.parts.Parts.{Parts}
 use Rattle.columns.specs.Cells.{cell_at}
-use Rattle.columns.specs.Steps.{IsNumerator, IsColumnWritten, AreKept, IsLeftOfColumn, IsColumnDone, IsScaled, IsRescaled}
+use Rattle.columns.specs.Steps.{IsNumerator, IsColumnWritten, DividesColumn, AreKept, IsLeftOfRow, IsLeftOfColumn, IsColumnDone, IsScaled, IsRescaled}
 use Rattle.columns.proofs.DivisorLemmas.{positive_gcd}
 
 pub kept_start : (n : ℕ) (old : List ℤ) → AreKept n old old
@@ -39,71 +39,163 @@ column_more x j P i new q lt h u =
     subst (P k) (sym (get_or-set_other new (j * x.height + i) (j * x.height + k) q (pos 0) ne)) (u k l))
     (subst (P i) (sym (get_or-set_same new (j * x.height + i) q (pos 0) lt)) h)
 
-module _ (x : Exchange) (before : Before) (step : Step) (g : ℤ) where
-  pub written_more : (i : ℕ) (new : List ℤ) (q n : ℤ) → step.column * x.height + i < length new → q *ℤ g ≡ n →
-      IsNumerator x before step i n → IsColumnWritten x before step i g new →
-      IsColumnWritten x before step (i + 1) g (set new (step.column * x.height + i) q)
-  written_more i new q n lt e is u =
-      column_more x step.column (λ k z. IsNumerator x before step k (z *ℤ g)) i new q lt
-      (subst (λ (z : ℤ). IsNumerator x before step i z) (sym e) is) u
+-- what is to be divided in a cell is one number
+one_numerator : (cells : List ℤ) (parts : Parts ℤ) (j i : ℕ) (y z : ℤ) → IsNumerator cells parts j i y →
+    IsNumerator cells parts j i z → y ≡ z
+one_numerator cells parts j i y z p q =
+    ⊎_elim
+    (λ (e : j ≡ parts.x.now.column).
+    ⊎_elim
+    (λ (r : i ≡ parts.x.now.row). p.corner e r ∙ sym (q.corner e r))
+    (λ (r : i ≢ parts.x.now.row). p.column e r ∙ sym (q.column e r))
+    (cases_eq i parts.x.now.row))
+    (λ (n : j ≢ parts.x.now.column).
+    ⊎_elim
+    (λ (r : i ≡ parts.x.now.row). p.leaving n r ∙ sym (q.leaving n r))
+    (λ (r : i ≢ parts.x.now.row). p.inside n r ∙ sym (q.inside n r))
+    (cases_eq i parts.x.now.row))
+    (cases_eq j parts.x.now.column)
 
-  pub left_start : pos 0 <ℤ g → IsLeftOfColumn x before step 0 g g
-  left_start lt = record { positive = lt; divides = dvd_refl (unsigned_abs g); greatest = λ k d _. d }
-
-  pub left_more : (i : ℕ) (h n c : ℤ) → IsNumerator x before step i n → IsGcdOf h n c →
-      IsLeftOfColumn x before step i g h → IsLeftOfColumn x before step (i + 1) g c
-  left_more i h n c is d u = record {
-    positive = positive_gcd h n c u.positive d;
-    divides = dvd_trans _ d.1.0 u.divides;
-    greatest = λ k kg all.
-        d.1.2 k (u.greatest k kg (λ a l m im. all a (omega arith) m im)) (all i (omega arith) n is);
+module _ (cells : List ℤ) (parts : Parts ℤ) (j : ℕ) where
+  -- in a row of the exchange's own nothing is asked of the divisor
+  pub row_left_same : (i : ℕ) (h : ℤ) → i ≡ parts.x.now.row → pos 0 <ℤ h → IsLeftOfRow cells parts j i h h
+  row_left_same i h e lt = record {
+    positive = lt;
+    divides = dvd_refl (unsigned_abs h);
+    in_row = λ n. absurd (n e);
+    greatest = λ k d _. d;
   }
 
-  -- the divisor divides the whole column
-  pub done_same : (old new : List ℤ) → pos 0 <ℤ g → AreKept (step.column * x.height) old new →
-      IsColumnWritten x before step x.height g new → IsColumnDone x before step g g old new
-  done_same old new lt kept w = record {
-    same_length = kept.same_length;
-    left = record { positive = lt; divides = dvd_refl (unsigned_abs g); greatest = λ k d _. d };
-    written = w;
-    rescaled = λ k l. ap (λ (z : ℤ). z *ℤ g) (kept.kept k l);
+  pub row_left : (i : ℕ) (h n c : ℤ) → pos 0 <ℤ h → IsNumerator cells parts j i n → IsGcdOf h n c →
+      IsLeftOfRow cells parts j i h c
+  row_left i h n c lt is d = record {
+    positive = positive_gcd h n c lt d;
+    divides = d.1.0;
+    in_row = λ _ m im. rw (one_numerator cells parts j i m n im is) (d.1.1);
+    greatest = λ k kh all. d.1.2 k kh (all n is);
   }
 
-  -- it does not, and has shrunk
-  pub done_less : (h : ℤ) (old mid new : List ℤ) → IsLeftOfColumn x before step x.height g h →
-      IsRescaled (step.column * x.height) g h old mid → AreKept (step.column * x.height) mid new →
-      IsColumnWritten x before step x.height h new → IsColumnDone x before step g h old new
-  done_less h old mid new left r kept w = record {
-    same_length = kept.same_length ∙ r.same_length;
-    left = left;
-    written = w;
-    rescaled = λ k l. ap (λ (z : ℤ). z *ℤ h) (kept.kept k l) ∙ r.scaled k l;
-  }
+  pub divides_more : (i : ℕ) (h c : ℤ) → IsLeftOfRow cells parts j i h c → DividesColumn cells parts j i h →
+      DividesColumn cells parts j (i + 1) c
+  divides_more i h c r u = below_more _ _ (λ k l ne n is. dvd_trans _ r.divides (u k l ne n is)) r.in_row
 
-  -- after a try that wrote in the step's column alone
-  pub done_after : (old mid new : List ℤ) (h : ℤ) → AreKept (step.column * x.height) old mid →
-      IsColumnDone x before step g h mid new → IsColumnDone x before step g h old new
-  done_after old mid new h kept u = record {
-    same_length = u.same_length ∙ kept.same_length;
-    left = u.left;
-    written = u.written;
-    rescaled = λ k l. u.rescaled k l ∙ ap (λ (z : ℤ). z *ℤ g) (kept.kept k l);
-  }
+  module _ (g : ℤ) where
+    pub written_more : (i : ℕ) (new : List ℤ) (q n : ℤ) → j * parts.x.now.height + i < length new → q *ℤ g ≡ n →
+        IsNumerator cells parts j i n → IsColumnWritten cells parts j i g new →
+        IsColumnWritten cells parts j (i + 1) g (set new (j * parts.x.now.height + i) q)
+    written_more i new q n lt e is u =
+        column_more parts.x.now j (λ k z. IsNumerator cells parts j k (z *ℤ g)) i new q lt
+        (subst (λ (z : ℤ). IsNumerator cells parts j i z) (sym e) is) u
 
-module _ (x : Exchange) (before : Before) (step : Step) where
-  pub inside_is : (i : ℕ) (a c n : ℤ) → step.column ≢ x.column → a ≡ cell_at x.height before.cells.now i step.column →
-      c ≡ get_or before.own.now i (pos 0) → n ≡ a *ℤ step.p -ℤ c *ℤ step.b → IsNumerator x before step i n
-  inside_is i a c n ne ea ec en = record { own = λ e. absurd (ne e); inside = λ _. en ∙ rw (ea, ec) refl }
+    pub left_start : pos 0 <ℤ g → IsLeftOfColumn cells parts j 0 g g
+    left_start lt = record { positive = lt; divides = dvd_refl (unsigned_abs g); greatest = λ k d _. d }
 
-  pub own_is : (i : ℕ) (c n : ℤ) → step.column ≡ x.column → c ≡ get_or before.own.now i (pos 0) →
-      n ≡ c *ℤ x.denominator → IsNumerator x before step i n
-  own_is i c n e ec en = record { own = λ _. en ∙ rw ec refl; inside = λ ne. absurd (ne e) }
+    pub left_more : (i : ℕ) (h c : ℤ) → IsLeftOfRow cells parts j i h c → IsLeftOfColumn cells parts j i g h →
+        IsLeftOfColumn cells parts j (i + 1) g c
+    left_more i h c r u = record {
+      positive = r.positive;
+      divides = dvd_trans _ r.divides u.divides;
+      greatest = λ k kg all.
+          r.greatest k (u.greatest k kg (λ a l m im. all a (omega arith) m im)) (λ n is. all i (omega arith) n is);
+    }
+
+    -- the divisor divides the whole column
+    pub done_same : (old new : List ℤ) → pos 0 <ℤ g → AreKept (j * parts.x.now.height) old new →
+        IsColumnWritten cells parts j parts.x.now.height g new → IsColumnDone cells parts j g g old new
+    done_same old new lt kept w = record {
+      same_length = kept.same_length;
+      left = record { positive = lt; divides = dvd_refl (unsigned_abs g); greatest = λ k d _. d };
+      written = w;
+      rescaled = λ k l. ap (λ (z : ℤ). z *ℤ g) (kept.kept k l);
+    }
+
+    -- it does not, and has shrunk
+    pub done_less : (h : ℤ) (old mid new : List ℤ) → IsLeftOfColumn cells parts j parts.x.now.height g h →
+        IsRescaled (j * parts.x.now.height) g h old mid → AreKept (j * parts.x.now.height) mid new →
+        IsColumnWritten cells parts j parts.x.now.height h new → IsColumnDone cells parts j g h old new
+    done_less h old mid new left r kept w = record {
+      same_length = kept.same_length ∙ r.same_length;
+      left = left;
+      written = w;
+      rescaled = λ k l. ap (λ (z : ℤ). z *ℤ h) (kept.kept k l) ∙ r.scaled k l;
+    }
+
+    -- after a try that wrote in the column alone
+    pub done_after : (old mid new : List ℤ) (h : ℤ) → AreKept (j * parts.x.now.height) old mid →
+        IsColumnDone cells parts j g h mid new → IsColumnDone cells parts j g h old new
+    done_after old mid new h kept u = record {
+      same_length = u.same_length ∙ kept.same_length;
+      left = u.left;
+      written = u.written;
+      rescaled = λ k l. u.rescaled k l ∙ ap (λ (z : ℤ). z *ℤ g) (kept.kept k l);
+    }
+
+-- in the exchange's row, where the exchange's column has p + u
+leaving_equation : (p u r : ℤ) → r *ℤ p -ℤ (p +ℤ u) *ℤ r ≡ neg_ℤ (u *ℤ r)
+leaving_equation p u r = simp expand (omega (arith, lin))
 
 -- a cell of which nothing is taken, over what it is multiplied by
-pub stays_equation : (g e p c b : ℤ) → (b ≡ pos 0) × (p ≡ g) → e *ℤ g ≡ e *ℤ p -ℤ c *ℤ b
-stays_equation g e p c b stays =
-    let k : c *ℤ b ≡ pos 0 = mul_comm c b ∙ rw (stays.0) (zero_mul c) in
-    rw (stays.1) (omega (arith, lin))
+stays_equation : (g e p c b : ℤ) → b ≡ pos 0 → p ≡ g → e *ℤ g ≡ e *ℤ p -ℤ c *ℤ b
+stays_equation g e p c b none same =
+    let k : c *ℤ b ≡ pos 0 = mul_comm c b ∙ rw none (zero_mul c) in
+    rw same (omega (arith, lin))
+
+zero_equation : (g e u b : ℤ) → e ≡ pos 0 → b ≡ pos 0 → e *ℤ g ≡ neg_ℤ (u *ℤ b)
+zero_equation g e u b ee eb =
+    let k : u *ℤ b ≡ pos 0 = mul_comm u b ∙ rw eb (zero_mul u) in
+    let l : e *ℤ g ≡ pos 0 = rw ee (zero_mul g) in
+    omega (arith, lin)
+
+module _ (cells : List ℤ) (parts : Parts ℤ) (j : ℕ) where
+  -- another column than the exchange's, where its own has p + u in the exchange's row
+  pub inside_is : get_or parts.own.now parts.x.now.row (pos 0) ≡ parts.p +ℤ parts.u → j ≢ parts.x.now.column →
+      (i : ℕ) (a c b n : ℤ) → a ≡ cell_at parts.x.now.height cells i j → c ≡ get_or parts.own.now i (pos 0) →
+      b ≡ cell_at parts.x.now.height cells parts.x.now.row j → n ≡ a *ℤ parts.p -ℤ c *ℤ b → IsNumerator cells parts j i n
+  inside_is sum ne i a c b n ea ec eb en = record {
+    column = λ e. absurd (ne e);
+    corner = λ e. absurd (ne e);
+    inside = λ _ _. en ∙ rw (ea, ec, eb) refl;
+    leaving = λ _ r.
+        en ∙ rw (ea, ec, eb, r, sum)
+        (leaving_equation parts.p parts.u (cell_at parts.x.now.height cells parts.x.now.row j));
+  }
+
+  -- another column and another row than the exchange's
+  pub elsewhere_is : j ≢ parts.x.now.column → (i : ℕ) → i ≢ parts.x.now.row → (a c b n : ℤ) →
+      a ≡ cell_at parts.x.now.height cells i j → c ≡ get_or parts.own.now i (pos 0) →
+      b ≡ cell_at parts.x.now.height cells parts.x.now.row j → n ≡ a *ℤ parts.p -ℤ c *ℤ b → IsNumerator cells parts j i n
+  elsewhere_is ne i nr a c b n ea ec eb en = record {
+    column = λ e. absurd (ne e);
+    corner = λ e. absurd (ne e);
+    inside = λ _ _. en ∙ rw (ea, ec, eb) refl;
+    leaving = λ _ r. absurd (nr r);
+  }
+
+  -- a column that stays
+  pub stays_is : j ≢ parts.x.now.column → (g : ℤ) → cell_at parts.x.now.height cells parts.x.now.row j ≡ pos 0 →
+      parts.p ≡ g → (i : ℕ) (e : ℤ) → e ≡ cell_at parts.x.now.height cells i j → IsNumerator cells parts j i (e *ℤ g)
+  stays_is ne g none same i e ea = record {
+    column = λ q. absurd (ne q);
+    corner = λ q. absurd (ne q);
+    inside = λ _ _.
+        stays_equation g e parts.p (get_or parts.own.now i (pos 0))
+        (cell_at parts.x.now.height cells parts.x.now.row j) none same
+        ∙ ap (λ (z : ℤ). z *ℤ parts.p -ℤ get_or parts.own.now i (pos 0)
+        *ℤ cell_at parts.x.now.height cells parts.x.now.row j) ea;
+    leaving = λ _ r.
+        zero_equation g e parts.u (cell_at parts.x.now.height cells parts.x.now.row j)
+        (ea ∙ ap (λ (k : ℕ). cell_at parts.x.now.height cells k j) r ∙ none) none;
+  }
+
+  -- the exchange's column
+  pub own_is : j ≡ parts.x.now.column → (i : ℕ) (c n : ℤ) → (i ≢ parts.x.now.row → c ≡ get_or parts.own.now i (pos 0)) →
+      (i ≡ parts.x.now.row → c ≡ parts.u) → n ≡ c *ℤ parts.x.now.denominator → IsNumerator cells parts j i n
+  own_is e i c n other here en = record {
+    column = λ _ nr. en ∙ ap (λ (z : ℤ). z *ℤ parts.x.now.denominator) (other nr);
+    corner = λ _ r. en ∙ ap (λ (z : ℤ). z *ℤ parts.x.now.denominator) (here r);
+    inside = λ ne. absurd (ne e);
+    leaving = λ ne. absurd (ne e);
+  }
 
 -- numbers that were over g, times g over h, are over h
 pub rescaled : (place : ℕ) (g h factor : ℤ) → factor *ℤ h ≡ g → (old new : List ℤ) → IsScaled place factor old new →
@@ -113,5 +205,4 @@ rescaled place g h factor e old new u = record {
   scaled = λ k l.
       let z = get_or old k (pos 0) in
       ap (λ (y : ℤ). y *ℤ h) (u.scaled k l) ∙ mul_assoc z factor h ∙ ap (λ (y : ℤ). z *ℤ y) e;
-  rest = u.rest;
 }

@@ -24,6 +24,7 @@ module _ (x : Exchange) (cells : List ℤ) where
       IsCommonFactor x cells 0 0 g
   factor_start g lt is = record {
     positive = positive_gcd x.denominator (pivot_of x cells) g lt is;
+    denominator = is.1.0;
     in_column = λ i l. absurd (omega arith);
     in_row = λ j l. absurd (omega arith);
     greatest = λ d k all. divides_gcd x.denominator (pivot_of x cells) g is d k all.denominator all.pivot;
@@ -40,6 +41,7 @@ module _ (x : Exchange) (cells : List ℤ) where
     pub factor_column : c ≡ cell_at x.height cells m x.column → IsCommonFactor x cells (m + 1) n g
     factor_column e = record {
       positive = positive_gcd h c g u.positive is;
+      denominator = dvd_trans _ is.1.0 u.denominator;
       in_column = below_more _ _ in_column_still (rw (← e) (is.1.1));
       in_row = in_row_still;
       greatest = λ d k all.
@@ -52,6 +54,7 @@ module _ (x : Exchange) (cells : List ℤ) where
     pub factor_row : c ≡ cell_at x.height cells x.row n → IsCommonFactor x cells m (n + 1) g
     factor_row e = record {
       positive = positive_gcd h c g u.positive is;
+      denominator = dvd_trans _ is.1.0 u.denominator;
       in_column = in_column_still;
       in_row = below_more _ _ in_row_still (rw (← e) (is.1.1));
       greatest = λ d k all.

@@ -45,7 +45,7 @@ pub quotient_exact : (h a : ℤ) → pos 0 <ℤ h → unsigned_abs h ∣ unsigne
 quotient_exact (pos h) a lt d = quotient_times h a d
 quotient_exact (negsuc h) a lt d = absurd (omega (arith, ints))
 
-at_least : (n m : ℕ) → 0 < m → n ≤ n * m
+pub at_least : (n m : ℕ) → 0 < m → n ≤ n * m
 at_least n zero lt = absurd (omega arith)
 at_least n (suc m) lt = omega arith
 
@@ -66,3 +66,6 @@ turned_size t z e = unsigned_abs-mul t z ∙ rw e (omega arith)
 pub factor_nonzero : (v t h : ℤ) → v ≢ pos 0 → IsSignOf v t → pos 0 <ℤ h → t *ℤ h ≢ pos 0
 factor_nonzero v t h nonzero sign lt =
     mul_nonzero t h (λ e. let f = sym sign.size ∙ ap unsigned_abs e in absurd (omega arith)) (positive_nonzero h lt)
+
+pub gcd_turned : (a b g : ℤ) → IsGcdOf a b g → IsGcdOf b a g
+gcd_turned a b g is = (is.0, (is.1.1, is.1.0, λ k p q. is.1.2 k q p))

@@ -1,21 +1,20 @@
--- Nothing is left to divide: the cells that the exchange leaves have no common divisor.
-use Rattle.std.proofs.Common.{◌≡◌, ◌≢◌, ℕ, zero, suc, ◌+◌, ◌*◌, ◌<◌, ℤ, pos, negsuc, neg_ℤ, ◌*ℤ◌, ◌-ℤ◌, List, [], ◌∷◌, get_or, arith, refl, sym, ap, subst, ◌∙◌, mul_comm, ⊎_elim}
+-- Nothing is left to divide: the denominator and the cells that the exchange leaves have no common divisor.
+use Rattle.std.proofs.Common.{◌≡◌, ◌≢◌, ℕ, zero, suc, ◌*◌, ◌<◌, ℤ, pos, negsuc, neg_ℤ, ◌*ℤ◌, List, [], ◌∷◌, get_or, arith, refl, sym, ap, subst, ◌∙◌, mul_comm, ⊎_elim}
 use Prim.Native.Nat.{◌∣◌}
 use Rattle.std.specs.Prelude.{◌<ℤ◌, unsigned_abs, int_div}
 use Rattle.std.proofs.lemmas.Bool.{cases_eq}
 use Rattle.std.proofs.lemmas.Int.{ints, unsigned_abs-mul}
 use Rattle.std.proofs.Math.Nat.{one-mul, eq-one_of_dvd-one, dvd_of_mul-dvd-mul_right}
 use Rattle.poly_num.specs.Vectors.{DividesEach, IsPrimitive}
-use Rattle.poly_num.proofs.Ring.{expand, lin, zero_mul, mul_assoc}
+use Rattle.poly_num.proofs.Ring.{expand, lin, one_mul, zero_mul, mul_assoc}
 use Rattle.poly_num.proofs.Order.{positive_product, positive_factor}
 use Rattle.poly_num.proofs.DivisorLemmas.{quotient_times, unsigned_abs-neg, dvd-multiple}
 use Rattle.columns.proofs.DivisorLemmas.{size_positive, turned_size}
-use Rattle.columns.proofs.MadePrimitive.{get_or-zero}
 use Rattle.columns.specs.declared.exchange.Exchange.{Exchange}
-use Rattle.columns.specs.declared.step.Factors.{Factors}
-use Rattle.columns.specs.Cells.{cell_at, place, pivot_of, AllowsExchange, IsNewCell, IsTableAfter, HasUnit}
-use Rattle.columns.specs.Steps.{DividesTimes, AreFactors}
-use Rattle.columns.proofs.OverLemmas.{IsOver, one_new_cell, turned_back}
+use Rattle.columns.specs.declared.parts.Parts.{Parts}
+use Rattle.columns.specs.Cells.{cell_at, place, pivot_of, IsNewCell, IsTableAfter}
+use Rattle.columns.specs.Steps.{DividesTimes, AreParts, factor_of, IsOver}
+use Rattle.columns.proofs.OverLemmas.{one_new_cell, denominator_is}
 
 -- a number of a list is a multiple of what divides all of them
 multiple_at : (d : ℕ) (v : List ℤ) (k : ℕ) → DividesEach d v → (q : ℤ) × (get_or v k (pos 0) ≡ q *ℤ pos d)
@@ -44,105 +43,143 @@ divides_product e t h q one =
     subst (λ (n : ℕ). n ∣ unsigned_abs ((t *ℤ h) *ℤ (pos e *ℤ q))) (unsigned_abs-mul (pos e) h)
     (subst (λ (n : ℕ). unsigned_abs (pos e *ℤ h) ∣ n) (sym l) (dvd-multiple (pos e *ℤ h) q))
 
--- what stands in the unit's row
-unit_size : (a v c d r : ℤ) → a ≡ pos 0 → c ≡ d → unsigned_abs (a *ℤ v -ℤ c *ℤ r) ≡ unsigned_abs d * unsigned_abs r
-unit_size a v c d r none same =
-    let f : a *ℤ v -ℤ c *ℤ r ≡ neg_ℤ (d *ℤ r) = rw (none, same, zero_mul v) (omega (arith, lin)) in
-    ap unsigned_abs f ∙ unsigned_abs-neg (d *ℤ r) ∙ unsigned_abs-mul d r
+-- the new denominator is positive
+positive_pivot : (t h g y v d : ℤ) → t *ℤ t ≡ pos 1 → (t *ℤ h) *ℤ (g *ℤ y) ≡ v *ℤ d → pos 0 <ℤ (t *ℤ v) → pos 0 <ℤ d →
+    pos 0 <ℤ h → pos 0 <ℤ g → pos 0 <ℤ y
+positive_pivot t h g y v d square over turned denominator common lt =
+    let l : t *ℤ ((t *ℤ h) *ℤ (g *ℤ y)) ≡ (t *ℤ t) *ℤ (h *ℤ (g *ℤ y)) = simp expand in
+    let r : t *ℤ (v *ℤ d) ≡ (t *ℤ v) *ℤ d = simp expand in
+    let same : h *ℤ (g *ℤ y) ≡ (t *ℤ v) *ℤ d =
+    sym (l ∙ rw square (one_mul (h *ℤ (g *ℤ y)))) ∙ ap (λ (z : ℤ). t *ℤ z) over ∙ r in
+    let product = positive_product (t *ℤ v) d turned denominator in
+    positive_factor g y lt (positive_factor h (g *ℤ y) common (subst (λ (z : ℤ). pos 0 <ℤ z) (sym same) product))
 
-module _ (x : Exchange) (old new : List ℤ) (f : Factors) (g : ℤ) (can : AllowsExchange x old) (unit : HasUnit x old)
-    (are : AreFactors x old f) (u : IsOver x old (f.sign *ℤ f.common) x.width g new) where
-  positive : pos 0 <ℤ pivot_of x new
+module _ (old new : List ℤ) (parts : Parts ℤ) (z g f : ℤ) (are : AreParts old parts z)
+    (whole : f *ℤ g ≡ parts.x.now.denominator) (u : IsOver parts.x.now old (factor_of parts) parts.x.now.width g new) where
+  abbrev x : Exchange
+  x = parts.x.now
+
+  abbrev t : ℤ
+  t = parts.factors.now.sign
+
+  abbrev h : ℤ
+  h = parts.factors.now.common
+
+  abbrev y : ℤ
+  y = parts.p *ℤ f
+
+  over : (t *ℤ h) *ℤ (g *ℤ y) ≡ pivot_of x old *ℤ x.denominator
+  over = denominator_is old parts z are g f whole
+
+  positive : pos 0 <ℤ y
   positive =
-      let t = f.sign in
-      let h = f.common in
-      let v = pivot_of x old in
-      let y = g *ℤ pivot_of x new in
-      let e : v *ℤ x.denominator ≡ t *ℤ (h *ℤ y) =
-      sym ((u.done x.row x.column can.row can.column).column refl) ∙ mul_assoc t h y in
-      let same : (t *ℤ v) *ℤ x.denominator ≡ h *ℤ y =
-      mul_assoc t v x.denominator ∙ turned_back t (v *ℤ x.denominator) (h *ℤ y) are.turned.square e in
-      let product = positive_product (t *ℤ v) x.denominator (are.turned.positive can.nonzero) can.denominator in
-      positive_factor g (pivot_of x new) u.positive
-      (positive_factor h y are.greatest.positive (subst (λ (z : ℤ). pos 0 <ℤ z) same product))
+      positive_pivot t h g y (pivot_of x old) x.denominator are.factors.turned.square over
+      (are.factors.turned.positive are.can.nonzero) are.can.denominator are.factors.greatest.positive u.positive
 
-  module _ (d : ℕ) (divides : DividesEach d new) where
+  module _ (d : ℕ) (divides : DividesEach d (y ∷ new)) where
     abbrev more : ℕ
     more = d * unsigned_abs g
 
     -- each new cell is over the factors and more
-    new_multiple : (i j : ℕ) → i < x.height → j < x.width →
-        (q : ℤ) × IsNewCell x old i j ((f.sign *ℤ f.common) *ℤ (pos more *ℤ q))
+    new_multiple : (i j : ℕ) → i < x.height → j < x.width → (q : ℤ) × IsNewCell x old i j ((t *ℤ h) *ℤ (pos more *ℤ q))
     new_multiple i j hi hj =
-        let q = multiple_at d new (place x.height i j) divides in (
+        let q = multiple_at d new (place x.height i j) (divides.1) in (
           q.0,
-          subst (λ (z : ℤ). IsNewCell x old i j ((f.sign *ℤ f.common) *ℤ z))
-              (ap (λ (z : ℤ). g *ℤ z) q.1 ∙ both_out d g q.0 u.positive)
+          subst (λ (n : ℤ). IsNewCell x old i j ((t *ℤ h) *ℤ n))
+              (ap (λ (n : ℤ). g *ℤ n) q.1 ∙ both_out d g q.0 u.positive)
               (u.done i j hi hj),
         )
 
-    divides_new_cell : (i j : ℕ) → i < x.height → j < x.width → (z : ℤ) → IsNewCell x old i j z →
-        more * unsigned_abs f.common ∣ unsigned_abs z
-    divides_new_cell i j hi hj z is =
+    divides_new_cell : (i j : ℕ) → i < x.height → j < x.width → (n : ℤ) → IsNewCell x old i j n →
+        more * unsigned_abs h ∣ unsigned_abs n
+    divides_new_cell i j hi hj n is =
         let q = new_multiple i j hi hj in
-        subst (λ (y : ℤ). more * unsigned_abs f.common ∣ unsigned_abs y)
-        (one_new_cell x old i j ((f.sign *ℤ f.common) *ℤ (pos more *ℤ q.0)) z q.1 is)
-        (divides_product more f.sign f.common q.0 are.turned.size)
+        subst (λ (k : ℤ). more * unsigned_abs h ∣ unsigned_abs k)
+        (one_new_cell x old i j ((t *ℤ h) *ℤ (pos more *ℤ q.0)) n q.1 is)
+        (divides_product more t h q.0 are.factors.turned.size)
+
+    -- what divides a product with the denominator
+    turn : (a b : ℤ) → more * unsigned_abs h ∣ unsigned_abs (a *ℤ b) →
+        more * unsigned_abs h ∣ unsigned_abs b * unsigned_abs a
+    turn a b k =
+        subst (λ (n : ℕ). more * unsigned_abs h ∣ n) (unsigned_abs-mul a b ∙ mul_comm (unsigned_abs a) (unsigned_abs b)) k
+
+    in_pivot : more * unsigned_abs h ∣ unsigned_abs x.denominator * unsigned_abs (pivot_of x old)
+    in_pivot =
+        let q = int_div y (pos d) in
+        let e : g *ℤ y ≡ pos more *ℤ q =
+        ap (λ (n : ℤ). g *ℤ n) (sym (quotient_times d y (divides.0))) ∙ both_out d g q u.positive in
+        turn (pivot_of x old) x.denominator
+        (subst (λ (n : ℤ). more * unsigned_abs h ∣ unsigned_abs n) (ap (λ (n : ℤ). (t *ℤ h) *ℤ n) (sym e) ∙ over)
+        (divides_product more t h q are.factors.turned.size))
+
+    in_corner : more * unsigned_abs h ∣ unsigned_abs x.denominator * unsigned_abs x.denominator
+    in_corner =
+        turn x.denominator x.denominator
+        (divides_new_cell x.row x.column are.can.row are.can.column (x.denominator *ℤ x.denominator)
+        (record {
+          column = λ _ n. absurd (n refl);
+          corner = λ _ _. refl;
+          inside = λ n. absurd (n refl);
+          leaving = λ n. absurd (n refl);
+        }))
 
     in_column : (i : ℕ) → i < x.height →
-        more * unsigned_abs f.common ∣ unsigned_abs x.denominator * unsigned_abs (cell_at x.height old i x.column)
+        more * unsigned_abs h ∣ unsigned_abs x.denominator * unsigned_abs (cell_at x.height old i x.column)
     in_column i hi =
+        ⊎_elim
+        (λ (e : i ≡ x.row). rw e in_pivot)
+        (λ (n : i ≢ x.row).
         let c = cell_at x.height old i x.column in
-        subst (λ (n : ℕ). more * unsigned_abs f.common ∣ n)
-        (unsigned_abs-mul c x.denominator ∙ mul_comm (unsigned_abs c) (unsigned_abs x.denominator))
-        (divides_new_cell i x.column hi can.column (c *ℤ x.denominator)
-        (record { column = λ _. refl; inside = λ n. absurd (n refl) }))
+        turn c x.denominator
+        (divides_new_cell i x.column hi are.can.column (c *ℤ x.denominator)
+        (record {
+          column = λ _ _. refl;
+          corner = λ _ e. absurd (n e);
+          inside = λ m. absurd (m refl);
+          leaving = λ m. absurd (m refl);
+        })))
+        (cases_eq i x.row)
 
-    in_other : (j : ℕ) → j < x.width → j ≢ x.column →
-        more * unsigned_abs f.common ∣ unsigned_abs x.denominator * unsigned_abs (cell_at x.height old x.row j)
-    in_other j hj n =
-        let k = unit.0 in
-        let a = cell_at x.height old k j in
-        let c = cell_at x.height old k x.column in
+    in_row : (j : ℕ) → j < x.width →
+        more * unsigned_abs h ∣ unsigned_abs x.denominator * unsigned_abs (cell_at x.height old x.row j)
+    in_row j hj =
+        ⊎_elim
+        (λ (e : j ≡ x.column). rw e in_pivot)
+        (λ (n : j ≢ x.column).
         let r = cell_at x.height old x.row j in
-        subst (λ (m : ℕ). more * unsigned_abs f.common ∣ m)
-        (unit_size a (pivot_of x old) c x.denominator r (unit.1.others j hj n) unit.1.own)
-        (divides_new_cell k j unit.1.within hj (a *ℤ pivot_of x old -ℤ c *ℤ r)
-        (record { column = λ e. absurd (n e); inside = λ _. refl }))
+        subst (λ (m : ℕ). more * unsigned_abs h ∣ m) (unsigned_abs-neg (x.denominator *ℤ r) ∙ unsigned_abs-mul x.denominator r)
+        (divides_new_cell x.row j are.can.row hj (neg_ℤ (x.denominator *ℤ r))
+        (record {
+          column = λ e. absurd (n e);
+          corner = λ e. absurd (n e);
+          inside = λ _ m. absurd (m refl);
+          leaving = λ _ _. refl;
+        })))
+        (cases_eq j x.column)
 
-    in_all : DividesTimes x old x.height x.width (more * unsigned_abs f.common) (unsigned_abs x.denominator)
-    in_all = record {
-      denominator =
-          subst (λ (z : ℤ). more * unsigned_abs f.common ∣ unsigned_abs x.denominator * unsigned_abs z) unit.1.own
-          (in_column unit.0 unit.1.within);
-      pivot = in_column x.row can.row;
-      column = in_column;
-      row = λ j hj. ⊎_elim (λ (e : j ≡ x.column). rw e (in_column x.row can.row)) (in_other j hj) (cases_eq j x.column);
-    }
+    in_all : DividesTimes x old x.height x.width (more * unsigned_abs h) (unsigned_abs x.denominator)
+    in_all = record { denominator = in_corner; pivot = in_pivot; column = in_column; row = in_row }
 
     is_one : d ≡ 1
     is_one =
-        let common = size_positive f.common are.greatest.positive in
+        let common = size_positive h are.factors.greatest.positive in
         let l : more ∣ unsigned_abs x.denominator =
         dvd_of_mul-dvd-mul_right more common
-        (are.greatest.greatest (more * unsigned_abs f.common) (unsigned_abs x.denominator) in_all) in
+        (are.factors.greatest.greatest (more * unsigned_abs h) (unsigned_abs x.denominator) in_all) in
         let k : d * unsigned_abs g ∣ 1 * unsigned_abs g = rw one-mul (u.greatest more l new_multiple) in
         eq-one_of_dvd-one (dvd_of_mul-dvd-mul_right d (size_positive g u.positive) k)
 
-  primitive : IsPrimitive new
-  primitive = (
-    λ z. let e = get_or-zero new (x.column * x.height + x.row) z in let l = positive in absurd (omega (arith, lin)),
-    λ d _ divides. is_one d divides,
-  )
+  primitive : IsPrimitive (y ∷ new)
+  primitive = (λ n. let e = n.0 in let l = positive in absurd (omega (arith, lin)), λ d _ divides. is_one d divides)
 
-  pub table_after : IsTableAfter x old new
+  pub table_after : IsTableAfter x old y new
   table_after = record {
     same_length = u.same_length;
-    cells = (
-      (f.sign *ℤ f.common) *ℤ g,
-      λ i j hi hj.
-          subst (IsNewCell x old i j) (sym (mul_assoc (f.sign *ℤ f.common) g (cell_at x.height new i j))) (u.done i j hi hj),
-    );
+    factor = (t *ℤ h) *ℤ g;
+    denominator = mul_assoc (t *ℤ h) g y ∙ over;
+    cells = λ i j hi hj.
+        subst (IsNewCell x old i j) (sym (mul_assoc (t *ℤ h) g (cell_at x.height new i j))) (u.done i j hi hj);
     positive = positive;
     least = primitive;
   }

@@ -3,6 +3,5 @@ pub mod CommonFactors
 pub mod HalfCellLemmas
 pub mod OverLemmas
 pub mod LeastCells
-pub mod WideLemmas
+pub mod PassingLemmas
 pub mod DivisorLemmas
-pub mod MadePrimitive

@@ -1,15 +1,13 @@
 -- The exchange column by column, over a divisor that shrinks where it does not divide a column.
-use Rattle.std.specs.Prelude.{◌≡◌, ◌≢◌, ℕ, ℤ, ◌<◌, ◌≤◌, ◌*◌, ◌*ℤ◌, ◌-ℤ◌, ◌<ℤ◌, pos, List, length, unsigned_abs, IsTrue}
+use Rattle.std.specs.Prelude.{◌≡◌, ◌≢◌, ℕ, ℤ, ◌<◌, ◌≤◌, ◌*◌, ◌*ℤ◌, ◌+ℤ◌, ◌-ℤ◌, ◌<ℤ◌, neg_ℤ, pos, List, length, unsigned_abs, IsTrue}
 use Rattle.std.specs.List.{slice_index_or}
 use Prim.Native.Nat.{◌∣◌}
 use Rattle.poly_num.specs.Halves.{IsHalf}
-use Rattle.poly_num.specs.Vectors.{IsPrimitive, scale}
+use Rattle.poly_num.specs.Numbers.{IsNum}
 use Rattle.columns.specs.declared.exchange.Exchange.{Exchange}
-use Rattle.columns.specs.declared.step.Before.{Before}
-use Rattle.columns.specs.declared.step.Step.{Step}
-use Rattle.columns.specs.declared.step.Scale.{Scale}
-use Rattle.columns.specs.declared.step.Factors.{Factors}
-use Rattle.columns.specs.Cells.{cell_at, pivot_of, IsNewCell}
+use Rattle.columns.specs.declared.parts.Factors.{Factors}
+use Rattle.columns.specs.declared.parts.Parts.{Parts}
+use Rattle.columns.specs.Cells.{cell_at, pivot_of, AllowsExchange, IsNewCell}
 use Rattle.columns.specs.HalfCells.{AreHalvesTo}
 
 -- d divides k times the denominator, the pivot's cell, the first m cells of the exchange's column and the first n
@@ -20,10 +18,11 @@ pub record DividesTimes (x : Exchange) (cells : List ℤ) (m n d k : ℕ) : Type
   pub column : (i : ℕ) → i < m → d ∣ k * unsigned_abs (cell_at x.height cells i x.column)
   pub row : (j : ℕ) → j < n → d ∣ k * unsigned_abs (cell_at x.height cells x.row j)
 
--- h divides the first m cells of the exchange's column and the first n cells of its row; and what divides a multiple of
--- each of them, of the denominator and of the pivot's cell divides that of h
+-- h divides the denominator, the first m cells of the exchange's column and the first n cells of its row; and what
+-- divides a multiple of each of them and of the pivot's cell divides that of h
 pub record IsCommonFactor (x : Exchange) (cells : List ℤ) (m n : ℕ) (h : ℤ) : Type 0 where
   pub positive : pos 0 <ℤ h
+  pub denominator : unsigned_abs h ∣ unsigned_abs x.denominator
   pub in_column : (i : ℕ) → i < m → unsigned_abs h ∣ unsigned_abs (cell_at x.height cells i x.column)
   pub in_row : (j : ℕ) → j < n → unsigned_abs h ∣ unsigned_abs (cell_at x.height cells x.row j)
   pub greatest : (d k : ℕ) → DividesTimes x cells m n d k → d ∣ k * unsigned_abs h
@@ -34,52 +33,85 @@ pub record IsSignOf (z t : ℤ) : Type 0 where
   pub square : t *ℤ t ≡ pos 1
   pub positive : z ≢ pos 0 → pos 0 <ℤ (t *ℤ z)
 
--- `own` has the cells of the exchange's column over h, with the sign t
-pub record IsOwnColumn (x : Exchange) (cells : List ℤ) (t h : ℤ) (own : List ℤ) : Type 0 where
-  pub height : length own ≡ x.height
-  pub same : (i : ℕ) → i < x.height → slice_index_or own i (pos 0) *ℤ h ≡ t *ℤ cell_at x.height cells i x.column
-
--- the common factor, the sign of the pivot's cell, and that cell over the factor with the sign
+-- the common factor, the sign of the pivot's cell, and over the factor with the sign that cell and the denominator
 pub record AreFactors (x : Exchange) (cells : List ℤ) (factors : Factors) : Type 0 where
   pub greatest : IsCommonFactor x cells x.height x.width factors.common
   pub turned : IsSignOf (pivot_of x cells) factors.sign
   pub pivot : factors.p *ℤ factors.common ≡ factors.sign *ℤ pivot_of x cells
+  pub denominator : factors.u *ℤ factors.common ≡ factors.sign *ℤ x.denominator
 
--- all cells are there, and a number for each row; where `halves` is set, all of them are halves
-pub record IsBefore (x : Exchange) (before : Before) : Type 0 where
-  pub size : length before.cells.now ≡ x.width * x.height
-  pub height : length before.own.now ≡ x.height
-  pub small : IsTrue before.halves →
-      AreHalvesTo (x.width * x.height) before.cells.now × AreHalvesTo x.height before.own.now
+-- the first n numbers of `own` are those of the exchange's column over the common factor, with the sign
+abbrev pub IsColumnOver : Exchange → List ℤ → Factors → ℕ → List ℤ → Type 0
+IsColumnOver x cells factors n own = (i : ℕ) → i < n →
+    slice_index_or own i (pos 0) *ℤ factors.common ≡ factors.sign *ℤ cell_at x.height cells i x.column
 
--- what the new cells are made of is there, and room for all of them; the step is that of another column than the
--- exchange's
-pub record IsOtherStep (x : Exchange) (before : Before) (step : Step) (new : List ℤ) : Type 0 where
-  pub ready : IsBefore x before
+-- `own` has the cells of the exchange's column over the common factor with the sign, but in the exchange's row z
+pub record IsOwnColumn (x : Exchange) (cells : List ℤ) (factors : Factors) (z : ℤ) (own : List ℤ) : Type 0 where
+  pub height : length own ≡ x.height
+  pub same : (i : ℕ) → i < x.height → i ≢ x.row →
+      slice_index_or own i (pos 0) *ℤ factors.common ≡ factors.sign *ℤ cell_at x.height cells i x.column
+  pub leaving : slice_index_or own x.row (pos 0) ≡ z
+
+-- the parts are those of an exchange that can be carried out, with z in its row
+pub record AreParts (cells : List ℤ) (parts : Parts ℤ) (z : ℤ) : Type 0 where
+  pub can : AllowsExchange parts.x.now cells
+  pub factors : AreFactors parts.x.now cells parts.factors.now
+  pub own : IsOwnColumn parts.x.now cells parts.factors.now z parts.own.now
+  pub p : parts.p ≡ parts.factors.now.p
+  pub u : parts.u ≡ parts.factors.now.u
+
+-- the parts of an exchange in words, so that its row needs no case: e p - (p + u) e is - u e. Where `halves` is set,
+-- all cells and the exchange's column are halves
+pub record AreWordParts (cells : List ℤ) (parts : Parts ℤ) : Type 0 where
+  pub are : AreParts cells parts (parts.p +ℤ parts.u)
+  pub small : IsTrue parts.halves →
+      AreHalvesTo (parts.x.now.width * parts.x.now.height) cells × AreHalvesTo parts.x.now.height parts.own.now
+
+-- the parts of an exchange in wide numbers
+abbrev pub AreWideParts : List ℤ → Parts ℤ → Type 0
+AreWideParts cells parts = AreParts cells parts parts.u
+
+-- what is to be divided is the new cell over this: the sign of the pivot's cell times the common factor
+abbrev pub factor_of : Parts ℤ → ℤ
+factor_of parts = parts.factors.now.sign *ℤ parts.factors.now.common
+
+-- column j is one of the table, for which there is room, and another than the exchange's
+pub record IsOtherColumn (x : Exchange) (j : ℕ) (new : List ℤ) : Type 0 where
   pub room : length new ≡ x.width * x.height
-  pub within : step.column < x.width
-  pub other : step.column ≢ x.column
+  pub within : j < x.width
+  pub other : j ≢ x.column
 
--- what a step and a divisor bring are halves
-pub record AreHalfFactors (step : Step) (g : ℤ) : Type 0 where
-  pub of_cells : IsHalf step.p
-  pub of_own : IsHalf step.b
+-- what a column and a divisor bring are halves
+pub record AreHalfFactors (p b g : ℤ) : Type 0 where
+  pub of_cells : IsHalf p
+  pub of_own : IsHalf b
   pub divisor : IsHalf g
 
 -- the divisor is positive, and with the factor it is the denominator
-pub record IsScale (x : Exchange) (scale : Scale) : Type 0 where
-  pub positive : pos 0 <ℤ scale.divisor
-  pub whole : scale.factor *ℤ scale.divisor ≡ x.denominator
+pub record IsScale (x : Exchange) (divisor factor : ℤ) : Type 0 where
+  pub positive : pos 0 <ℤ divisor
+  pub whole : factor *ℤ divisor ≡ x.denominator
 
--- what is to be divided for row i in the step's column
-pub record IsNumerator (x : Exchange) (before : Before) (step : Step) (i : ℕ) (n : ℤ) : Type 0 where
-  pub own : step.column ≡ x.column → n ≡ slice_index_or before.own.now i (pos 0) *ℤ x.denominator
-  pub inside : step.column ≢ x.column →
-      n ≡ cell_at x.height before.cells.now i step.column *ℤ step.p -ℤ slice_index_or before.own.now i (pos 0) *ℤ step.b
+-- what is to be divided for row i in column j
+pub record IsNumerator (cells : List ℤ) (parts : Parts ℤ) (j i : ℕ) (n : ℤ) : Type 0 where
+  pub column : j ≡ parts.x.now.column → i ≢ parts.x.now.row →
+      n ≡ slice_index_or parts.own.now i (pos 0) *ℤ parts.x.now.denominator
+  pub corner : j ≡ parts.x.now.column → i ≡ parts.x.now.row → n ≡ parts.u *ℤ parts.x.now.denominator
+  pub inside : j ≢ parts.x.now.column → i ≢ parts.x.now.row →
+      n ≡ cell_at parts.x.now.height cells i j *ℤ parts.p
+      -ℤ slice_index_or parts.own.now i (pos 0) *ℤ cell_at parts.x.now.height cells parts.x.now.row j
+  pub leaving : j ≢ parts.x.now.column → i ≡ parts.x.now.row →
+      n ≡ neg_ℤ (parts.u *ℤ cell_at parts.x.now.height cells parts.x.now.row j)
 
--- the first n cells of the step's column are over g what is to be divided
-abbrev pub IsColumnWritten : Exchange → Before → Step → ℕ → ℤ → List ℤ → Type 0
-IsColumnWritten x before step n g new = (i : ℕ) → i < n → IsNumerator x before step i (cell_at x.height new i step.column *ℤ g)
+-- the first n cells of column j are over g what is to be divided
+abbrev pub IsColumnWritten : List ℤ → Parts ℤ → ℕ → ℕ → ℤ → List ℤ → Type 0
+IsColumnWritten cells parts j n g new =
+    (i : ℕ) → i < n → IsNumerator cells parts j i (cell_at parts.x.now.height new i j *ℤ g)
+
+-- h divides what is to be divided in the first m rows of column j, but for the exchange's
+abbrev pub DividesColumn : List ℤ → Parts ℤ → ℕ → ℕ → ℤ → Type 0
+DividesColumn cells parts j m h = (i : ℕ) → i < m → i ≢ parts.x.now.row → (n : ℤ) → IsNumerator cells parts j i n →
+    unsigned_abs h ∣ unsigned_abs n
 
 -- the first n numbers are as they were
 pub record AreKept (n : ℕ) (old new : List ℤ) : Type 0 where
@@ -92,38 +124,53 @@ pub record IsScaled (place : ℕ) (factor : ℤ) (old new : List ℤ) : Type 0 w
   pub scaled : (k : ℕ) → k < place → slice_index_or new k (pos 0) ≡ slice_index_or old k (pos 0) *ℤ factor
   pub rest : (k : ℕ) → place ≤ k → slice_index_or new k (pos 0) ≡ slice_index_or old k (pos 0)
 
--- the numbers before the place, which were over g, are over h, the others as before
+-- k is one of the first n places, and the number there times the factor passes
+pub record PassesScaled (n : ℕ) (factor : ℤ) (old : List ℤ) (k : ℕ) : Type 0 where
+  pub within : k < n
+  pub passes : ¬ (IsNum (slice_index_or old k (pos 0) *ℤ factor))
+
+-- the numbers before the place, which were over g, are over h
 pub record IsRescaled (place : ℕ) (g h : ℤ) (old new : List ℤ) : Type 0 where
   pub same_length : length new ≡ length old
   pub scaled : (k : ℕ) → k < place →
       slice_index_or new k (pos 0) *ℤ h ≡ slice_index_or old k (pos 0) *ℤ g
-  pub rest : (k : ℕ) → place ≤ k → slice_index_or new k (pos 0) ≡ slice_index_or old k (pos 0)
 
--- h is what is left of the divisor g where it is to divide the step's column down to row m
-pub record IsLeftOfColumn (x : Exchange) (before : Before) (step : Step) (m : ℕ) (g h : ℤ) : Type 0 where
+-- k is one of the first n places, and the number there, which was over g, passes over h
+pub record PassesRescaled (n : ℕ) (g h : ℤ) (old : List ℤ) (k : ℕ) : Type 0 where
+  pub within : k < n
+  pub number : ℤ
+  pub same : number *ℤ h ≡ slice_index_or old k (pos 0) *ℤ g
+  pub passes : ¬ (IsNum number)
+
+-- h is what is left of the divisor g where it is to divide row i of column j, if that is not the exchange's
+pub record IsLeftOfRow (cells : List ℤ) (parts : Parts ℤ) (j i : ℕ) (g h : ℤ) : Type 0 where
+  pub positive : pos 0 <ℤ h
+  pub divides : unsigned_abs h ∣ unsigned_abs g
+  pub in_row : i ≢ parts.x.now.row → (n : ℤ) → IsNumerator cells parts j i n → unsigned_abs h ∣ unsigned_abs n
+  pub greatest : (k : ℕ) → k ∣ unsigned_abs g →
+      ((n : ℤ) → IsNumerator cells parts j i n → k ∣ unsigned_abs n) → k ∣ unsigned_abs h
+
+-- h is what is left of the divisor g where it is to divide column j down to row m
+pub record IsLeftOfColumn (cells : List ℤ) (parts : Parts ℤ) (j m : ℕ) (g h : ℤ) : Type 0 where
   pub positive : pos 0 <ℤ h
   pub divides : unsigned_abs h ∣ unsigned_abs g
   pub greatest : (k : ℕ) → k ∣ unsigned_abs g →
-      ((i : ℕ) → i < m → (n : ℤ) → IsNumerator x before step i n → k ∣ unsigned_abs n) → k ∣ unsigned_abs h
+      ((i : ℕ) → i < m → (n : ℤ) → IsNumerator cells parts j i n → k ∣ unsigned_abs n) → k ∣ unsigned_abs h
 
--- the step's column is written over h, and the columns before it, which were over g, are over h too
-pub record IsColumnDone (x : Exchange) (before : Before) (step : Step) (g h : ℤ) (old new : List ℤ) : Type 0 where
+-- column j is written over h, and the columns before it, which were over g, are over h too
+pub record IsColumnDone (cells : List ℤ) (parts : Parts ℤ) (j : ℕ) (g h : ℤ) (old new : List ℤ) : Type 0 where
   pub same_length : length new ≡ length old
-  pub left : IsLeftOfColumn x before step x.height g h
-  pub written : IsColumnWritten x before step x.height h new
-  pub rescaled : (k : ℕ) → k < step.column * x.height →
+  pub left : IsLeftOfColumn cells parts j parts.x.now.height g h
+  pub written : IsColumnWritten cells parts j parts.x.now.height h new
+  pub rescaled : (k : ℕ) → k < j * parts.x.now.height →
       slice_index_or new k (pos 0) *ℤ h ≡ slice_index_or old k (pos 0) *ℤ g
 
--- the first n cells of column j are those after the exchange, before anything is divided out
-pub record IsNewColumn (x : Exchange) (old : List ℤ) (j n : ℕ) (new : List ℤ) : Type 0 where
-  pub written : (i : ℕ) → i < n → IsNewCell x old i j (cell_at x.height new i j)
-
--- and all cells of the columns before column n
-pub record AreNewColumns (x : Exchange) (old : List ℤ) (n : ℕ) (new : List ℤ) : Type 0 where
-  pub written : (i j : ℕ) → i < x.height → j < n → IsNewCell x old i j (cell_at x.height new i j)
-
--- the common divisor is divided out, and the number at the place is positive
-pub record IsMadePrimitive (place : ℕ) (old new : List ℤ) : Type 0 where
-  pub multiple : (g : ℤ) × (old ≡ scale g new)
-  pub positive : pos 0 <ℤ slice_index_or new place (pos 0)
-  pub least : IsPrimitive new
+-- the columns before column n are the new ones over f g; g divides the denominator, and no greater number divides it
+-- and, with f, what stands in all of these columns
+pub record IsOver (x : Exchange) (old : List ℤ) (f : ℤ) (n : ℕ) (g : ℤ) (now : List ℤ) : Type 0 where
+  pub same_length : length now ≡ length old
+  pub positive : pos 0 <ℤ g
+  pub divides : unsigned_abs g ∣ unsigned_abs x.denominator
+  pub done : (i j : ℕ) → i < x.height → j < n → IsNewCell x old i j (f *ℤ (g *ℤ cell_at x.height now i j))
+  pub greatest : (k : ℕ) → k ∣ unsigned_abs x.denominator →
+      ((i j : ℕ) → i < x.height → j < n → (q : ℤ) × IsNewCell x old i j (f *ℤ (pos k *ℤ q))) → k ∣ unsigned_abs g

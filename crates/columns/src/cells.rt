@@ -1,11 +1,11 @@
 //! Cells that are words while all of them fit, and wide numbers else.
-ghost use Rattle.std.specs.Prelude.{◌≡◌, ◌<◌, ◌*◌, IsTrue, pos, length};
-ghost use Rattle.std.specs.List.{slice_index_or};
-ghost use Rattle.columns.specs.Cells.{cell_at};
+ghost use Rattle.std.specs.Prelude.{◌≡◌, ◌<◌, IfOk, IsTrue, length};
+ghost use Rattle.columns.specs.Cells.{cell_at, place};
 ghost use Rattle.columns.specs.HalfCells.{AreHalvesTo};
 
-use crate::exchange::{Exchange, at_place, word_at};
+use crate::exchange::{at_place, number_at};
 use poly_num::Num;
+use std::alloc::AllocError;
 use std::marker::Model;
 use words::Word;
 
@@ -33,11 +33,12 @@ impl Model for Cells {
 }
 
 impl Cells {
-    /// These cells, with room for so many words.
-    pub fn new(wide: Vec<Num>, words: Vec<Word>) -> Cells
-        requires { length words.items ≡ length wide.items }
-        ensures { result ≡ wide.items }
+    /// These cells; the room for so many words is taken now.
+    pub fn new(wide: Vec<Num>) -> Result<Cells, AllocError>
+        ensures { IfOk result (λ c. c ≡ wide.items) }
     {
+        let mut words = Vec::new(*wide.allocator());
+        words.resize(wide.len(), Word::ZERO)?;
         let mut cells = Cells {
             words,
             wide,
@@ -45,7 +46,36 @@ impl Cells {
             halves: false,
         };
         cells.narrow();
-        cells
+        Ok(cells)
+    }
+
+    /// The same cells, with room of their own.
+    pub fn copy(&self) -> Result<Cells, AllocError>
+        ensures { IfOk result (λ c. c ≡ self.now) }
+    {
+        let words = self.words.clone()?;
+        let wide = self.wide.clone()?;
+        Ok(Cells {
+            words,
+            wide,
+            is_wide: self.is_wide,
+            halves: self.halves,
+        })
+    }
+
+    /// Makes the cells of another table the same. No memory is taken, and only the room that has the cells is copied.
+    pub fn copy_into(&self, to: &mut Cells)
+        requires { length to.old ≡ length self.now }
+        ensures { to.new ≡ self.now }
+    {
+        to.is_wide = self.is_wide;
+        to.halves = false;
+        if self.is_wide {
+            to.wide.copy_from_slice(&self.wide);
+        } else {
+            to.words.copy_from_slice(&self.words);
+            to.halves = self.halves;
+        }
     }
 
     /// How many cells there are.
@@ -55,18 +85,17 @@ impl Cells {
         self.words.len()
     }
 
-    /// The cell in row i and column j.
+    /// The cell in row i and column j of columns of this height.
     #[inline(always)]
-    pub fn cell(&self, x: &Exchange, i: usize, j: usize) -> Num
-        requires size { length self.now ≡ x.now.width * x.now.height }
-        requires row { i < x.now.height }
-        requires column { j < x.now.width }
-        ensures { result ≡ cell_at x.now.height self.now i j }
+    pub fn at(&self, height: usize, i: usize, j: usize) -> Num
+        requires row { i < height }
+        requires within { place height i j < length self.now }
+        ensures { result ≡ cell_at height self.now i j }
     {
         if self.is_wide {
-            number_at(&self.wide, x, i, j)
+            number_at(&self.wide, j * height + i)
         } else {
-            word_at(&self.words, x, i, j).wide()
+            at_place(&self.words, j * height + i).wide()
         }
     }
 
@@ -83,17 +112,6 @@ impl Cells {
             self.halves = are_halves(&self.words);
         }
     }
-}
-
-// The number in row i and column j.
-#[inline(always)]
-fn number_at(cells: &[Num], x: &Exchange, i: usize, j: usize) -> Num
-    requires size { length cells.now ≡ x.now.width * x.now.height }
-    requires row { i < x.now.height }
-    requires column { j < x.now.width }
-    ensures { result ≡ cell_at x.now.height cells.now i j }
-{
-    cells[j * x.height + i]
 }
 
 // Whether all words fit half a machine word.

@@ -1,32 +1,49 @@
-//! The new cells of one column, by the quickest way that serves.
+//! The new words of one column, by the quickest way that serves.
 ghost use Rattle.std.specs.Option.{IfSome};
-ghost use Rattle.std.specs.Prelude.{◌≡◌, ◌≢◌, ◌<◌, ◌*◌, ◌+◌, ◌*ℤ◌, ℤ, IsTrue, pos, length};
+ghost use Rattle.std.specs.Prelude.{◌≡◌, ◌≢◌, ◌<◌, ◌*◌, ◌+◌, ◌*ℤ◌, ℤ, List, IsTrue, pos, length};
+ghost use Rattle.std.specs.List.{slice_index_or};
+ghost use Rattle.poly_num.specs.Halves.{IsHalf};
+ghost use Rattle.columns.specs.Cells.{cell_at};
 ghost use Rattle.columns.specs.HalfCells.{AreHalvesTo};
-ghost use Rattle.columns.specs.Steps.{IsBefore, IsOtherStep, IsScale, AreHalfFactors, IsColumnWritten, AreKept};
+ghost use Rattle.columns.specs.Steps.{AreWordParts, IsOtherColumn, IsScale, AreHalfFactors, IsColumnWritten, AreKept};
 
-use crate::exchange::{Exchange, at_place};
+use crate::exchange::{at_place, word_at};
 use crate::kernels::{half_column, inside_column};
-use crate::step::{Before, Scale, Step};
+use crate::parts::{Parts, Scale};
 use words::{Word, WordDivisor, product};
 
-// The new cells of the exchange's column: whether all fit.
-fn own_column(before: &Before, new: &mut [Word], x: &Exchange, step: &Step, factor: Word) -> bool
-    requires before { IsBefore x.now before.now }
-    requires room { length new.old ≡ x.now.width * x.now.height }
-    requires within { step.now.column < x.now.width }
-    requires own { step.now.column ≡ x.now.column }
-    ensures written { IsTrue result → (g : ℤ) → factor *ℤ g ≡ x.now.denominator →
-        IsColumnWritten x.now before.now step.now x.now.height g new.new }
-    ensures kept { AreKept (step.now.column * x.now.height) new.old new.new }
-    ensures halves { IsTrue result → IsTrue before.now.halves → factor ≡ pos 1 →
-        AreHalvesTo (step.now.column * x.now.height) new.old →
-        AreHalvesTo (step.now.column * x.now.height + x.now.height) new.new }
+// What the exchange's column takes for row i: in the exchange's row it is u.
+#[inline(always)]
+fn own_number(parts: &Parts<Word>, i: usize) -> Word
+    requires { i < length parts.now.own.now }
+    ensures here { i ≡ parts.now.x.now.row → result ≡ parts.now.u }
+    ensures other { i ≢ parts.now.x.now.row → result ≡ slice_index_or parts.now.own.now i (pos 0) }
 {
-    let own = before.own;
-    let base = step.column * x.height;
+    if i == parts.x.row {
+        parts.u
+    } else {
+        at_place(parts.own, i)
+    }
+}
+
+// The new cells of the exchange's column: whether all fit.
+fn own_column(parts: &Parts<Word>, new: &mut [Word], factor: Word) -> bool
+    requires own { length parts.now.own.now ≡ parts.now.x.now.height }
+    requires room { length new.old ≡ parts.now.x.now.width * parts.now.x.now.height }
+    requires within { parts.now.x.now.column < parts.now.x.now.width }
+    ensures written { IsTrue result → (cells : List ℤ) (g : ℤ) → factor *ℤ g ≡ parts.now.x.now.denominator →
+        IsColumnWritten cells parts.now parts.now.x.now.column parts.now.x.now.height g new.new }
+    ensures kept { AreKept (parts.now.x.now.column * parts.now.x.now.height) new.old new.new }
+    ensures halves { IsTrue result → factor ≡ pos 1 → IsHalf parts.now.u →
+        AreHalvesTo parts.now.x.now.height parts.now.own.now →
+        AreHalvesTo (parts.now.x.now.column * parts.now.x.now.height) new.old →
+        AreHalvesTo (parts.now.x.now.column * parts.now.x.now.height + parts.now.x.now.height) new.new }
+{
+    let height = parts.x.height;
+    let base = parts.x.column * height;
     // new(i) = own(i) factor
-    'cells: for i in 0..x.height {
-        match product(at_place(own, i), factor) {
+    'cells: for i in 0..height {
+        match product(own_number(parts, i), factor) {
             Some(q) => new[base + i] = q,
             None => return false,
         }
@@ -35,81 +52,95 @@ fn own_column(before: &Before, new: &mut [Word], x: &Exchange, step: &Step, fact
 }
 
 // The cells of a column of which the exchange takes nothing, and which it multiplies by what it divides by.
-fn copy_column(before: &Before, new: &mut [Word], x: &Exchange, step: &Step, divisor: &WordDivisor)
-    requires inside { IsOtherStep x.now before.now step.now new.old }
-    requires stays { (step.now.b ≡ pos 0) × (step.now.p ≡ divisor.now) }
-    ensures written { IsColumnWritten x.now before.now step.now x.now.height divisor.now new.new }
-    ensures kept { AreKept (step.now.column * x.now.height) new.old new.new }
-    ensures halves { IsTrue before.now.halves → AreHalvesTo (step.now.column * x.now.height) new.old →
-        AreHalvesTo (step.now.column * x.now.height + x.now.height) new.new }
+fn copy_column(
+    cells: &[Word],
+    parts: &Parts<Word>,
+    new: &mut [Word],
+    column: usize,
+    divisor: &WordDivisor,
+)
+    requires parts { AreWordParts cells.now parts.now }
+    requires inside { IsOtherColumn parts.now.x.now column new.old }
+    requires nothing { cell_at parts.now.x.now.height cells.now parts.now.x.now.row column ≡ pos 0 }
+    requires same { parts.now.p ≡ divisor.now }
+    ensures written { IsColumnWritten cells.now parts.now column parts.now.x.now.height divisor.now new.new }
+    ensures kept { AreKept (column * parts.now.x.now.height) new.old new.new }
+    ensures halves { IsTrue parts.now.halves → AreHalvesTo (column * parts.now.x.now.height) new.old →
+        AreHalvesTo (column * parts.now.x.now.height + parts.now.x.now.height) new.new }
 {
-    let cells = before.cells;
-    let base = step.column * x.height;
+    let height = parts.x.height;
+    let base = column * height;
     // new(i) = cells(i)
-    'cells: for i in 0..x.height {
+    'cells: for i in 0..height {
         let e = at_place(cells, base + i);
         new[base + i] = e;
     }
 }
 
 // Whether the exchange takes nothing of a column, and multiplies it by what it divides by.
-fn stays(step: &Step, divisor: &WordDivisor) -> bool
-    ensures { IsTrue result → (step.now.b ≡ pos 0) × (step.now.p ≡ divisor.now) }
+fn stays(p: Word, b: Word, divisor: &WordDivisor) -> bool
+    ensures { IsTrue result → (b ≡ pos 0) × (p ≡ divisor.now) }
 {
-    step.b == Word::ZERO && step.p == divisor.word()
+    b == Word::ZERO && p == divisor.word()
 }
 
 // Whether all that the new cells of a column take is known to fit half a machine word.
-fn fits_halves(before: &Before, step: &Step, divisor: &WordDivisor) -> bool
-    ensures halves { IsTrue result → IsTrue before.now.halves }
-    ensures factors { IsTrue result → AreHalfFactors step.now divisor.now }
+fn fits_halves(parts: &Parts<Word>, b: Word, divisor: &WordDivisor) -> bool
+    ensures halves { IsTrue result → IsTrue parts.now.halves }
+    ensures factors { IsTrue result → AreHalfFactors parts.now.p b divisor.now }
 {
-    before.halves && step.p.is_half() && step.b.is_half() && divisor.word().is_half()
+    parts.halves && parts.p.is_half() && b.is_half() && divisor.word().is_half()
 }
 
-// Whether the step's column is written over the divisor in halves.
+// Whether the column is written over the divisor in halves.
 fn is_written_in_halves(
-    before: &Before,
+    cells: &[Word],
+    parts: &Parts<Word>,
     new: &mut [Word],
-    x: &Exchange,
-    step: &Step,
+    column: usize,
     divisor: &WordDivisor,
 ) -> bool
-    requires inside { IsOtherStep x.now before.now step.now new.old }
-    ensures written { IsTrue result → IsColumnWritten x.now before.now step.now x.now.height divisor.now new.new }
-    ensures kept { AreKept (step.now.column * x.now.height) new.old new.new }
-    ensures halves { IsTrue result → AreHalvesTo (step.now.column * x.now.height) new.old →
-        AreHalvesTo (step.now.column * x.now.height + x.now.height) new.new }
+    requires parts { AreWordParts cells.now parts.now }
+    requires inside { IsOtherColumn parts.now.x.now column new.old }
+    ensures written { IsTrue result →
+        IsColumnWritten cells.now parts.now column parts.now.x.now.height divisor.now new.new }
+    ensures kept { AreKept (column * parts.now.x.now.height) new.old new.new }
+    ensures halves { IsTrue result → AreHalvesTo (column * parts.now.x.now.height) new.old →
+        AreHalvesTo (column * parts.now.x.now.height + parts.now.x.now.height) new.new }
 {
-    if !fits_halves(before, step, divisor) {
+    let b = word_at(cells, parts.x, parts.x.row, column);
+    if !fits_halves(parts, b, divisor) {
         return false;
     }
-    half_column(before, new, x, step, divisor) == x.height
+    half_column(cells, parts, new, column, divisor) == parts.x.height
 }
 
 // The new cells of another column than the exchange's: whether they are known to be halves; `None` where the divisor
 // does not divide it, or a cell does not fit.
 pub(crate) fn other_column(
-    before: &Before,
+    cells: &[Word],
+    parts: &Parts<Word>,
     new: &mut [Word],
-    x: &Exchange,
-    step: &Step,
+    column: usize,
     divisor: &WordDivisor,
 ) -> Option<bool>
-    requires inside { IsOtherStep x.now before.now step.now new.old }
-    ensures written { IfSome result (λ h. IsColumnWritten x.now before.now step.now x.now.height divisor.now new.new) }
-    ensures kept { AreKept (step.now.column * x.now.height) new.old new.new }
-    ensures halves { IfSome result (λ h. IsTrue h → AreHalvesTo (step.now.column * x.now.height) new.old →
-        AreHalvesTo (step.now.column * x.now.height + x.now.height) new.new) }
+    requires parts { AreWordParts cells.now parts.now }
+    requires inside { IsOtherColumn parts.now.x.now column new.old }
+    ensures written { IfSome result (λ h.
+        IsColumnWritten cells.now parts.now column parts.now.x.now.height divisor.now new.new) }
+    ensures kept { AreKept (column * parts.now.x.now.height) new.old new.new }
+    ensures halves { IfSome result (λ h. IsTrue h → AreHalvesTo (column * parts.now.x.now.height) new.old →
+        AreHalvesTo (column * parts.now.x.now.height + parts.now.x.now.height) new.new) }
 {
-    if stays(step, divisor) {
-        copy_column(before, new, x, step, divisor);
-        return Some(before.halves);
+    let b = word_at(cells, parts.x, parts.x.row, column);
+    if stays(parts.p, b, divisor) {
+        copy_column(cells, parts, new, column, divisor);
+        return Some(parts.halves);
     }
-    if is_written_in_halves(before, new, x, step, divisor) {
+    if is_written_in_halves(cells, parts, new, column, divisor) {
         return Some(true);
     }
-    if inside_column(before, new, x, step, divisor) == x.height {
+    if inside_column(cells, parts, new, column, divisor) == parts.x.height {
         Some(false)
     } else {
         None
@@ -117,36 +148,36 @@ pub(crate) fn other_column(
 }
 
 // Whether the cells of the exchange's column are halves where they are not multiplied.
-fn own_halves(before: &Before, factor: Word) -> bool
-    ensures { IsTrue result → IsTrue before.now.halves × (factor ≡ pos 1) }
+fn own_halves(parts: &Parts<Word>, factor: Word) -> bool
+    ensures { IsTrue result → IsTrue parts.now.halves × (factor ≡ pos 1) × IsHalf parts.now.u }
 {
-    before.halves && factor == Word::ONE
+    parts.halves && factor == Word::ONE && parts.u.is_half()
 }
 
-// The new cells of the step's column: whether they are known to be halves; `None` where the divisor does not divide it,
-// or a cell does not fit.
+// The new cells of a column: whether they are known to be halves; `None` where the divisor does not divide it, or a
+// cell does not fit.
 pub(crate) fn write_column(
-    before: &Before,
+    cells: &[Word],
+    parts: &Parts<Word>,
     new: &mut [Word],
-    x: &Exchange,
-    step: &Step,
+    column: usize,
     scale: &Scale,
 ) -> Option<bool>
-    requires before { IsBefore x.now before.now }
-    requires room { length new.old ≡ x.now.width * x.now.height }
-    requires within { step.now.column < x.now.width }
-    requires scale { IsScale x.now scale.now }
+    requires parts { AreWordParts cells.now parts.now }
+    requires room { length new.old ≡ parts.now.x.now.width * parts.now.x.now.height }
+    requires within { column < parts.now.x.now.width }
+    requires scale { IsScale parts.now.x.now scale.now.divisor scale.now.factor }
     ensures written { IfSome result (λ h.
-        IsColumnWritten x.now before.now step.now x.now.height scale.now.divisor new.new) }
-    ensures kept { AreKept (step.now.column * x.now.height) new.old new.new }
-    ensures halves { IfSome result (λ h. IsTrue h → AreHalvesTo (step.now.column * x.now.height) new.old →
-        AreHalvesTo (step.now.column * x.now.height + x.now.height) new.new) }
+        IsColumnWritten cells.now parts.now column parts.now.x.now.height scale.now.divisor new.new) }
+    ensures kept { AreKept (column * parts.now.x.now.height) new.old new.new }
+    ensures halves { IfSome result (λ h. IsTrue h → AreHalvesTo (column * parts.now.x.now.height) new.old →
+        AreHalvesTo (column * parts.now.x.now.height + parts.now.x.now.height) new.new) }
 {
-    if step.column != x.column {
-        return other_column(before, new, x, step, &scale.divisor);
+    if column != parts.x.column {
+        return other_column(cells, parts, new, column, &scale.divisor);
     }
-    let halves = own_halves(before, scale.factor);
-    if own_column(before, new, x, step, scale.factor) {
+    let halves = own_halves(parts, scale.factor);
+    if own_column(parts, new, scale.factor) {
         Some(halves)
     } else {
         None

@@ -1,4 +1,4 @@
-//! What is exchanged: a row and a column of a table by columns.
+//! What is exchanged: a row and a column of a table by columns; and where it can pass.
 ghost use Rattle.std.specs.Prelude.{◌≡◌, ◌<◌, ◌*◌, pos, length};
 ghost use Rattle.std.specs.List.{slice_index_or};
 ghost use Rattle.columns.specs.Cells.{cell_at};
@@ -15,6 +15,20 @@ pub struct Exchange {
     pub row: usize,
     pub column: usize,
     pub denominator: Num,
+}
+
+/// A place of a table: a row and a column, both counted from 0.
+#[derive(Clone, Copy, PartialEq, Eq, Debug)]
+pub struct Spot {
+    pub row: usize,
+    pub column: usize,
+}
+
+/// Where an exchange passes 127 bits: at the new denominator, or at a cell.
+#[derive(Clone, Copy, PartialEq, Eq, Debug)]
+pub enum Passing {
+    Denominator,
+    Cell(Spot),
 }
 
 // The word at a place.
@@ -35,4 +49,13 @@ pub(crate) fn word_at(cells: &[Word], x: &Exchange, i: usize, j: usize) -> Word
     ensures { result ≡ cell_at x.now.height cells.now i j }
 {
     cells[j * x.height + i]
+}
+
+// The wide number at a place.
+#[inline(always)]
+pub(crate) fn number_at(cells: &[Num], place: usize) -> Num
+    requires { place < length cells.now }
+    ensures { result ≡ slice_index_or cells.now place (pos 0) }
+{
+    cells[place]
 }

@@ -1,33 +1,34 @@
 //! The inner loops: the new cells of one column, over one divisor.
 ghost use Rattle.std.specs.Prelude.{◌≤◌, ◌*◌, ◌+◌, IsTrue};
+ghost use Rattle.columns.specs.Cells.{cell_at};
 ghost use Rattle.columns.specs.HalfCells.{AreHalvesTo};
-ghost use Rattle.columns.specs.Steps.{IsOtherStep, AreHalfFactors, IsColumnWritten, AreKept};
+ghost use Rattle.columns.specs.Steps.{AreWordParts, IsOtherColumn, AreHalfFactors, IsColumnWritten, AreKept};
 
-use crate::exchange::{Exchange, at_place};
-use crate::step::{Before, Step};
+use crate::exchange::{at_place, word_at};
+use crate::parts::Parts;
 use words::{Word, WordDivisor};
 
-// The new cells of the step's column from the top, as long as the divisor divides; how many are written.
+// The new cells of a column from the top, as long as the divisor divides; how many are written.
 #[inline(never)]
 pub(crate) fn inside_column(
-    before: &Before,
+    cells: &[Word],
+    parts: &Parts<Word>,
     new: &mut [Word],
-    x: &Exchange,
-    step: &Step,
+    column: usize,
     divisor: &WordDivisor,
 ) -> usize
-    requires inside { IsOtherStep x.now before.now step.now new.old }
-    ensures count { result ≤ x.now.height }
-    ensures written { IsColumnWritten x.now before.now step.now result divisor.now new.new }
-    ensures kept { AreKept (step.now.column * x.now.height) new.old new.new }
+    requires parts { AreWordParts cells.now parts.now }
+    requires inside { IsOtherColumn parts.now.x.now column new.old }
+    ensures count { result ≤ parts.now.x.now.height }
+    ensures written { IsColumnWritten cells.now parts.now column result divisor.now new.new }
+    ensures kept { AreKept (column * parts.now.x.now.height) new.old new.new }
 {
-    let cells = before.cells;
-    let own = before.own;
-    let p = step.p;
-    let b = step.b;
+    let own = parts.own;
+    let p = parts.p;
+    let b = word_at(cells, parts.x, parts.x.row, column);
     let by = divisor.copied();
-    let height = x.height;
-    let base = step.column * height;
+    let height = parts.x.height;
+    let base = column * height;
     // new(i) = (cells(i) p - own(i) b) / divisor
     'cells: for i in 0..height {
         match by.exact_cross(at_place(cells, base + i), p, at_place(own, i), b) {
@@ -41,28 +42,29 @@ pub(crate) fn inside_column(
 // The same where all that it takes fits half a machine word, as long as the new cells do.
 #[inline(never)]
 pub(crate) fn half_column(
-    before: &Before,
+    cells: &[Word],
+    parts: &Parts<Word>,
     new: &mut [Word],
-    x: &Exchange,
-    step: &Step,
+    column: usize,
     half_divisor: &WordDivisor,
 ) -> usize
-    requires inside { IsOtherStep x.now before.now step.now new.old }
-    requires halves { IsTrue before.now.halves }
-    requires factors { AreHalfFactors step.now half_divisor.now }
-    ensures count { result ≤ x.now.height }
-    ensures written { IsColumnWritten x.now before.now step.now result half_divisor.now new.new }
-    ensures kept { AreKept (step.now.column * x.now.height) new.old new.new }
-    ensures halves { AreHalvesTo (step.now.column * x.now.height) new.old →
-        AreHalvesTo (step.now.column * x.now.height + result) new.new }
+    requires parts { AreWordParts cells.now parts.now }
+    requires inside { IsOtherColumn parts.now.x.now column new.old }
+    requires halves { IsTrue parts.now.halves }
+    requires factors { AreHalfFactors parts.now.p
+        (cell_at parts.now.x.now.height cells.now parts.now.x.now.row column) half_divisor.now }
+    ensures count { result ≤ parts.now.x.now.height }
+    ensures written { IsColumnWritten cells.now parts.now column result half_divisor.now new.new }
+    ensures kept { AreKept (column * parts.now.x.now.height) new.old new.new }
+    ensures halves { AreHalvesTo (column * parts.now.x.now.height) new.old →
+        AreHalvesTo (column * parts.now.x.now.height + result) new.new }
 {
-    let cells = before.cells;
-    let own = before.own;
-    let p = step.p;
-    let b = step.b;
+    let own = parts.own;
+    let p = parts.p;
+    let b = word_at(cells, parts.x, parts.x.row, column);
     let by = half_divisor.copied();
-    let height = x.height;
-    let base = step.column * height;
+    let height = parts.x.height;
+    let base = column * height;
     // new(i) = (cells(i) p - own(i) b) / half_divisor
     'halves: for i in 0..height {
         match by.exact_half_cross(at_place(cells, base + i), p, at_place(own, i), b) {

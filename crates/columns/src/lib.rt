@@ -7,12 +7,14 @@ mod common;
 mod exchange;
 mod into;
 mod kernels;
+mod parts;
 mod rescale;
-mod step;
+mod table;
 #[cfg(test)]
 mod tests;
 mod wide;
+mod wide_column;
 
 pub use cells::Cells;
-pub use exchange::Exchange;
-pub use wide::{Spot, exchange_cells};
+pub use exchange::{Exchange, Passing, Spot};
+pub use table::exchange_cells;

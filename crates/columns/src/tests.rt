@@ -1,12 +1,10 @@
 //! Tables of two columns of three cells, exchanged to and fro, against tables worked out by hand.
-ghost use Rattle.std.specs.Prelude.{◌≡◌, ◌<◌, ◌*◌, ◌<ℤ◌, ◌↔◌, IfOk, IsTrue, length, pos};
-ghost use Rattle.columns.specs.Cells.{IsUnitAcross};
+ghost use Rattle.std.specs.Prelude.{◌≡◌, ◌↔◌, IfOk, IsTrue, length, pos};
 
-use crate::{Cells, Exchange, Spot, exchange_cells};
+use crate::{Cells, Exchange, Passing, Spot, exchange_cells};
 use poly_num::Num;
 use std::alloc::{AllocError, Global};
 use std::test::Fail;
-use words::Word;
 
 fn num(value: i128) -> Num {
     Num::new(value).unwrap_or(Num::ZERO)
@@ -18,36 +16,20 @@ fn table(alloc: Global, cells: [i128; 6]) -> Result<Cells, AllocError>
 {
     let [a, b, c, d, e, f] = cells;
     let wide = Vec::from_slice(alloc, &[num(a), num(b), num(c), num(d), num(e), num(f)])?;
-    let words = Vec::from_slice(alloc, &[Word::ZERO; 6])?;
-    Ok(Cells::new(wide, words))
-}
-
-/// The exchange of this row and the first column.
-fn exchange_of(row: usize, denominator: Num) -> Exchange
-    ensures shape { (result.width ≡ 2) × (result.height ≡ 3) × (result.column ≡ 0) }
-    ensures given { (result.row ≡ row) × (result.denominator ≡ denominator) }
-{
-    Exchange {
-        height: 3,
-        width: 2,
-        row,
-        column: 0,
-        denominator,
-    }
+    Cells::new(wide)
 }
 
 fn numbers(cells: &Cells) -> Option<[i128; 6]> {
     if cells.len() != 6 {
         return None;
     }
-    let x = exchange_of(0, Num::ONE);
     Some([
-        cells.cell(&x, 0, 0).get(),
-        cells.cell(&x, 1, 0).get(),
-        cells.cell(&x, 2, 0).get(),
-        cells.cell(&x, 0, 1).get(),
-        cells.cell(&x, 1, 1).get(),
-        cells.cell(&x, 2, 1).get(),
+        cells.at(3, 0, 0).get(),
+        cells.at(3, 1, 0).get(),
+        cells.at(3, 2, 0).get(),
+        cells.at(3, 0, 1).get(),
+        cells.at(3, 1, 1).get(),
+        cells.at(3, 2, 1).get(),
     ])
 }
 
@@ -58,39 +40,42 @@ fn is_zero(a: Num) -> bool
     a == Num::ZERO
 }
 
-/// Whether a row has the denominator in the first column and 0 in the second.
-fn is_unit_row(cells: &Cells, x: &Exchange, row: usize) -> bool
-    requires size { length cells.now ≡ 6 }
-    requires shape { (x.now.width ≡ 2) × (x.now.height ≡ 3) × (x.now.column ≡ 0) }
-    requires row { row < 3 }
-    ensures { IsTrue result → IsUnitAcross x.now cells.now row }
-{
-    cells.cell(x, row, 0) == x.denominator && cells.cell(x, row, 1) == Num::ZERO
+/// What is exchanged: a row and a column, over a denominator.
+#[derive(Clone, Copy)]
+struct Task {
+    row: usize,
+    column: usize,
+    denominator: i128,
 }
 
-/// The exchange of a row and the first column, where it can be carried out.
+/// The exchange, where it can be carried out: the new denominator, or where it passes.
 fn exchanged(
     old: &Cells,
+    own: &mut Cells,
     new: &mut Cells,
-    row: usize,
-    unit: usize,
-    denominator: Num,
-) -> Option<Option<Spot>> {
-    if old.len() != 6 || new.len() != 6 {
+    task: &Task,
+) -> Option<Result<i128, Passing>> {
+    let denominator = num(task.denominator);
+    if old.len() != 6 || new.len() != 6 || own.len() != 3 {
         return None;
     }
-    if row >= 3 || unit >= 3 || !denominator.is_positive() {
+    if task.row >= 3 || task.column >= 2 || !denominator.is_positive() {
         return None;
     }
-    let x = exchange_of(row, denominator);
-    if is_zero(old.cell(&x, row, 0)) {
+    if is_zero(old.at(3, task.row, task.column)) {
         return None;
     }
-    if !is_unit_row(old, &x, unit) {
-        return None;
+    let x = Exchange {
+        height: 3,
+        width: 2,
+        row: task.row,
+        column: task.column,
+        denominator,
+    };
+    match exchange_cells(old, own, new, &x) {
+        Ok(d) => Some(Ok(d.get())),
+        Err(passing) => Some(Err(passing)),
     }
-    let mut own = [Word::ZERO; 3];
-    Some(exchange_cells(old, &mut own, new, &x))
 }
 
 /// How the cells are kept; words that are known to be halves are told apart.
@@ -111,36 +96,48 @@ fn form_of(cells: &Cells) -> Form {
     }
 }
 
-/// What an exchange of row 1 makes of a table, and what the exchange back of row 0 makes of that.
+/// What an exchange answers, the table after it, and how that is kept.
 #[derive(Clone, Copy, PartialEq, Eq, Debug)]
-struct Outcome {
-    spot: Option<Option<Spot>>,
-    new: Option<[i128; 6]>,
+struct Seen {
+    answer: Option<Result<i128, Passing>>,
+    cells: Option<[i128; 6]>,
     form: Form,
-    back: Option<Option<Spot>>,
-    again: Option<[i128; 6]>,
-    form_again: Form,
 }
 
-fn outcome_of(
-    alloc: Global,
-    cells: [i128; 6],
-    denominator: i128,
-    next: i128,
-) -> Result<Outcome, AllocError> {
-    let mut old = table(alloc, cells)?;
+fn look_at(answer: Option<Result<i128, Passing>>, cells: &Cells) -> Seen {
+    Seen {
+        answer,
+        cells: numbers(cells),
+        form: form_of(cells),
+    }
+}
+
+/// What an exchange of row 1 and the first column makes of a table, and what the same makes of that.
+#[derive(Clone, Copy, PartialEq, Eq, Debug)]
+struct Outcome {
+    there: Seen,
+    back: Seen,
+}
+
+fn outcome_of(alloc: Global, case: &Case) -> Result<Outcome, AllocError> {
+    let mut old = table(alloc, case.cells)?;
     let mut new = table(alloc, [0; 6])?;
-    let spot = exchanged(&old, &mut new, 1, 0, num(denominator));
-    let (found, form) = (numbers(&new), form_of(&new));
-    let back = exchanged(&new, &mut old, 0, 1, num(next));
-    Ok(Outcome {
-        spot,
-        new: found,
-        form,
-        back,
-        again: numbers(&old),
-        form_again: form_of(&old),
-    })
+    let mut own = Cells::new(Vec::from_slice(alloc, &[Num::ZERO; 3])?)?;
+    let there = Task {
+        row: 1,
+        column: 0,
+        denominator: case.denominator,
+    };
+    let back = Task {
+        row: 1,
+        column: 0,
+        denominator: case.next,
+    };
+    let first = exchanged(&old, &mut own, &mut new, &there);
+    let there = look_at(first, &new);
+    let second = exchanged(&new, &mut own, &mut old, &back);
+    let back = look_at(second, &old);
+    Ok(Outcome { there, back })
 }
 
 /// A table over a denominator, and the table after the exchange, over another.
@@ -155,23 +152,23 @@ struct Case {
     form_again: Form,
 }
 
-fn cases() -> [Case; 4] {
-    let (a, b, c) = (1 << 30, 1 << 40, 1 << 50);
+fn cases() -> [Case; 6] {
+    let (a, b, c, most) = (1 << 30, 1 << 40, 1 << 50, i128::MAX);
     [
         Case {
             name: "halves",
-            cells: [2, 4, 1, 0, 6, -3],
+            cells: [3, 4, 1, 5, 6, -3],
             denominator: 2,
-            new: [2, 4, 1, -6, 0, -9],
+            new: [3, 2, 1, 1, -6, -9],
             next: 4,
             form: Form::Halves,
             form_again: Form::Halves,
         },
         Case {
             name: "the divisor shrinks, and the signs are turned",
-            cells: [6, -4, 3, 0, 1, 2],
+            cells: [5, -4, 3, 7, 1, 2],
             denominator: 6,
-            new: [-36, 24, -18, 6, 0, 11],
+            new: [-30, -36, -18, 33, 6, 11],
             next: 24,
             form: Form::Words,
             form_again: Form::Words,
@@ -180,7 +177,7 @@ fn cases() -> [Case; 4] {
             name: "words",
             cells: [1, b, 3, 0, 32 * a, 1],
             denominator: 1,
-            new: [1, b, 3, -32 * a, 0, 928 * a],
+            new: [1, 1, 3, -32 * a, -32 * a, 928 * a],
             next: b,
             form: Form::Words,
             form_again: Form::Words,
@@ -189,10 +186,28 @@ fn cases() -> [Case; 4] {
             name: "wide numbers, and back to words",
             cells: [1, b, a, 0, c, 0],
             denominator: 1,
-            new: [1, b, a, -c, 0, -a * c],
+            new: [1, 1, a, -c, -c, -a * c],
             next: b,
             form: Form::Wide,
             form_again: Form::Words,
+        },
+        Case {
+            name: "no product with the denominator where nothing is taken",
+            cells: [3, most, -5, 7, 0, 9],
+            denominator: most,
+            new: [3, most, -5, 7, 0, 9],
+            next: most,
+            form: Form::Wide,
+            form_again: Form::Wide,
+        },
+        Case {
+            name: "the divisor of wide numbers shrinks, and the signs are turned",
+            cells: [-most, -most, -most, 7, 0, 9],
+            denominator: most,
+            new: [most, -most, most, 7, 0, 9],
+            next: most,
+            form: Form::Wide,
+            form_again: Form::Wide,
         },
     ]
 }
@@ -202,26 +217,139 @@ fn exchanges_worked_out_by_hand(rt: HostRuntime) -> Result<(), Fail> {
     let cases = cases();
     for case in &cases {
         let want = Outcome {
-            spot: Some(None),
-            new: Some(case.new),
-            form: case.form,
-            back: Some(None),
-            again: Some(case.cells),
-            form_again: case.form_again,
+            there: Seen {
+                answer: Some(Ok(case.next)),
+                cells: Some(case.new),
+                form: case.form,
+            },
+            back: Seen {
+                answer: Some(Ok(case.denominator)),
+                cells: Some(case.cells),
+                form: case.form_again,
+            },
         };
-        let found = outcome_of(rt.alloc(), case.cells, case.denominator, case.next)?;
+        let found = outcome_of(rt.alloc(), case)?;
         assert_eq!(rt; found, want, "{}", case.name);
     }
     Ok(())
 }
 
+/// A table and an exchange that passes, and where.
+#[derive(Clone, Copy)]
+struct Refusal {
+    name: &'static str,
+    cells: [i128; 6],
+    task: Task,
+    want: Passing,
+}
+
+fn refusals() -> [Refusal; 6] {
+    let (d, e, f) = (1 << 70, 1 << 60, (1 << 65) + 1);
+    [
+        Refusal {
+            name: "inside",
+            cells: [1, d, d, 0, d, d],
+            task: Task {
+                row: 1,
+                column: 0,
+                denominator: 1,
+            },
+            want: Passing::Cell(Spot { row: 2, column: 1 }),
+        },
+        Refusal {
+            name: "column, where the divisor shrinks",
+            cells: [f, 1, 0, 1, 0, 1],
+            task: Task {
+                row: 1,
+                column: 0,
+                denominator: d,
+            },
+            want: Passing::Cell(Spot { row: 0, column: 0 }),
+        },
+        Refusal {
+            name: "column, where the divisor has shrunk",
+            cells: [1, 0, 1, f, 1, 0],
+            task: Task {
+                row: 1,
+                column: 1,
+                denominator: d,
+            },
+            want: Passing::Cell(Spot { row: 0, column: 1 }),
+        },
+        Refusal {
+            name: "corner",
+            cells: [1, 1, 1, 1, 0, 1],
+            task: Task {
+                row: 1,
+                column: 0,
+                denominator: d,
+            },
+            want: Passing::Cell(Spot { row: 1, column: 0 }),
+        },
+        Refusal {
+            name: "leaving",
+            cells: [1, e + 1, 1, 0, 1, 0],
+            task: Task {
+                row: 1,
+                column: 1,
+                denominator: d,
+            },
+            want: Passing::Cell(Spot { row: 1, column: 0 }),
+        },
+        Refusal {
+            name: "denominator",
+            cells: [1, d + 1, 1, 1, 0, 1],
+            task: Task {
+                row: 1,
+                column: 0,
+                denominator: e,
+            },
+            want: Passing::Denominator,
+        },
+    ]
+}
+
+fn answer_of(
+    alloc: Global,
+    cells: [i128; 6],
+    task: &Task,
+) -> Result<Option<Result<i128, Passing>>, AllocError> {
+    let old = table(alloc, cells)?;
+    let mut new = table(alloc, [0; 6])?;
+    let mut own = Cells::new(Vec::from_slice(alloc, &[Num::ZERO; 3])?)?;
+    Ok(exchanged(&old, &mut own, &mut new, task))
+}
+
 #[test]
 fn refuses_what_passes(rt: HostRuntime) -> Result<(), Fail> {
-    let large = 1 << 70;
-    let alloc = rt.alloc();
-    let old = table(alloc, [1, large, large, 0, large, large])?;
-    let mut new = table(alloc, [0; 6])?;
-    let spot = exchanged(&old, &mut new, 1, 0, Num::ONE);
-    assert_eq!(rt; spot, Some(Some(Spot { row: 2, column: 1 })));
+    let refusals = refusals();
+    for refusal in &refusals {
+        let found = answer_of(rt.alloc(), refusal.cells, &refusal.task)?;
+        assert_eq!(rt; found, Some(Err(refusal.want)), "{}", refusal.name);
+    }
+    Ok(())
+}
+
+/// A table copied twice, first into room of its own and then over another table.
+fn copies(
+    alloc: Global,
+    cells: [i128; 6],
+) -> Result<(Option<[i128; 6]>, Option<[i128; 6]>), AllocError> {
+    let old = table(alloc, cells)?;
+    let copy = old.copy()?;
+    let mut other = table(alloc, [1 << 70; 6])?;
+    if other.len() == copy.len() {
+        copy.copy_into(&mut other);
+    }
+    Ok((numbers(&copy), numbers(&other)))
+}
+
+#[test]
+fn copies_words_and_wide_numbers(rt: HostRuntime) -> Result<(), Fail> {
+    let table = [[1, 2, 3, 4, 5, 6], [1, 2, 3, 4, 5, 1 << 100]];
+    for cells in table {
+        let found = copies(rt.alloc(), cells)?;
+        assert_eq!(rt; found, (Some(cells), Some(cells)));
+    }
     Ok(())
 }

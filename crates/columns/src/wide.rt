@@ -1,166 +1,140 @@
-//! The exchange of a row and a column in numbers of 127 bits, into another table, and that in words before it.
-ghost use Rattle.std.specs.Prelude.{◌≡◌, ◌≢◌, ◌<◌, ◌*◌, ◌+◌, ◌<ℤ◌, IsTrue, MatchOption, pos, length};
-ghost use Rattle.std.specs.List.{slice_index_or};
-ghost use Rattle.columns.specs.Cells.{AllowsExchange, HasUnit, IsNewCell, IsTableAfter, CellPasses};
-ghost use Rattle.columns.specs.Steps.{IsNewColumn, AreNewColumns, AreKept, IsMadePrimitive};
+//! The exchange of a row and a column in numbers of 127 bits, into another table.
+ghost use Rattle.std.specs.Prelude.{◌≡◌, ◌<◌, ◌≤◌, ◌+◌, ◌*◌, ◌*ℤ◌, ◌<ℤ◌, IfOk, IfErr, MatchResult, pos, length, unsigned_abs};
+ghost use Prim.Native.Nat.{◌∣◌};
+ghost use Rattle.columns.specs.Cells.{CellPasses, IsTableAfter, Passes};
+ghost use Rattle.columns.specs.Steps.{AreWideParts, factor_of, IsScale, IsOtherColumn, IsColumnDone, IsScaled, IsRescaled, PassesScaled, PassesRescaled, IsOver};
 
 use crate::cells::Cells;
-use crate::exchange::Exchange;
-use crate::into::exchange_into;
-use poly_num::{Num, cross, mul, negate, primitive};
-use words::Word;
+use crate::common::is_one;
+use crate::exchange::{Passing, Spot, number_at};
+use crate::parts::{Parts, WideScale};
+use crate::wide_column::{divided_column, left_of_column, same_column, stays, wide_own_column};
+use poly_num::{Num, mul, quotient};
 
-/// A place of a table: a row and a column, both counted from 0.
-#[derive(Clone, Copy, PartialEq, Eq, Debug)]
-pub struct Spot {
-    pub row: usize,
-    pub column: usize,
-}
-
-// The new cell in row i and column j; `None` where what it takes passes.
-fn new_cell(old: &Cells, x: &Exchange, i: usize, j: usize) -> Option<Num>
-    requires can { AllowsExchange x.now old.now }
-    requires i { i < x.now.height }
-    requires j { j < x.now.width }
-    ensures { MatchOption result (CellPasses x.now old.now i j) (λ z. IsNewCell x.now old.now i j z) }
+// The first so many numbers times a factor; the place of the first that passes.
+fn scale_numbers(new: &mut [Num], count: usize, factor: Num) -> Result<(), usize>
+    requires { count ≤ length new.old }
+    ensures { MatchResult result (λ u. IsScaled count factor new.old new.new)
+        (λ k. PassesScaled count factor new.old k) }
 {
-    let c = old.cell(x, i, x.column);
-    if j == x.column {
-        return mul(c, x.denominator);
-    }
-    if i == x.row {
-        return Some(Num::ZERO);
-    }
-    let e = old.cell(x, i, j);
-    let v = old.cell(x, x.row, x.column);
-    let r = old.cell(x, x.row, j);
-    cross(e, v, c, r)
-}
-
-// The new cells of column j; the row in which one passes.
-fn wide_column(old: &Cells, new: &mut [Num], x: &Exchange, j: usize) -> Option<usize>
-    requires can { AllowsExchange x.now old.now }
-    requires room { length new.old ≡ x.now.width * x.now.height }
-    requires j { j < x.now.width }
-    ensures written { MatchOption result (IsNewColumn x.now old.now j x.now.height new.new)
-        (λ i. CellPasses x.now old.now i j) }
-    ensures kept { AreKept (j * x.now.height) new.old new.new }
-{
-    // new(i, j) = old(i, j) pivot - old(i, column) old(row, j)
-    'cells: for i in 0..x.height {
-        match new_cell(old, x, i, j) {
-            Some(z) => new[j * x.height + i] = z,
-            None => return Some(i),
+    // new(k) = new(k) factor
+    'cells: for k in 0..count {
+        match mul(number_at(new, k), factor) {
+            Some(z) => new[k] = z,
+            None => return Err(k),
         }
     }
-    None
+    Ok(())
 }
 
-// All new cells before anything is divided out; the place at which something passes.
-fn wide_columns(old: &Cells, new: &mut [Num], x: &Exchange) -> Option<Spot>
-    requires can { AllowsExchange x.now old.now }
-    requires room { length new.old ≡ x.now.width * x.now.height }
-    ensures { MatchOption result (AreNewColumns x.now old.now x.now.width new.new)
-        (λ s. CellPasses x.now old.now s.row s.column) }
+// The first so many numbers, which are over a divisor, over a number that divides it; the place of the first that
+// passes.
+fn numbers_over_less(new: &mut [Num], count: usize, divisor: Num, less: Num) -> Result<(), usize>
+    requires count { count ≤ length new.old }
+    requires positive { pos 0 <ℤ less }
+    requires divides { unsigned_abs less ∣ unsigned_abs divisor }
+    ensures { MatchResult result (λ u. IsRescaled count divisor less new.old new.new)
+        (λ k. PassesRescaled count divisor less new.old k) }
 {
-    'columns: for j in 0..x.width {
-        if let Some(row) = wide_column(old, new, x, j) {
-            return Some(Spot { row, column: j });
+    let factor = quotient(divisor, less);
+    if is_one(factor) {
+        return Ok(());
+    }
+    scale_numbers(new, count, factor)
+}
+
+// The spot of a place in columns of this height.
+fn spot_of(place: usize, height: usize) -> Spot
+    requires { 0 < height }
+    ensures row { result.row < height }
+    ensures same { result.column * height + result.row ≡ place }
+{
+    Spot {
+        row: place % height,
+        column: place / height,
+    }
+}
+
+// The new cells of a column over what is left of the divisor where it is to divide that too, and so the columns
+// before; the place at which one passes.
+fn column_over_left(
+    old: &Cells,
+    parts: &Parts<Num>,
+    new: &mut [Num],
+    column: usize,
+    scale: &mut WideScale,
+) -> Result<(), Spot>
+    requires parts { AreWideParts old.now parts.now }
+    requires inside { IsOtherColumn parts.now.x.now column new.old }
+    requires scale { IsScale parts.now.x.now scale.old.divisor scale.old.factor }
+    requires over { IsOver parts.now.x.now old.now (factor_of parts.now) column scale.old.divisor new.old }
+    ensures done { MatchResult result
+        (λ u. IsColumnDone old.now parts.now column scale.old.divisor scale.new.divisor new.old new.new)
+        (λ s. CellPasses parts.now.x.now old.now s.row s.column) }
+    ensures scale { IfOk result (λ u. IsScale parts.now.x.now scale.new.divisor scale.new.factor) }
+{
+    let height = parts.x.height;
+    let less = left_of_column(old, parts, column, scale.divisor)?;
+    if let Err(place) = numbers_over_less(new, column * height, scale.divisor, less) {
+        return Err(spot_of(place, height));
+    }
+    let smaller = WideScale {
+        divisor: less,
+        factor: quotient(parts.x.denominator, less),
+    };
+    divided_column(old, parts, new, column, &smaller)?;
+    *scale = smaller;
+    Ok(())
+}
+
+// The new cells of a column; where the divisor does not divide it, it shrinks, and the columns before grow. The place
+// at which one passes.
+fn wide_column(
+    old: &Cells,
+    parts: &Parts<Num>,
+    new: &mut [Num],
+    column: usize,
+    scale: &mut WideScale,
+) -> Result<(), Spot>
+    requires parts { AreWideParts old.now parts.now }
+    requires room { length new.old ≡ parts.now.x.now.width * parts.now.x.now.height }
+    requires within { column < parts.now.x.now.width }
+    requires scale { IsScale parts.now.x.now scale.old.divisor scale.old.factor }
+    requires over { IsOver parts.now.x.now old.now (factor_of parts.now) column scale.old.divisor new.old }
+    ensures done { MatchResult result
+        (λ u. IsColumnDone old.now parts.now column scale.old.divisor scale.new.divisor new.old new.new)
+        (λ s. CellPasses parts.now.x.now old.now s.row s.column) }
+    ensures scale { IfOk result (λ u. IsScale parts.now.x.now scale.new.divisor scale.new.factor) }
+{
+    if column == parts.x.column {
+        return wide_own_column(parts, new, scale);
+    }
+    if stays(old, parts, column, scale.divisor) {
+        same_column(old, parts, new, column, scale.divisor);
+        return Ok(());
+    }
+    column_over_left(old, parts, new, column, scale)
+}
+
+/// Writes the table after the exchange into `new`, and answers the new denominator; where something passes, the place
+/// of that, and the numbers there say nothing.
+pub(crate) fn wide_into(old: &Cells, parts: &Parts<Num>, new: &mut [Num]) -> Result<Num, Passing>
+    requires parts { AreWideParts old.now parts.now }
+    requires room { length new.old ≡ parts.now.x.now.width * parts.now.x.now.height }
+    ensures exchanged { IfOk result (λ d. IsTableAfter parts.now.x.now old.now d new.new) }
+    ensures passes { IfErr result (λ p. Passes parts.now.x.now old.now p) }
+{
+    let mut scale = WideScale {
+        divisor: parts.x.denominator,
+        factor: Num::ONE,
+    };
+    'columns: for j in 0..parts.x.width {
+        if let Err(spot) = wide_column(old, parts, new, j, &mut scale) {
+            return Err(Passing::Cell(spot));
         }
     }
-    None
-}
-
-// The number at a place.
-fn number_at_place(cells: &[Num], place: usize) -> Num
-    requires { place < length cells.now }
-    ensures { result ≡ slice_index_or cells.now place (pos 0) }
-{
-    cells[place]
-}
-
-// Divides out what is common, and makes the number at the place positive.
-fn divide_out(cells: &mut [Num], place: usize)
-    requires place { place < length cells.old }
-    requires nonzero { slice_index_or cells.old place (pos 0) ≢ pos 0 }
-    ensures { IsMadePrimitive place cells.old cells.new }
-{
-    primitive(cells);
-    if !number_at_place(cells, place).is_positive() {
-        negate(cells);
-    }
-}
-
-// The table after the exchange in wide numbers; the place at which something passes.
-fn wide_into(old: &Cells, new: &mut [Num], x: &Exchange) -> Option<Spot>
-    requires can { AllowsExchange x.now old.now }
-    requires room { length new.old ≡ x.now.width * x.now.height }
-    ensures { MatchOption result (IsTableAfter x.now old.now new.new)
-        (λ s. CellPasses x.now old.now s.row s.column) }
-{
-    match wide_columns(old, new, x) {
-        Some(spot) => Some(spot),
-        None => {
-            divide_out(new, x.column * x.height + x.row);
-            None
-        }
-    }
-}
-
-/// Writes the table after the exchange into `new`, by way of `own`, which has room for a column; the place at which
-/// something passes.
-pub fn exchange_cells(old: &Cells, own: &mut [Word], new: &mut Cells, x: &Exchange) -> Option<Spot>
-    requires can { AllowsExchange x.now old.now }
-    requires unit { HasUnit x.now old.now }
-    requires room { length new.old ≡ x.now.width * x.now.height }
-    requires own { length own.old ≡ x.now.height }
-    ensures { MatchOption result (IsTableAfter x.now old.now new.new)
-        (λ s. CellPasses x.now old.now s.row s.column) }
-{
-    if old.exchange_words(own, new, x) {
-        return None;
-    }
-    match new.exchange_wide(old, x) {
-        Some(spot) => Some(spot),
-        None => {
-            new.narrow();
-            None
-        }
-    }
-}
-
-impl Cells {
-    // The exchange in words, where all of it fits.
-    fn exchange_words(&self, own: &mut [Word], new: &mut Cells, x: &Exchange) -> bool
-        requires can { AllowsExchange x.now self.now }
-        requires unit { HasUnit x.now self.now }
-        requires room { length new.old ≡ x.now.width * x.now.height }
-        requires own { length own.old ≡ x.now.height }
-        ensures exchanged { IsTrue result → IsTableAfter x.now self.now new.new }
-        ensures length { length new.new ≡ length new.old }
-    {
-        if self.is_wide {
-            return false;
-        }
-        new.is_wide = false;
-        new.halves = false;
-        match exchange_into(&self.words, own, &mut new.words, x, self.halves) {
-            Some(halves) => {
-                new.halves = halves;
-                true
-            }
-            None => false,
-        }
-    }
-
-    // The exchange in wide numbers.
-    fn exchange_wide(&mut self, old: &Cells, x: &Exchange) -> Option<Spot>
-        requires can { AllowsExchange x.now old.now }
-        requires room { length self.old ≡ x.now.width * x.now.height }
-        ensures { MatchOption result (IsTableAfter x.now old.now self.new)
-            (λ s. CellPasses x.now old.now s.row s.column) }
-    {
-        self.is_wide = true;
-        wide_into(old, &mut self.wide, x)
+    match mul(parts.p, scale.factor) {
+        Some(d) => Ok(d),
+        None => Err(Passing::Denominator),
     }
 }

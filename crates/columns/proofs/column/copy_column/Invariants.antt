@@ -6,8 +6,8 @@ use Rattle.columns.proofs.column.copy_column.Given as goal
 
 abbrev pub invariant-cells : goal.invariant-cells
 invariant-cells l = record {
-  written : IsColumnWritten l.x l.before l.step l.i l.divisor l.new;
-  kept : AreKept (l.step.column * l.x.height) l.fn.new l.new;
-  halves : IsTrue l.before.halves → AreHalvesTo (l.step.column * l.x.height) l.fn.new →
-      AreHalvesTo (l.step.column * l.x.height + l.i) l.new;
+  written : IsColumnWritten l.cells l.fn.parts l.fn.column l.i l.fn.divisor l.new;
+  kept : AreKept (l.fn.column * l.fn.parts.x.now.height) l.fn.new l.new;
+  halves : IsTrue l.fn.parts.halves → AreHalvesTo (l.fn.column * l.fn.parts.x.now.height) l.fn.new →
+      AreHalvesTo (l.fn.column * l.fn.parts.x.now.height + l.i) l.new;
 }

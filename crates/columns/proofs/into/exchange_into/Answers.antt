@@ -1,19 +1,52 @@
-use Rattle.columns.proofs.HalfCellLemmas.{own_halves}
+use Rattle.std.proofs.Common.{◌≡◌, ◌+ℤ◌, subst, sym, ℤ, ℕ, ◌∙◌, arith, mul_comm}
+use Rattle.poly_num.proofs.Ring.{one_mul}
+use Rattle.columns.specs.Cells.{IsTableAfter}
+use Rattle.columns.specs.HalfCells.{AreHalvesTo}
+use Rattle.columns.specs.Steps.{IsOver, factor_of}
+use Rattle.columns.proofs.OverLemmas.{over_start, over_column}
+use Rattle.columns.proofs.LeastCells.{table_after}
 use Rattle.columns.proofs.into.exchange_into.Goals as goal
 
-pub exchange_columns-requires-clause-before : goal.exchange_columns-requires-clause-before
-exchange_columns-requires-clause-before c =
-    let x = c.args.x.now in
-    let can = c.requires.can in
-    let f = c.in_ok-factors.factors in
-    let are = c.in_ok-factors.ensures in
-    let u = c.own_of.ensures c.if-not-own_of.false in
+pub columns-init : goal.columns-init
+columns-init c =
+    let parts = c.args.parts.now in
+    let x = parts.x.now in
+    let can = c.requires.parts.are.can in
+    let old = c.args.cells.now in
+    let same : c.new-divisor.result ≡ x.denominator = c.new-divisor.ensures ∙ c.in_ok-d.ensures.1 in
     record {
-      size = can.size;
-      height = u.height;
-      small = λ h. (
-        c.requires.halves h,
-        own_halves x c.args.old.now f.sign f.common c.own_of.new.own can.column are.greatest.positive are.turned.size u
-            (c.requires.halves h),
-      );
+      over =
+          subst (λ (g : ℤ). IsOver x old (factor_of parts) 0 g c.args.new.now) (sym same)
+          (over_start x old (factor_of parts) c.args.new.now (c.requires.room ∙ sym can.size) can.denominator);
+      scale = record { positive = rw same can.denominator; whole = rw same (one_mul x.denominator) };
+      halves = λ _ k l. absurd (omega arith);
     }
+
+pub columns-preserved : goal.columns-preserved
+columns-preserved c =
+    let parts = c.args.parts.now in
+    let t = c.if-not-exchange_column.false in
+    let u = c.columns.invariant in
+    record {
+      over =
+          over_column c.args.cells.now parts (parts.p +ℤ parts.u) c.requires.parts.are c.columns.j
+          c.columns.scale.divisor c.exchange_column.new.scale.divisor c.columns.new c.exchange_column.new.new
+          (c.exchange_column.ensures.done t) u.over;
+      scale = c.exchange_column.ensures.scale t;
+      halves = λ h.
+          let e = c.exchange_column.ensures.halves t h in
+          subst (λ (n : ℕ). AreHalvesTo n c.exchange_column.new.new) (omega (arith, mul_comm parts.x.now.height (c.columns.j)))
+          (e.1 (u.halves e.0));
+    }
+
+pub returns-clause-written : goal.returns-clause-written
+returns-clause-written c =
+    let parts = c.args.parts.now in
+    let x = parts.x.now in
+    let old = c.args.cells.now in
+    let u = c.columns.invariant in
+    let e : c.columns.j ≡ x.width = omega arith in
+    subst (λ (d : ℤ). IsTableAfter x old d c.columns.new) (sym c.in_ok-denominator.ensures)
+    (table_after old c.columns.new parts (parts.p +ℤ parts.u) c.columns.scale.divisor c.columns.scale.factor
+    c.requires.parts.are u.scale.whole
+    (subst (λ (n : ℕ). IsOver x old (factor_of parts) n c.columns.scale.divisor c.columns.new) e u.over))

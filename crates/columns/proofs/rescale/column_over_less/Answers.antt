@@ -8,12 +8,12 @@ use Rattle.columns.proofs.rescale.column_over_less.Goals as goal
 
 -- the new divisor is what is left
 left : (c : After-new) →
-    IsLeftOfColumn c.args.x.now c.args.before.now c.args.step.now c.args.x.now.height c.args.shrinking.now.divisor
-    c.new.result
+    IsLeftOfColumn c.args.cells.now c.args.parts.now c.args.column c.args.parts.now.x.now.height
+    c.args.shrinking.now.divisor c.new.result
 left c =
-    let is = IsLeftOfColumn c.args.x.now c.args.before.now c.args.step.now c.args.x.now.height in
+    let is = IsLeftOfColumn c.args.cells.now c.args.parts.now c.args.column c.args.parts.now.x.now.height in
     subst (λ (g : ℤ). is g c.new.result) c.word-g.ensures.value
-    (subst (λ (h : ℤ). is c.word-g.result h) (sym (c.new.ensures ∙ c.in-Some.ensures.1)) c.left_of_column-less.ensures)
+    (subst (λ (h : ℤ). is c.word-g.result h) (sym (c.new.ensures ∙ c.in-Some.ensures.1)) c.left_of_words-less.ensures)
 
 -- the factor between the two divisors
 times : (c : After-new) → c.in-Some-of.k *ℤ c.new.result ≡ c.args.shrinking.now.divisor
@@ -27,7 +27,7 @@ times c =
     )
     (quotient_exact c.new.result c.args.shrinking.now.divisor u.positive u.divides)
 
-grown_times : (c : After-new) → c.in-Some-product.grown *ℤ c.new.result ≡ c.args.x.now.denominator
+grown_times : (c : After-new) → c.in-Some-product.grown *ℤ c.new.result ≡ c.args.parts.now.x.now.denominator
 grown_times c =
     ap (λ (z : ℤ). z *ℤ c.new.result) c.in-Some-product.ensures
     ∙ mul_assoc c.args.shrinking.now.factor c.in-Some-of.k c.new.result
@@ -41,11 +41,11 @@ returns-in-Some-other_column-clause-scale c _ =
 pub returns-in-Some-other_column-clause-done : goal.returns-in-Some-other_column-clause-done
 returns-in-Some-other_column-clause-done c _ =
     let a = (goal.at.returns-in-Some-other_column-clause-done c).After-new in
-    let x = c.args.x.now in
-    let step = c.args.step.now in
-    let u = left a in
-    done_less x c.args.before.now step c.args.shrinking.now.divisor c.new.result c.args.new.now c.scale_columns.new.new
-    c.other_column.new.new u
-    (rescaled (step.column * x.height) c.args.shrinking.now.divisor c.new.result c.in-Some-of.k (times a)
-    c.args.new.now c.scale_columns.new.new (c.scale_columns.ensures.scaled c.if-not-scale_columns.false))
+    let parts = c.args.parts.now in
+    let j = c.args.column in
+    let g = c.args.shrinking.now.divisor in
+    done_less c.args.cells.now parts j g c.new.result c.args.new.now c.scale_words.new.new c.other_column.new.new
+    (left a)
+    (rescaled (j * parts.x.now.height) g c.new.result c.in-Some-of.k (times a) c.args.new.now c.scale_words.new.new
+    (c.scale_words.ensures.scaled c.if-not-scale_words.false))
     c.other_column.ensures.kept c.in-Some-other_column.ensures.written

@@ -1,0 +1,9 @@
+use Rattle.std.proofs.Common.{subst, sym, ℤ}
+use Prim.Native.Nat.{◌∣◌}
+use Rattle.std.specs.Prelude.{unsigned_abs}
+use Rattle.columns.proofs.common.wide_own_of.Goals as goal
+
+pub signed_over-q-requires-clause-divides : goal.signed_over-q-requires-clause-divides
+signed_over-q-requires-clause-divides c =
+    subst (λ (z : ℤ). unsigned_abs c.args.factors.now.common ∣ unsigned_abs z) (sym c.at-c.ensures)
+    (c.requires.factors.greatest.in_column c.cells.i c.cells-test.true)

@@ -1,0 +1,8 @@
+use Rattle.columns.specs.Steps.{IsScale, IsOver, factor_of}
+use Rattle.columns.proofs.wide.wide_into.Given as goal
+
+abbrev pub invariant-columns : goal.invariant-columns
+invariant-columns l = record {
+  over : IsOver l.parts.x.now l.old (factor_of l.parts) l.j l.scale.divisor l.new;
+  scale : IsScale l.parts.x.now l.scale.divisor l.scale.factor;
+}

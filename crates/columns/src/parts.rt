@@ -1,0 +1,50 @@
+//! What an exchange takes, and what its new cells are over.
+use crate::exchange::Exchange;
+use poly_num::Num;
+use words::{Word, WordDivisor};
+
+/// The common factor of the denominator and of the exchange's row and column, the sign of the pivot's cell, and with
+/// that sign over the factor the pivot's cell (`p`) and the denominator (`u`).
+#[derive(Clone, Copy)]
+pub struct Factors {
+    pub p: Num,
+    pub u: Num,
+    pub sign: Num,
+    pub common: Num,
+}
+
+/// What the new cells are made of, beside the cells of the table: the factors of the exchange, two of them as the type
+/// that the cells have; its column over the common factor with the sign; and whether the cells and that column are
+/// known to fit half a machine word.
+#[derive(Clone, Copy)]
+pub struct Parts<'a, T> {
+    pub x: &'a Exchange,
+    pub factors: &'a Factors,
+    pub own: &'a [T],
+    pub p: T,
+    pub u: T,
+    pub halves: bool,
+}
+
+/// What the new words are over: the divisor, which with the factor is the denominator; and whether the words that are
+/// written are known to fit half a machine word.
+#[derive(Drop)]
+pub struct Scale {
+    pub divisor: WordDivisor,
+    pub factor: Word,
+    pub halves: bool,
+}
+
+/// What the new wide numbers are over: the divisor, which with the factor is the denominator.
+#[derive(Clone, Copy)]
+pub struct WideScale {
+    pub divisor: Num,
+    pub factor: Num,
+}
+
+/// The new denominator, and whether all new words are known to fit half a machine word.
+#[derive(Clone, Copy)]
+pub struct Written {
+    pub denominator: Word,
+    pub halves: bool,
+}
