@@ -14,3 +14,4 @@ pub mod RangeLemmas
 pub mod FirstNumbers
 pub mod Beginnings
 pub mod BeginSpaces
+pub mod Counts

@@ -42,6 +42,13 @@ fn kept_labels(
     Ok(kept)
 }
 
+// Whether a label stays where no coordinate is free, but not where these are.
+fn leaves(sys: &System, free: &FreeColumns, none: &FreeColumns, label: Label) -> bool
+    ensures { result ≡ (stays_in sys.now.rows none.now label && not (stays_in sys.now.rows free.now label)) }
+{
+    stays(sys, none, label) && !stays(sys, free, label)
+}
+
 // Puts the labels that do not stay, but would if no coordinate were free, behind those that are kept.
 fn push_leaving(
     kept: &mut Vec<Label>,
@@ -54,7 +61,7 @@ fn push_leaving(
 {
     let none = FreeColumns::from_vec(Vec::new(*kept.allocator()));
     'labels: for label in labels {
-        if stays(sys, &none, *label) && !stays(sys, free, *label) {
+        if leaves(sys, free, &none, *label) {
             kept.push(*label)?;
         }
     }

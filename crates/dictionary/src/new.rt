@@ -22,6 +22,8 @@ impl Dict {
         requires { (phase ≡ Cone) ⊎ (phase ≡ Prepare) }
         ensures { IfOk result (λ d. IsCoordinateDictionary sys.now phase d) }
     {
+        // the limits of the system
+        sys.keeps_limits();
         let constants = has_constants(sys.kind(), phase);
         let count = row_count(sys, constants);
         let columns = coordinate_labels(alloc, constants, sys.n())?;
@@ -110,7 +112,9 @@ fn all_cells(
     width: usize,
 ) -> Result<Vec<Num>, OutOfMemory>
     requires rows { count ≤ length sys.now.rows }
+    requires few { count ≤ most_cone_rows }
     requires width { width ≡ first_width constants sys.now.n }
+    requires narrow { width ≤ most_columns + 1 }
     ensures { IfOk result (λ v. v.items ≡
         by_columns (first_number constants sys.now.rows) (range_with_len 1 count) (range_with_len 0 width)) }
 {

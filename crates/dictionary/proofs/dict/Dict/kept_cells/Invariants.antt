@@ -1,7 +1,6 @@
-use Rattle.std.proofs.Common.{◌≡◌, suc, length, take}
-use Rattle.dictionary.specs.MainPhase.{kept_cells}
+use Rattle.std.proofs.Common.{◌≡◌, take}
+use Rattle.dictionary.specs.Views.{number, by_columns}
 use Rattle.dictionary.proofs.dict.Dict.kept_cells.Given as goal
 
-abbrev pub invariant-rows : goal.invariant-rows
-invariant-rows l =
-    l.kept.items ≡ kept_cells (suc (length l.self.columns)) l.self.cells (take l.i-index l.rows) l.columns
+abbrev pub invariant-columns : goal.invariant-columns
+invariant-columns l = l.kept.items ≡ by_columns (number l.self) l.rows (take l.j-index l.columns)

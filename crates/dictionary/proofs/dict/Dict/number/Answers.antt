@@ -5,6 +5,7 @@ use Rattle.dictionary_laws.specs.Keys.{place_in}
 use Rattle.columns.specs.Cells.{place, cell_at}
 use Rattle.dictionary.specs.Views.{Dictionary, IsWhole, number}
 use Rattle.dictionary.proofs.Numbers.{own_number, other_number, row_number, cell_there}
+use Rattle.dictionary.proofs.PlaceLemmas.{place_within}
 use Rattle.dictionary.proofs.dict.Dict.number.Goals.{After-len-2}
 use Rattle.dictionary.proofs.dict.Dict.number.Goals as goal
 
@@ -29,8 +30,14 @@ row c =
     ∙ ap (λ ks. place_in ks c.args.label)
     (c.deref-2.ensures.value ∙ ap (λ (d : Dictionary). d.rows) c.self.view_is)
 
-pub at-requires : goal.at-requires
-at-requires c =
+pub at-requires-clause-row : goal.at-requires-clause-row
+at-requires-clause-row c =
+    rw (height c, row c)
+    (place_within c.args.self.now.rows c.args.label
+    ((whole c).row_there c.args.label c.requires.label (no_column c)))
+
+pub at-requires-clause-within : goal.at-requires-clause-within
+at-requires-clause-within c =
     rw (height c, row c, ap (λ (d : Dictionary). d.cells) c.self.view_is)
     (cell_there c.args.self.now (whole c) c.args.label c.args.column c.requires.label (no_column c) c.requires.column)
 
