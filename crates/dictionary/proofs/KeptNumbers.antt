@@ -1,10 +1,10 @@
 -- What stays of a dictionary has its old numbers, by labels, and is whole again.
 use Rattle.std.proofs.Common.{◌≡◌, ◌≢◌, ◌⊎◌, ℕ, zero, suc, ◌*◌, ◌<◌, Bool, true, false, List, ◌++◌, ◌∷◌, ℤ, pos, map, length, get_or, arith, refl, sym, ap, subst, ◌∙◌, inl, inr, ⊎_elim}
 use Rattle.std.specs.Prelude.{not, ◌&&◌}
-use Rattle.std.specs.List.{Contains, filter}
+use Rattle.std.specs.List.{All, Contains, filter}
 use Rattle.std.proofs.lemmas.Bool.{cases_eq}
 use Rattle.std.proofs.lemmas.List.{length-map, get_or-map}
-use Rattle.std.proofs.lemmas.List.Elements.{Contains-append_left, Contains-append_right}
+use Rattle.std.proofs.lemmas.List.Elements.{Contains-get_or, Contains-append_left, Contains-append_right}
 use Rattle.dictionary_laws.specs.Keys.{place_in, AreDistinct}
 use Rattle.dictionary_laws.proofs.Filters.{filter_only, filter_kept, distinct_filter, ascending_filter}
 use Rattle.dictionary_laws.proofs.Members.{contains_or}
@@ -24,6 +24,15 @@ both_true false b e = absurd cc
 
 left_only : (a b : Bool) → a ≡ true → b ≡ false → (a && not b) ≡ true
 left_only a b e f = rw (e, f) refl
+
+pub all_of : (P : ℕ → Type 0) (ks : List ℕ) → ((k : ℕ) → Contains ks k → P k) → All P ks
+all_of P ks h i z l = h (get_or ks i z) (Contains-get_or ks i z l)
+
+-- the labels that stay are of the key
+pub staying_in_key : (d : Dictionary) (stays : ℕ → Bool) → IsWhole d → All (λ k. Contains d.key k) (filter stays d.columns)
+staying_in_key d stays whole =
+    all_of (λ k. Contains d.key k) (filter stays d.columns)
+    (λ k c. whole.same.back k (filter_only stays d.columns k c).0)
 
 module _ (d : Dictionary) (left stays : ℕ → Bool) (whole : IsWhole d) where
   abbrev rows : List ℕ
@@ -53,6 +62,10 @@ module _ (d : Dictionary) (left stays : ℕ → Bool) (whole : IsWhole d) where
       ))
       (joined_cases (filter left d.rows) (filter leaves d.columns) i m)
 
+  pub rows_are_labels : All (λ l. Contains d.labels l) rows
+  rows_are_labels =
+      all_of (λ l. Contains d.labels l) rows (λ i m. (filter_only left d.labels i (row_back i m).0).0)
+
   row_there : (i : ℕ) → Contains (filter left d.labels) i → (Contains columns i → ⊥) → Contains rows i
   row_there i l n =
       let p = filter_only left d.labels i l in
@@ -66,10 +79,10 @@ module _ (d : Dictionary) (left stays : ℕ → Bool) (whole : IsWhole d) where
       (contains_or d.columns i)
     where
       not_staying : (k : ℕ) → Contains d.columns k → (Contains columns k → ⊥) → stays k ≡ false
-      not_staying k c no = by (stays k) refl
+      not_staying k c none = by (stays k) refl
         where
           by : (b : Bool) → stays k ≡ b → stays k ≡ false
-          by true e = absurd (no (filter_kept stays d.columns k c e))
+          by true e = absurd (none (filter_kept stays d.columns k c e))
           by false e = e
 
   distinct_rows : AreDistinct rows

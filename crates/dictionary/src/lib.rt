@@ -7,6 +7,7 @@ mod new;
 mod overflow;
 mod pivot;
 mod places;
+mod rooms;
 #[cfg(test)]
 mod tests;
 

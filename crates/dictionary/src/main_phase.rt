@@ -8,7 +8,7 @@ ghost use Rattle.dictionary.specs.MainPhase.{stays_in, kept_rows, kept_columns, 
 
 use crate::Dict;
 use crate::places::key_of;
-use columns::Cells;
+use crate::rooms::rooms_of;
 use poly_model::{FreeColumns, Label, OutOfMemory, Phase, System};
 use poly_num::{Num, primitive};
 use std::alloc::Global;
@@ -89,10 +89,22 @@ fn at_place(numbers: &[Num], place: usize) -> Num
 }
 
 impl Dict {
-    // The numbers of the constants and of these labels' columns.
+    // The labels that are left and not in the new cobasis: those outside the old one, and those that only leave it.
+    fn rows_left(&self, sys: &System, free: &FreeColumns) -> Result<Vec<Label>, OutOfMemory>
+        ensures { IfOk result (λ v. v.items ≡ kept_rows self.now (stays_in sys.now.rows []) (stays_in sys.now.rows free.now)) }
+    {
+        let alloc = *self.rows.allocator();
+        let none = FreeColumns::from_vec(Vec::new(alloc));
+        let mut rows = kept_labels(alloc, sys, &none, &self.rows)?;
+        push_leaving(&mut rows, sys, free, &self.columns)?;
+        Ok(rows)
+    }
+
+    // The columns of the constants and of these labels.
     fn columns_of(&self, labels: &[Label]) -> Result<Vec<usize>, OutOfMemory>
         requires { All (λ k. Contains self.now.key k) labels.now }
-        ensures { IfOk result (λ v. v.items ≡ kept_columns self.now.columns labels.now) }
+        ensures value { IfOk result (λ v. v.items ≡ kept_columns self.now.columns labels.now) }
+        ensures within { IfOk result (λ v. All (λ j. j < suc (length self.now.columns)) v.items) }
     {
         let mut columns = Vec::new(*self.columns.allocator());
         columns.push(0)?;
@@ -114,14 +126,15 @@ impl Dict {
         Ok(())
     }
 
-    // The numbers of these labels in these columns.
-    fn kept_cells(&self, rows: &[Label], columns: &[usize]) -> Result<Vec<Num>, OutOfMemory>
+    // The numbers of these labels, the constants and the entries at the labels of the cobasis that stay.
+    fn kept_cells(&self, rows: &[Label], staying: &[Label]) -> Result<Vec<Num>, OutOfMemory>
         requires rows { All (λ l. Contains self.now.labels l) rows.now }
-        requires columns { All (λ j. j < suc (length self.now.columns)) columns.now }
-        ensures { IfOk result (λ v. v.items ≡ by_columns (number self.now) rows.now columns.now) }
+        requires staying { All (λ k. Contains self.now.key k) staying.now }
+        ensures { IfOk result (λ v. v.items ≡ by_columns (number self.now) rows.now (kept_columns self.now.columns staying.now)) }
     {
+        let columns = self.columns_of(staying)?;
         let mut kept = Vec::new(*self.rows.allocator());
-        'columns: for j in columns {
+        'columns: for j in &columns {
             self.keep_column(&mut kept, rows, *j)?;
         }
         Ok(kept)
@@ -138,24 +151,24 @@ impl Dict {
         let none = FreeColumns::from_vec(Vec::new(alloc));
         // no label of a row is that of a coordinate
         sys.keeps_limits();
+        let rows = self.rows_left(sys, free)?;
+        let labels = kept_labels(alloc, sys, &none, &self.labels)?;
         let columns = kept_labels(alloc, sys, free, &self.columns)?;
-        let mut rows = kept_labels(alloc, sys, &none, &self.rows)?;
-        push_leaving(&mut rows, sys, free, &self.columns)?;
-        let numbers = self.columns_of(&columns)?;
-        let mut kept = self.kept_cells(&rows, &numbers)?;
-        let denominator = divide_out(&mut kept, self.denominator)?;
-        let cells = Cells::new(kept)?;
         let key_labels = kept_labels(alloc, sys, free, self.key.labels())?;
+        let key = key_of(&key_labels);
+        let mut kept = self.kept_cells(&rows, &columns)?;
+        let denominator = divide_out(&mut kept, self.denominator)?;
+        let rooms = rooms_of(kept, rows.len())?;
         Ok(Dict {
             phase: Phase::Main,
-            key: key_of(&key_labels),
-            labels: kept_labels(alloc, sys, &none, &self.labels)?,
-            denominator,
-            spare: cells.copy()?,
-            own: Cells::new(Vec::from_elem(alloc, Num::ZERO, rows.len())?)?,
+            key,
+            labels,
             columns,
             rows,
-            cells,
+            denominator,
+            cells: rooms.cells,
+            spare: rooms.spare,
+            own: rooms.own,
         })
     }
 }

@@ -10,7 +10,7 @@ ghost use Rattle.dictionary.specs.New.{first_label, has_constants, row_count, ro
 
 use crate::Dict;
 use crate::places::key_of;
-use columns::Cells;
+use crate::rooms::rooms_of;
 use poly_model::{Kind, Label, OutOfMemory, Phase, System};
 use poly_num::Num;
 use std::alloc::Global;
@@ -28,17 +28,20 @@ impl Dict {
         let count = row_count(sys, constants);
         let columns = coordinate_labels(alloc, constants, sys.n())?;
         let rows = row_labels(alloc, count)?;
-        let cells = Cells::new(all_cells(alloc, sys, constants, count, columns.len() + 1)?)?;
+        let labels = joined(&rows, &columns)?;
+        let key = key_of(&columns);
+        let cells = all_cells(alloc, sys, constants, count, columns.len() + 1)?;
+        let rooms = rooms_of(cells, rows.len())?;
         Ok(Dict {
             phase,
-            key: key_of(&columns),
-            labels: joined(&rows, &columns)?,
-            denominator: Num::ONE,
-            spare: cells.copy()?,
-            own: Cells::new(Vec::from_elem(alloc, Num::ZERO, rows.len())?)?,
+            key,
+            labels,
             columns,
             rows,
-            cells,
+            denominator: Num::ONE,
+            cells: rooms.cells,
+            spare: rooms.spare,
+            own: rooms.own,
         })
     }
 }

@@ -7,7 +7,7 @@ use Rattle.dictionary.specs.New.{first_label, first_width, first_number, row_cou
 use Rattle.dictionary.proofs.Beginnings.{width_of_columns}
 use Rattle.dictionary.proofs.BeginSpaces.{same_view, new_whole, new_is}
 use Rattle.dictionary.proofs.dict.Dict.new.Goals as goal
-use Rattle.dictionary.proofs.dict.Dict.new.Goals.{After-len, In_ok-new}
+use Rattle.dictionary.proofs.dict.Dict.new.Goals.{After-len, In_ok-rooms}
 
 -- the columns of the coordinates, with that of the constants
 width : (c : After-len) → c.len.result + 1 ≡ first_width c.has_constants-constants.result c.args.sys.now.n
@@ -23,18 +23,18 @@ pub all_cells-requires-clause-width : goal.all_cells-requires-clause-width
 all_cells-requires-clause-width c = width (goal.at.all_cells-requires-clause-width c).After-len
 
 -- the dictionary that is made of the fields
-abbrev fields : (c : In_ok-new) → Dictionary
+abbrev fields : (c : In_ok-rooms) → Dictionary
 fields c = record {
   phase = c.args.phase;
-  labels = c.in_ok-joined.field-0.items;
-  key = c.key_of.result;
+  labels = c.in_ok-labels.labels.items;
+  key = c.key_of-key.result;
   columns = c.in_ok-columns.columns.items;
   rows = c.in_ok-rows.rows.items;
   denominator = pos 1;
-  cells = c.in_ok-cells.cells;
+  cells = c.in_ok-rooms.rooms.cells;
 }
 
-made : (c : In_ok-new) → c.len.result + 1 ≡ first_width c.has_constants-constants.result c.args.sys.now.n →
+made : (c : In_ok-rooms) → c.len.result + 1 ≡ first_width c.has_constants-constants.result c.args.sys.now.n →
     IsWhole (fields c) × IsCoordinateDictionary c.args.sys.now c.args.phase (fields c)
 made c wide =
     let sys = c.args.sys.now in
@@ -47,14 +47,14 @@ made c wide =
     let columns = c.in_ok-columns.ensures.value
     ∙ ap (λ t. coordinate_key (first_label t) c.n.result) b
     ∙ ap (λ n. coordinate_key (first_label (has_constants phase sys.kind)) n) c.n.ensures.value in
-    let labels = c.in_ok-joined.ensures ∙ ap (λ ks. c.in_ok-rows.rows.items ++ ks) c.deref-2.ensures.value in
-    let key = c.key_of.ensures ∙ c.deref.ensures.value in
-    let cells = c.in_ok-cells.ensures ∙ c.in_ok-all_cells.ensures
+    let labels = c.in_ok-labels.ensures ∙ ap (λ ks. c.in_ok-rows.rows.items ++ ks) c.deref.ensures.value in
+    let key = c.key_of-key.ensures ∙ c.deref-2.ensures.value in
+    let cells = c.in_ok-rooms.ensures.cells ∙ c.in_ok-cells.ensures
     ∙ ap (λ w. by_columns (first_number c.has_constants-constants.result sys.rows) (range_with_len 1 m) (range_with_len 0 w)) wide
     ∙ ap (λ t. by_columns (first_number t sys.rows) (range_with_len 1 m) (range_with_len 0 (first_width t sys.n))) b in
     let same = same_view phase sys.rows (has_constants phase sys.kind) sys.n m limits.some limits.narrow few
-    c.in_ok-joined.field-0.items c.key_of.result c.in_ok-columns.columns.items c.in_ok-rows.rows.items
-    c.in_ok-cells.cells columns c.in_ok-rows.ensures labels key cells in (
+    c.in_ok-labels.labels.items c.key_of-key.result c.in_ok-columns.columns.items c.in_ok-rows.rows.items
+    c.in_ok-rooms.rooms.cells columns c.in_ok-rows.ensures labels key cells in (
       subst (λ (d : Dictionary). IsWhole d) same (new_whole sys phase c.requires m em few limits.some limits.narrow),
       subst (λ (d : Dictionary). IsCoordinateDictionary sys phase d) same
           (new_is sys phase c.requires m em few limits.some limits.narrow),
@@ -63,14 +63,14 @@ made c wide =
 pub invariant_of-result-2 : goal.invariant_of-result-2
 invariant_of-result-2 c =
     let wide = width (goal.at.invariant_of-result-2 c).After-len in
-    let all = (goal.at.invariant_of-result-2 c).In_ok-new in (
-      ap length c.in_ok-copy.ensures,
-      ap length c.in_ok-new.ensures ∙ sym c.in_ok-from_elem.field-0.ok.0 ∙ c.in_ok-from_elem.ensures.len ∙ c.len-2.ensures
-          ∙ c.in_ok-rows.rows.ok.0,
+    let all = (goal.at.invariant_of-result-2 c).In_ok-rooms in
+    let rooms = c.in_ok-rooms.ensures in (
+      rooms.spare ∙ ap length (sym rooms.cells),
+      rooms.own ∙ c.len-2.ensures ∙ c.in_ok-rows.rows.ok.0,
       (made all wide).0,
     )
 
 pub returns : goal.returns
 returns c =
-    let all = (goal.at.returns c).In_ok-new in
+    let all = (goal.at.returns c).In_ok-rooms in
     (made all (width (goal.at.returns c).After-len)).1
