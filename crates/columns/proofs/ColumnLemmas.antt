@@ -12,20 +12,11 @@ use Rattle.columns.specs.Cells.{cell_at}
 use Rattle.columns.specs.Steps.{IsNumerator, IsColumnWritten, DividesColumn, AreKept, IsLeftOfRow, IsLeftOfColumn, IsColumnDone, IsScaled, IsRescaled}
 use Rattle.columns.proofs.DivisorLemmas.{positive_gcd}
 
-pub kept_start : (n : ℕ) (old : List ℤ) → AreKept n old old
-kept_start n old = record { same_length = refl; kept = λ k l. refl }
-
 -- a number is written behind those that are kept
 pub kept_more : (n : ℕ) (old new : List ℤ) (k : ℕ) (q : ℤ) → n ≤ k → AreKept n old new → AreKept n old (set new k q)
 kept_more n old new k q le u = record {
   same_length = length-set new k q ∙ u.same_length;
   kept = λ a h. get_or-set_other new k a q (pos 0) (λ e. omega arith) ∙ u.kept a h;
-}
-
-pub kept_then : (n : ℕ) (old mid new : List ℤ) → AreKept n old mid → AreKept n mid new → AreKept n old new
-kept_then n old mid new u v = record {
-  same_length = v.same_length ∙ u.same_length;
-  kept = λ k l. v.kept k l ∙ u.kept k l;
 }
 
 -- what is true of the cells of a column down to row i is true of one more
@@ -57,15 +48,6 @@ one_numerator cells parts j i y z p q =
     (cases_eq j parts.x.now.column)
 
 module _ (cells : List ℤ) (parts : Parts ℤ) (j : ℕ) where
-  -- in a row of the exchange's own nothing is asked of the divisor
-  pub row_left_same : (i : ℕ) (h : ℤ) → i ≡ parts.x.now.row → pos 0 <ℤ h → IsLeftOfRow cells parts j i h h
-  row_left_same i h e lt = record {
-    positive = lt;
-    divides = dvd_refl (unsigned_abs h);
-    in_row = λ n. absurd (n e);
-    greatest = λ k d _. d;
-  }
-
   pub row_left : (i : ℕ) (h n c : ℤ) → pos 0 <ℤ h → IsNumerator cells parts j i n → IsGcdOf h n c →
       IsLeftOfRow cells parts j i h c
   row_left i h n c lt is d = record {
@@ -118,16 +100,6 @@ module _ (cells : List ℤ) (parts : Parts ℤ) (j : ℕ) where
       left = left;
       written = w;
       rescaled = λ k l. ap (λ (z : ℤ). z *ℤ h) (kept.kept k l) ∙ r.scaled k l;
-    }
-
-    -- after a try that wrote in the column alone
-    pub done_after : (old mid new : List ℤ) (h : ℤ) → AreKept (j * parts.x.now.height) old mid →
-        IsColumnDone cells parts j g h mid new → IsColumnDone cells parts j g h old new
-    done_after old mid new h kept u = record {
-      same_length = u.same_length ∙ kept.same_length;
-      left = u.left;
-      written = u.written;
-      rescaled = λ k l. u.rescaled k l ∙ ap (λ (z : ℤ). z *ℤ g) (kept.kept k l);
     }
 
 -- in the exchange's row, where the exchange's column has p + u
