@@ -2,115 +2,173 @@
 //! out, and how often it failed.
 use super::*;
 use poly_num::Num;
+use std::alloc::{AllocError, Global};
 use std::io::{self, ErrorKind, Read, Write};
 use std::test::Fail;
 
-/// What a run is to read, the calls of its source, the limit, and what it is to answer: the bytes,
-/// or the reason and how many bytes are left.
+/// A text, the calls of its source and the limit of the reading, and how that is to end: with a reason or none, how
+/// many bytes are left, and how often a read has failed.
 #[derive(Clone, Copy)]
-struct ReadRow {
+struct ReadCase {
+    name: &'static str,
     text: &'static [u8],
     table: &'static [Call],
     limit: usize,
-    want: Result<(), WholeStop>,
+    stop: Option<WholeStop>,
     left: usize,
     faults: u64,
 }
 
+const WHOLE: ReadCase = ReadCase {
+    name: "nothing",
+    text: b"",
+    table: &[],
+    limit: 0,
+    stop: None,
+    left: 0,
+    faults: 0,
+};
+
+const READS: [ReadCase; 5] = [
+    WHOLE,
+    ReadCase {
+        name: "as much as the limit says",
+        text: b"abc",
+        limit: 3,
+        ..WHOLE
+    },
+    ReadCase {
+        name: "in pieces",
+        text: b"abc",
+        table: &[Call::AtMost(2), Call::AtMost(0)],
+        limit: 3,
+        ..WHOLE
+    },
+    ReadCase {
+        name: "past the limit",
+        text: b"abcde",
+        limit: 3,
+        stop: Some(WholeStop::TooLong),
+        left: 1,
+        ..WHOLE
+    },
+    ReadCase {
+        name: "a read that fails",
+        text: b"abcde",
+        table: &[Call::AtMost(2), Call::Fail],
+        limit: 9,
+        stop: Some(WholeStop::Fault),
+        left: 3,
+        faults: 1,
+    },
+];
+
+/// Bytes that were read, by each of their methods.
+#[derive(PartialEq, Eq, Debug, Drop)]
+struct Text {
+    len: usize,
+    is_empty: bool,
+    shown: Vec<u8>,
+    given: Vec<u8>,
+}
+
+fn text_of(alloc: Global, bytes: Bytes) -> Result<Text, AllocError> {
+    Ok(Text {
+        len: bytes.len(),
+        is_empty: bytes.is_empty(),
+        shown: Vec::from_slice(alloc, bytes.as_slice())?,
+        given: bytes.into_vec(),
+    })
+}
+
+/// What is to be found of a case: the text, or the reason for none.
+fn wanted(alloc: Global, case: ReadCase) -> Result<Result<Text, WholeStop>, AllocError> {
+    match case.stop {
+        Some(stop) => Ok(Err(stop)),
+        None => Ok(Ok(Text {
+            len: case.text.len(),
+            is_empty: case.text.is_empty(),
+            shown: Vec::from_slice(alloc, case.text)?,
+            given: Vec::from_slice(alloc, case.text)?,
+        })),
+    }
+}
+
 #[test]
 fn reads_to_the_end_or_past_the_limit(rt: HostRuntime) -> Result<(), Fail> {
-    let rows = [
-        ReadRow {
-            text: b"",
-            table: &[],
-            limit: 0,
-            want: Ok(()),
-            left: 0,
-            faults: 0,
-        },
-        ReadRow {
-            text: b"abc",
-            table: &[],
-            limit: 3,
-            want: Ok(()),
-            left: 0,
-            faults: 0,
-        },
-        ReadRow {
-            text: b"abc",
-            table: &[Call::AtMost(2), Call::AtMost(0)],
-            limit: 3,
-            want: Ok(()),
-            left: 0,
-            faults: 0,
-        },
-        ReadRow {
-            text: b"abcde",
-            table: &[],
-            limit: 3,
-            want: Err(WholeStop::TooLong),
-            left: 1,
-            faults: 0,
-        },
-        ReadRow {
-            text: b"abcde",
-            table: &[Call::AtMost(2), Call::Fail],
-            limit: 9,
-            want: Err(WholeStop::Fault),
-            left: 3,
-            faults: 1,
-        },
-    ];
-    for row in rows {
-        let mut source = MemSource::new(row.text, row.table);
-        match read_whole(rt.alloc(), &mut source, row.limit) {
-            Ok(bytes) => {
-                assert_eq!(rt; bytes.len(), row.text.len());
-                assert_eq!(rt; bytes.is_empty(), row.text.is_empty());
-                assert_eq!(rt; bytes.as_slice(), row.text);
-                assert_eq!(rt; bytes.into_vec().as_slice(), row.text);
-                assert!(rt; row.want.is_ok());
-            }
-            Err(stop) => assert_eq!(rt; Err(stop), row.want),
-        }
-        assert_eq!(rt; source.left().len(), row.left);
-        assert_eq!(rt; source.faults(), row.faults);
+    let alloc = rt.alloc();
+    for case in READS {
+        let mut source = MemSource::new(case.text, case.table);
+        let read = match read_whole(alloc, &mut source, case.limit) {
+            Ok(bytes) => Ok(text_of(alloc, bytes)?),
+            Err(stop) => Err(stop),
+        };
+        let found = (read, source.left().len(), source.faults());
+        let want = (wanted(alloc, case)?, case.left, case.faults);
+        assert_eq!(rt; found, want, "{}", case.name);
     }
     Ok(())
 }
 
+/// The calls of a sink, and what of a line goes out, with how often a write has failed.
+#[derive(Clone, Copy)]
+struct WriteCase {
+    name: &'static str,
+    table: &'static [Call],
+    end: Result<(), WriteFault>,
+    written: &'static [u8],
+    faults: u64,
+}
+
+const LINE: WriteCase = WriteCase {
+    name: "at once",
+    table: &[],
+    end: Ok(()),
+    written: b"-1207 18446744073709551615",
+    faults: 0,
+};
+
+const WRITES: [WriteCase; 4] = [
+    LINE,
+    WriteCase {
+        name: "in pieces",
+        table: &[Call::AtMost(1), Call::AtMost(0)],
+        ..LINE
+    },
+    WriteCase {
+        name: "the second write fails",
+        table: &[Call::AtMost(2), Call::Fail],
+        end: Err(WriteFault),
+        written: b"-1",
+        faults: 1,
+    },
+    WriteCase {
+        name: "the fourth write fails",
+        table: &[
+            Call::AtMost(9),
+            Call::AtMost(9),
+            Call::AtMost(3),
+            Call::Fail,
+        ],
+        end: Err(WriteFault),
+        written: b"-1207 184",
+        faults: 1,
+    },
+];
+
 #[test]
 fn writes_prefixes_on_faults(rt: HostRuntime) -> Result<(), Fail> {
-    let number = Num::new(-1207);
-    let Some(number) = number else {
-        return Ok(());
-    };
-    let rows: [(&[Call], Result<(), WriteFault>, &[u8], u64); 4] = [
-        (&[], Ok(()), b"-1207 18446744073709551615", 0),
-        (
-            &[Call::AtMost(1), Call::AtMost(0)],
-            Ok(()),
-            b"-1207 18446744073709551615",
-            0,
-        ),
-        (&[Call::AtMost(2), Call::Fail], Err(WriteFault), b"-1", 1),
-        (
-            &[
-                Call::AtMost(9),
-                Call::AtMost(9),
-                Call::AtMost(3),
-                Call::Fail,
-            ],
-            Err(WriteFault),
-            b"-1207 184",
-            1,
-        ),
-    ];
-    for (table, want, text, faults) in rows {
-        let mut out = MemSink::new(rt.alloc(), table);
-        assert_eq!(rt; line(number, &mut out), want);
-        assert_eq!(rt; out.written(), text);
-        assert_eq!(rt; out.faults(), faults);
+    let number = Num::new(-1207).ok_or("a number of 127 bits")?;
+    for case in WRITES {
+        let mut out = MemSink::new(rt.alloc(), case.table);
+        let end = line(number, &mut out);
+        let found = (end, out.written(), out.faults());
+        assert_eq!(rt;
+            found,
+            (case.end, case.written, case.faults),
+            "{}",
+            case.name
+        );
     }
     Ok(())
 }
@@ -119,23 +177,6 @@ fn line<S: Sink>(number: Num, out: &mut S) -> Result<(), WriteFault> {
     write_num(number, out)?;
     write_all(out, b" ")?;
     write_count(u64::MAX, out)
-}
-
-#[test]
-fn goes_over_the_readers_and_writers_of_std(rt: HostRuntime) -> Result<(), Fail> {
-    let mut source = StdinSource::new(b"ab".as_slice());
-    let bytes = read_whole(rt.alloc(), &mut source, 2);
-    let Ok(bytes) = bytes else {
-        assert!(rt; false);
-        return Ok(());
-    };
-    assert_eq!(rt; bytes.as_slice(), b"ab".as_slice());
-    let mut room = [0u8; 3];
-    let mut out = StdoutSink::new(room.as_mut_slice());
-    assert_eq!(rt; write_all(&mut out, b"abcd"), Err(WriteFault));
-    drop(out);
-    assert_eq!(rt; room.as_slice(), b"abc".as_slice());
-    Ok(())
 }
 
 /// A reader and a writer that fail at every call.
@@ -159,11 +200,26 @@ impl Write for Broken {
 }
 
 #[test]
-fn takes_errors_of_std_for_faults(rt: HostRuntime) -> Result<(), Fail> {
-    let mut source = StdinSource::new(b"ab".as_slice().chain(Broken));
-    let stop = read_whole(rt.alloc(), &mut source, 9).err();
-    assert_eq!(rt; stop, Some(WholeStop::Fault));
-    let mut out = StdoutSink::new(Broken);
-    assert_eq!(rt; write_all(&mut out, b"a"), Err(WriteFault));
+fn goes_over_the_readers_and_writers_of_std(rt: HostRuntime) -> Result<(), Fail> {
+    let alloc = rt.alloc();
+    let mut source = StdinSource::new(b"ab".as_slice());
+    let read = match read_whole(alloc, &mut source, 2) {
+        Ok(bytes) => Ok(bytes.into_vec()),
+        Err(stop) => Err(stop),
+    };
+    let mut broken = StdinSource::new(b"ab".as_slice().chain(Broken));
+    let stopped = read_whole(alloc, &mut broken, 9).err();
+    let mut room = [0u8; 3];
+    let mut out = StdoutSink::new(room.as_mut_slice());
+    let full = write_all(&mut out, b"abcd");
+    drop(out);
+    let mut broken = StdoutSink::new(Broken);
+    let failed = write_all(&mut broken, b"a");
+    let text = Vec::from_slice(alloc, b"ab")?;
+    let fault = Err(WriteFault);
+    assert_eq!(rt;
+        (read, stopped, full, room, failed),
+        (Ok(text), Some(WholeStop::Fault), fault, *b"abc", fault)
+    );
     Ok(())
 }

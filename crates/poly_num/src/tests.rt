@@ -7,7 +7,30 @@ use crate::{
     known_cross, known_product, lex_sign, mul, neg, negate, primitive, quotient, sign, sub,
     word_cross, word_product,
 };
-use std::cmp::Ordering::{Equal, Greater, Less};
+use std::cmp::Ordering::{self, Equal, Greater, Less};
+
+/// What a function gives.
+#[derive(Clone, Copy, PartialEq, Eq, Debug)]
+enum Value {
+    Nothing,
+    Number(i128),
+    Order(Ordering),
+    Truth(bool),
+}
+
+use Value::{Nothing, Number, Order, Truth};
+
+/// A value that was found, and the one that Python computed.
+#[derive(Clone, Copy)]
+struct Case {
+    name: &'static str,
+    found: Value,
+    want: Value,
+}
+
+fn case_of(name: &'static str, found: Value, want: Value) -> Case {
+    Case { name, found, want }
+}
 
 fn num(value: i128) -> Num
     ensures { IsNum value → result ≡ value }
@@ -15,96 +38,240 @@ fn num(value: i128) -> Num
     Num::new(value).unwrap_or(Num::ZERO)
 }
 
-fn value_of(a: Option<Num>) -> Option<i128> {
-    Some(a?.get())
+fn number_of(a: Num) -> Value {
+    Number(a.get())
 }
 
-#[test]
-fn products_at_the_bounds(rt: HostRuntime) {
-    let most = i128::MAX;
-    let table = [
-        (1 << 64, 1 << 62, Some(1 << 126)),
-        (1 << 64, -(1 << 63), None),
-        (most, -1, Some(-most)),
-        (most, 2, None),
-    ];
-    for (a, b, want) in table {
-        assert_eq!(rt; value_of(mul(num(a), num(b))), want, "{a} * {b}");
-    }
-    let low = i64::MIN as i128;
-    let high = i64::MAX as i128;
-    let table = [
-        (
-            low,
-            low,
-            high,
-            low,
-            Some(170141183460469231722463931679029329920),
-        ),
-        (
-            high,
-            low,
-            low,
-            low,
-            Some(-170141183460469231722463931679029329920),
-        ),
-        (low - 1, low, high, high, Some(27670116110564327423)),
-        (low, high + 1, low, low, None),
-    ];
-    for (a, b, c, d, want) in table {
-        let found = value_of(cross(num(a), num(b), num(c), num(d)));
-        assert_eq!(rt; found, want, "{a} * {b} - {c} * {d}");
+fn number_if_any(a: Option<Num>) -> Value {
+    match a {
+        Some(a) => number_of(a),
+        None => Nothing,
     }
 }
 
-#[test]
-fn exact_quotients(rt: HostRuntime) {
-    let d = Divisor::new(num(12));
-    assert_eq!(rt; d.value(), num(12));
+fn order_if_any(a: Option<Ordering>) -> Value {
+    match a {
+        Some(a) => Order(a),
+        None => Nothing,
+    }
+}
+
+fn numerator(a: Option<Frac>) -> Option<Num> {
+    Some(a?.num())
+}
+
+fn denominator(a: Option<Frac>) -> Option<Num> {
+    Some(a?.den())
+}
+
+const MOST: i128 = i128::MAX;
+
+fn products() -> [Case; 4] {
+    let (a, b) = (num(1 << 64), num(MOST));
+    [
+        case_of(
+            "2^64 * 2^62",
+            number_if_any(mul(a, num(1 << 62))),
+            Number(1 << 126),
+        ),
+        case_of(
+            "2^64 * -2^63",
+            number_if_any(mul(a, num(-(1 << 63)))),
+            Nothing,
+        ),
+        case_of("most * -1", number_if_any(mul(b, num(-1))), Number(-MOST)),
+        case_of("most * 2", number_if_any(mul(b, num(2))), Nothing),
+    ]
+}
+
+fn differences() -> [Case; 4] {
+    let wide = 170141183460469231722463931679029329920;
+    let low = num(i64::MIN as i128);
+    let high = num(i64::MAX as i128);
+    let below = num(i64::MIN as i128 - 1);
+    let above = num(i64::MAX as i128 + 1);
+    [
+        case_of(
+            "low^2 - high low",
+            number_if_any(cross(low, low, high, low)),
+            Number(wide),
+        ),
+        case_of(
+            "high low - low^2",
+            number_if_any(cross(high, low, low, low)),
+            Number(-wide),
+        ),
+        case_of(
+            "(low - 1) low - high^2",
+            number_if_any(cross(below, low, high, high)),
+            Number(27670116110564327423),
+        ),
+        case_of(
+            "low (high + 1) - low^2",
+            number_if_any(cross(low, above, low, low)),
+            Nothing,
+        ),
+    ]
+}
+
+fn quotients() -> [Case; 8] {
     let wide = 12 << 100;
-    let table = [
-        (-144, Some(-12)),
-        (0, Some(0)),
-        (18, None),
-        (wide, Some(1 << 100)),
-        (wide + 1, None),
-    ];
-    for (n, want) in table {
-        assert_eq!(rt; value_of(d.exact(num(n))), want, "{n} over 12");
-    }
-    let third = Divisor::new(num(3));
-    let found = third.exact_half(num(7), num(2), num(1), num(5));
-    assert_eq!(rt; value_of(found), Some(3));
-    assert!(rt; is_half(num(1 - (1 << 31))));
-    assert!(rt; !is_half(num(1 << 31)));
-    assert!(rt; is_word(num(1 - (1 << 63))));
-    assert!(rt; !is_word(num(1 << 63)));
-    assert!(rt; are_words(&[num(5), num(-5)]));
-    assert_eq!(rt; word_product(num(-3), num(4)), num(-12));
-    assert_eq!(rt; word_cross(num(2), num(3), num(4), num(5)), num(-14));
-    assert_eq!(rt; known_product(num(-3), num(4)), num(-12));
-    assert_eq!(rt; known_cross(num(2), num(3), num(4), num(5)), num(-14));
+    let twelve = Divisor::new(num(12));
+    let three = Divisor::new(num(3));
+    let half = three.exact_half(num(7), num(2), num(1), num(5));
+    [
+        case_of("the divisor", number_of(twelve.value()), Number(12)),
+        case_of(
+            "-144 / 12",
+            number_if_any(twelve.exact(num(-144))),
+            Number(-12),
+        ),
+        case_of("0 / 12", number_if_any(twelve.exact(num(0))), Number(0)),
+        case_of("18 / 12", number_if_any(twelve.exact(num(18))), Nothing),
+        case_of(
+            "12 * 2^100 / 12",
+            number_if_any(twelve.exact(num(wide))),
+            Number(1 << 100),
+        ),
+        case_of(
+            "(12 * 2^100 + 1) / 12",
+            number_if_any(twelve.exact(num(wide + 1))),
+            Nothing,
+        ),
+        case_of("(7 * 2 - 1 * 5) / 3", number_if_any(half), Number(3)),
+        case_of(
+            "-7 / 2, rounded",
+            number_of(quotient(num(-7), num(2))),
+            Number(-3),
+        ),
+    ]
+}
+
+fn words() -> [Case; 9] {
+    let (two, three, four, five) = (num(2), num(3), num(4), num(5));
+    let less = num(-3);
+    [
+        case_of("1 - 2^31", Truth(is_half(num(1 - (1 << 31)))), Truth(true)),
+        case_of("2^31", Truth(is_half(num(1 << 31))), Truth(false)),
+        case_of("1 - 2^63", Truth(is_word(num(1 - (1 << 63)))), Truth(true)),
+        case_of("2^63", Truth(is_word(num(1 << 63))), Truth(false)),
+        case_of("5 and -5", Truth(are_words(&[five, num(-5)])), Truth(true)),
+        case_of(
+            "words: -3 * 4",
+            number_of(word_product(less, four)),
+            Number(-12),
+        ),
+        case_of(
+            "words: 2 * 3 - 4 * 5",
+            number_of(word_cross(two, three, four, five)),
+            Number(-14),
+        ),
+        case_of(
+            "known: -3 * 4",
+            number_of(known_product(less, four)),
+            Number(-12),
+        ),
+        case_of(
+            "known: 2 * 3 - 4 * 5",
+            number_of(known_cross(two, three, four, five)),
+            Number(-14),
+        ),
+    ]
+}
+
+fn sums_and_divisors() -> [Case; 9] {
+    let fraction = Frac::new(num(84), num(-30));
+    let same = Frac::new(num(84), num(-30));
+    [
+        case_of(
+            "gcd of -84 and 30",
+            number_of(gcd(num(-84), num(30))),
+            Number(6),
+        ),
+        case_of(
+            "84 / -30, above",
+            number_if_any(numerator(fraction)),
+            Number(-14),
+        ),
+        case_of(
+            "84 / -30, below",
+            number_if_any(denominator(same)),
+            Number(5),
+        ),
+        case_of("most + 1", number_if_any(add(num(MOST), Num::ONE)), Nothing),
+        case_of("-3 - 4", number_if_any(sub(num(-3), num(4))), Number(-7)),
+        case_of(
+            "the size of -5",
+            Number(neg(num(5)).size() as i128),
+            Number(5),
+        ),
+        case_of("-5", number_of(neg(num(5))), Number(-5)),
+        case_of(
+            "a sign and 9",
+            number_of(Num::from_parts(true, 9)),
+            Number(-9),
+        ),
+        case_of("the sign of -2", Order(sign(num(-2))), Order(Less)),
+    ]
+}
+
+fn rows_and_orders() -> [Case; 7] {
+    let (a, b, c) = (num(MOST), num(MOST - 1), num(MOST - 2));
+    let mut row = [num(12), num(-18), num(0), num(30)];
+    primitive(&mut row);
+    negate(&mut row);
+    let first = lex_sign(&[num(0), num(3), num(-1)]);
+    let product = dot_sign(&[num(2), num(3), num(-2)], &[num(1), num(2), num(4)]);
+    [
+        case_of(
+            "most / (most - 1) before the next",
+            Order(cmp_cross(a, b, b, c)),
+            Order(Less),
+        ),
+        case_of(
+            "-(12 -18 0 30) / 6, its first",
+            number_of(row[0]),
+            Number(-2),
+        ),
+        case_of(
+            "-(12 -18 0 30) / 6, its second",
+            number_of(row[1]),
+            Number(3),
+        ),
+        case_of(
+            "-(12 -18 0 30) / 6, its third",
+            number_of(row[2]),
+            Number(0),
+        ),
+        case_of(
+            "-(12 -18 0 30) / 6, its fourth",
+            number_of(row[3]),
+            Number(-5),
+        ),
+        case_of("the sign of 0 3 -1", Order(first), Order(Greater)),
+        case_of("the sign of 2 + 6 - 8", order_if_any(product), Order(Equal)),
+    ]
 }
 
 #[test]
 fn known_values(rt: HostRuntime) {
-    let most = i128::MAX;
-    let order = cmp_cross(num(most), num(most - 1), num(most - 1), num(most - 2));
-    assert_eq!(rt; order, Less);
-    assert_eq!(rt; gcd(num(-84), num(30)).get(), 6);
-    assert_eq!(rt; quotient(num(-7), num(2)).get(), -3);
-    assert_eq!(rt; value_of(add(num(most), Num::ONE)), None);
-    assert_eq!(rt; value_of(sub(num(-3), num(4))), Some(-7));
-    assert_eq!(rt; neg(num(5)).size(), 5);
-    assert_eq!(rt; Num::from_parts(true, 9), num(-9));
-    assert_eq!(rt; sign(num(-2)), Less);
-    let fraction = Frac::new(num(84), num(-30)).map(|f| (f.num().get(), f.den().get()));
-    assert_eq!(rt; fraction, Some((-14, 5)));
-    let mut row = [num(12), num(-18), num(0), num(30)];
-    primitive(&mut row);
-    negate(&mut row);
-    assert_eq!(rt; row, [num(-2), num(3), num(0), num(-5)]);
-    assert_eq!(rt; lex_sign(&[num(0), num(3), num(-1)]), Greater);
-    let product = dot_sign(&[num(2), num(3), num(-2)], &[num(1), num(2), num(4)]);
-    assert_eq!(rt; product, Some(Equal));
+    let products = products();
+    let differences = differences();
+    let quotients = quotients();
+    let words = words();
+    let sums_and_divisors = sums_and_divisors();
+    let rows_and_orders = rows_and_orders();
+    let tables = [
+        products.as_slice(),
+        &differences,
+        &quotients,
+        &words,
+        &sums_and_divisors,
+        &rows_and_orders,
+    ];
+    for table in tables {
+        for case in table {
+            assert_eq!(rt; case.found, case.want, "{}", case.name);
+        }
+    }
 }

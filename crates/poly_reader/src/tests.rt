@@ -90,6 +90,7 @@ struct Accepted {
 
 #[test]
 fn gives_the_rows(rt: HostRuntime) -> Result<(), Fail> {
+    let alloc = rt.alloc();
     for row in [
         Accepted {
             text: "names\n linearity 1 2\nH-representation\nbegin\n2 2 rational\n +1/2 -01\n 0/3 4\nend\nmaximize\n",
@@ -128,23 +129,38 @@ fn gives_the_rows(rt: HostRuntime) -> Result<(), Fail> {
             linear: &[],
         },
     ] {
-        let poly = poly_of(rt.alloc(), row.text.as_bytes())?;
-        assert_eq!(rt; (poly.kind(), poly.n()), (row.kind, row.n), "{}", row.text);
-        assert_eq!(rt;
-            entries_of(rt.alloc(), &poly)?.as_slice(),
-            row.entries,
-            "{}",
-            row.text
-        );
-        assert_eq!(rt;
-            marks_of(rt.alloc(), &poly)?.as_slice(),
-            row.linear,
-            "{}",
-            row.text
-        );
-        assert_eq!(rt; poly.text(), row.text.as_bytes());
+        let poly = poly_of(alloc, row.text.as_bytes())?;
+        let found = contents_of(alloc, &poly)?;
+        let want = Contents {
+            kind: row.kind,
+            n: row.n,
+            entries: Vec::from_slice(alloc, row.entries)?,
+            linear: Vec::from_slice(alloc, row.linear)?,
+            text: Vec::from_slice(alloc, row.text.as_bytes())?,
+        };
+        assert_eq!(rt; found, want, "{}", row.text);
     }
     Ok(())
+}
+
+/// What a polyhedron gives: its rows one after the other, which are linear, and its text.
+#[derive(PartialEq, Eq, Debug, Drop)]
+struct Contents {
+    kind: Kind,
+    n: u32,
+    entries: Vec<i128>,
+    linear: Vec<bool>,
+    text: Vec<u8>,
+}
+
+fn contents_of(alloc: Global, poly: &Poly) -> Result<Contents, Fail> {
+    Ok(Contents {
+        kind: poly.kind(),
+        n: poly.n(),
+        entries: entries_of(alloc, poly)?,
+        linear: marks_of(alloc, poly)?,
+        text: Vec::from_slice(alloc, poly.text())?,
+    })
 }
 
 fn entries_of(alloc: Global, poly: &Poly) -> Result<Vec<i128>, AllocFailed<i128>> {
@@ -165,38 +181,65 @@ fn marks_of(alloc: Global, poly: &Poly) -> Result<Vec<bool>, AllocFailed<bool>> 
     Ok(marks)
 }
 
-#[test]
-fn reads_a_source_in_pieces(rt: HostRuntime) -> Result<(), Fail> {
-    let text = b"begin\n1 2 integer\n 3 6\nend\n";
-    let mut source = MemSource::new(text, &[Call::AtMost(3), Call::AtMost(1)]);
-    let poly = read_poly(rt.alloc(), &mut source)?;
-    assert_eq!(rt;
-        entries_of(rt.alloc(), &poly)?.as_slice(),
-        [1, 2].as_slice()
-    );
-    assert_eq!(rt; poly.text(), text.as_slice());
+/// How the reading of a source ends: with what, how much of it is left, and how often a read has failed.
+#[derive(PartialEq, Eq, Debug, Drop)]
+struct End {
+    read: Result<Contents, ReadStop>,
+    left: usize,
+    faults: u64,
+}
 
-    let mut source = MemSource::new(text, &[Call::AtMost(25), Call::Fail]);
-    assert_eq!(rt;
-        read_poly(rt.alloc(), &mut source).err(),
-        Some(ReadStop::Fault)
-    );
-    assert_eq!(rt; (source.left().len(), source.faults()), (2, 1));
-    Ok(())
+fn end_of(alloc: Global, text: &[u8], calls: &[Call]) -> Result<End, Fail> {
+    let mut source = MemSource::new(text, calls);
+    let read = match read_poly(alloc, &mut source) {
+        Ok(poly) => Ok(contents_of(alloc, &poly)?),
+        Err(stop) => Err(stop),
+    };
+    Ok(ends(read, source.left().len(), source.faults()))
+}
+
+fn ends(read: Result<Contents, ReadStop>, left: usize, faults: u64) -> End {
+    End { read, left, faults }
 }
 
 #[test]
-fn takes_one_byte_past_the_longest_file(rt: HostRuntime) -> Result<(), Fail> {
-    let text: Vec<u8> = Vec::from_elem(rt.alloc(), b'\n', MOST_FILE_BYTES + 3)?;
-    let mut source = MemSource::new(&text, &[]);
-    let want = BadFile {
+fn reads_sources(rt: HostRuntime) -> Result<(), Fail> {
+    let alloc = rt.alloc();
+    let row = b"begin\n1 2 integer\n 3 6\nend\n".as_slice();
+    let long: Vec<u8> = Vec::from_elem(alloc, b'\n', MOST_FILE_BYTES + 3)?;
+    let of_row = Contents {
+        kind: Kind::H,
+        n: 2,
+        entries: Vec::from_slice(alloc, &[1, 2])?,
+        linear: Vec::from_slice(alloc, &[false])?,
+        text: Vec::from_slice(alloc, row)?,
+    };
+    let too_long = BadFile {
         kind: TooLong,
         line: 0,
     };
-    assert_eq!(rt;
-        read_poly(rt.alloc(), &mut source).err(),
-        Some(ReadStop::Bad(want))
-    );
-    assert_eq!(rt; source.left().len(), 2);
+    let cases = [
+        (
+            "in pieces",
+            row,
+            [Call::AtMost(3), Call::AtMost(1)].as_slice(),
+            ends(Ok(of_row), 0, 0),
+        ),
+        (
+            "a read that fails",
+            row,
+            &[Call::AtMost(25), Call::Fail],
+            ends(Err(ReadStop::Fault), 2, 1),
+        ),
+        (
+            "one byte past the longest file",
+            &long,
+            &[],
+            ends(Err(ReadStop::Bad(too_long)), 2, 0),
+        ),
+    ];
+    for (name, text, calls, want) in cases {
+        assert_eq!(rt; end_of(alloc, text, calls)?, want, "{name}");
+    }
     Ok(())
 }
