@@ -31,6 +31,12 @@ typedef struct {
     Unsigned inverse;
 } Divisor;
 
+// What the exchange does in a column: it multiplies by p, takes b away, and divides.
+typedef struct {
+    Cell p, b;
+    Divisor g;
+} Step;
+
 static Divisor divisor_of(Cell value) {
     Divisor g = {value, 0, 1};
     Unsigned odd = (Unsigned)value;
@@ -47,31 +53,31 @@ static Divisor divisor_of(Cell value) {
 
 #if defined HALVES
 // `(a p - c b) / g`, where it divides and is a half.
-static inline bool exchanged(Cell a, Cell p, Cell c, Cell b, Divisor g, Cell *z) {
-    int64_t n = a * p - c * b;
-    int64_t q = (int64_t)((uint64_t)(n >> g.twos) * g.inverse);
+static inline bool exchanged(Cell a, Cell c, Step x, Cell *z) {
+    int64_t n = a * x.p - c * x.b;
+    int64_t q = (int64_t)((uint64_t)(n >> x.g.twos) * x.g.inverse);
     *z = q;
-    return (uint64_t)q * (uint64_t)g.value == (uint64_t)n && -((int64_t)1 << 31) < q && q < (int64_t)1 << 31;
+    return (uint64_t)q * (uint64_t)x.g.value == (uint64_t)n && -((int64_t)1 << 31) < q && q < (int64_t)1 << 31;
 }
 #elif defined WORDS
 // `(a p - c b) / g`, where it divides and is a word.
-static inline bool exchanged(Cell a, Cell p, Cell c, Cell b, Divisor g, Cell *z) {
-    Wide n = (Wide)a * p - (Wide)c * b;
-    int64_t q = (int64_t)((uint64_t)(n >> g.twos) * g.inverse);
+static inline bool exchanged(Cell a, Cell c, Step x, Cell *z) {
+    Wide n = (Wide)a * x.p - (Wide)c * x.b;
+    int64_t q = (int64_t)((uint64_t)(n >> x.g.twos) * x.g.inverse);
     *z = q;
-    return (Wide)q * g.value == n && q != INT64_MIN;
+    return (Wide)q * x.g.value == n && q != INT64_MIN;
 }
 #elif defined WIDE
 // `(a p - c b) / g`, where it divides and neither a product nor the difference passes.
-static inline bool exchanged(Cell a, Cell p, Cell c, Cell b, Divisor g, Cell *z) {
+static inline bool exchanged(Cell a, Cell c, Step x, Cell *z) {
     Wide ap, cb, n, product;
-    if (__builtin_mul_overflow(a, p, &ap) || __builtin_mul_overflow(c, b, &cb) ||
+    if (__builtin_mul_overflow(a, x.p, &ap) || __builtin_mul_overflow(c, x.b, &cb) ||
         __builtin_sub_overflow(ap, cb, &n)) {
         return false;
     }
-    Wide q = (Wide)((UnsignedWide)(n >> g.twos) * g.inverse);
+    Wide q = (Wide)((UnsignedWide)(n >> x.g.twos) * x.g.inverse);
     *z = q;
-    return !__builtin_mul_overflow(q, g.value, &product) && product == n;
+    return !__builtin_mul_overflow(q, x.g.value, &product) && product == n;
 }
 #else
 #error "HALVES, WORDS or WIDE"
@@ -79,12 +85,11 @@ static inline bool exchanged(Cell a, Cell p, Cell c, Cell b, Divisor g, Cell *z)
 
 // The new cells of a column from the top, as long as that goes; how many are written.
 static __attribute__((noinline)) size_t exchange_column(const Cell *restrict old, const Cell *restrict own,
-                                                        Cell *restrict new, size_t height, Cell p, Cell b,
-                                                        const Divisor *divisor) {
-    Divisor g = *divisor;
+                                                        Cell *restrict new, size_t height, const Step *step) {
+    Step x = *step;
     // old(i) becomes (old(i) p - own(i) b) / g
     for (size_t i = 0; i < height; i++) {
-        if (!exchanged(old[i], p, own[i], b, g, &new[i])) {
+        if (!exchanged(old[i], own[i], x, &new[i])) {
             return i;
         }
     }
@@ -98,8 +103,27 @@ typedef struct {
     Cell *cells, *spare, *own;
 } Table;
 
-// Exchanges a row and a column, both counted from 0. In its own row a number b becomes -b, and so it does in
-// the kernel where `own` has the pivot plus the denominator there.
+// The column of the exchange, and its own new one: there the denominator stands in the row of the exchange. In
+// that row a number b becomes -b in all other columns, and so it does in the kernel where `own` has the pivot
+// plus the denominator there.
+static void exchange_own_column(Table *t, size_t row, size_t column, Cell sign) {
+    const Cell *old = &t->cells[column * t->height];
+    Cell *new = &t->spare[column * t->height];
+    for (size_t i = 0; i < t->height; i++) {
+        t->own[i] = old[i];
+        new[i] = sign * old[i];
+    }
+    t->own[row] = old[row] + t->denominator;
+    new[row] = sign * t->denominator;
+}
+
+static void swap_spare(Table *t) {
+    Cell *old = t->cells;
+    t->cells = t->spare;
+    t->spare = old;
+}
+
+// Exchanges a row and a column, both counted from 0; false where that does not go.
 static bool exchange(Table *t, size_t row, size_t column) {
     size_t height = t->height;
     Cell pivot = t->cells[column * height + row];
@@ -107,24 +131,17 @@ static bool exchange(Table *t, size_t row, size_t column) {
         return false;
     }
     Cell sign = pivot < 0 ? -1 : 1;
-    for (size_t i = 0; i < height; i++) {
-        t->own[i] = t->cells[column * height + i];
-        t->spare[column * height + i] = sign * t->own[i];
-    }
-    t->own[row] = pivot + t->denominator;
-    t->spare[column * height + row] = sign * t->denominator;
-    Divisor g = divisor_of(t->denominator);
+    exchange_own_column(t, row, column, sign);
+    Step step = {sign * pivot, 0, divisor_of(t->denominator)};
     for (size_t j = 0; j < t->width; j++) {
         const Cell *old = &t->cells[j * height];
-        if (j != column && exchange_column(old, t->own, &t->spare[j * height], height, sign * pivot,
-                                           sign * old[row], &g) < height) {
+        step.b = sign * old[row];
+        if (j != column && exchange_column(old, t->own, &t->spare[j * height], height, &step) < height) {
             return false;
         }
     }
     t->denominator = sign * pivot;
-    Cell *old = t->cells;
-    t->cells = t->spare;
-    t->spare = old;
+    swap_spare(t);
     return true;
 }
 
@@ -133,12 +150,18 @@ static void fail(const char *why) {
     exit(1);
 }
 
-// The next number of the input.
-static Wide number(void) {
+// The first byte of the input that is not blank.
+static int next_byte(void) {
     int byte = getchar();
     while (byte == ' ' || byte == '\n') {
         byte = getchar();
     }
+    return byte;
+}
+
+// The next number of the input.
+static Wide number(void) {
+    int byte = next_byte();
     bool negative = byte == '-';
     if (negative) {
         byte = getchar();
@@ -204,44 +227,70 @@ static UnsignedWide checksum(const Table *t) {
     return sum;
 }
 
-static void print_size(UnsignedWide size) {
+static void print_digits(UnsignedWide size) {
     if (size >= 10) {
-        print_size(size / 10);
+        print_digits(size / 10);
     }
     putchar('0' + (int)(size % 10));
 }
 
-static long long processor_time(void) {
+static void print_number(Wide z) {
+    if (z < 0) {
+        putchar('-');
+    }
+    print_digits(z < 0 ? -(UnsignedWide)z : (UnsignedWide)z);
+}
+
+static int64_t processor_time(void) {
     struct timespec now;
     clock_gettime(CLOCK_THREAD_CPUTIME_ID, &now);
-    return now.tv_sec * 1000000000LL + now.tv_nsec;
+    return (int64_t)now.tv_sec * 1000000000 + now.tv_nsec;
+}
+
+typedef struct {
+    size_t row, column;
+} Spot;
+
+typedef struct {
+    size_t count;
+    Spot *items;
+} Spots;
+
+static Spots read_spots(void) {
+    Spots spots;
+    spots.count = (size_t)number();
+    spots.items = room(spots.count, sizeof(Spot));
+    for (size_t k = 0; k < spots.count; k++) {
+        spots.items[k].row = (size_t)number();
+        spots.items[k].column = (size_t)number();
+    }
+    return spots;
+}
+
+// Pivots at the spots in turn, to and fro, so many times.
+static void turns(Table *t, const Spots *spots, size_t times) {
+    for (size_t k = 0; k < times; k++) {
+        Spot spot = spots->items[k % spots->count];
+        if (!exchange(t, spot.row, spot.column) || !exchange(t, spot.row, spot.column)) {
+            fail("a pivot was refused");
+        }
+    }
 }
 
 int main(int count, char **words) {
     if (count != 2) {
         fail("usage: pivot_kernel PIVOTS < TABLE");
     }
-    long long turns = atoll(words[1]) / 2;
+    size_t times = (size_t)atoll(words[1]) / 2;
     number(); // the seed
     Table t = read_table();
-    size_t spots = (size_t)number();
-    size_t *rows = room(spots, sizeof(size_t)), *columns = room(spots, sizeof(size_t));
-    for (size_t k = 0; k < spots; k++) {
-        rows[k] = (size_t)number();
-        columns[k] = (size_t)number();
-    }
-    long long start = processor_time();
-    for (long long k = 0; k < turns; k++) {
-        size_t spot = (size_t)k % spots;
-        if (!exchange(&t, rows[spot], columns[spot]) || !exchange(&t, rows[spot], columns[spot])) {
-            fail("a pivot was refused");
-        }
-    }
-    long long end = processor_time();
-    Wide sum = (Wide)checksum(&t);
-    printf("%lld pivots, checksum %s", 2 * turns, sum < 0 ? "-" : "");
-    print_size(sum < 0 ? -(UnsignedWide)sum : (UnsignedWide)sum);
+    Spots spots = read_spots();
+    int64_t start = processor_time();
+    turns(&t, &spots, times);
+    int64_t end = processor_time();
+    printf("%zu pivots, checksum ", 2 * times);
+    print_number((Wide)checksum(&t));
     printf("\n");
-    fprintf(stderr, "%lld ns\n", end - start);
+    fprintf(stderr, "%lld ns\n", (long long)(end - start));
     return 0;
 }

@@ -92,11 +92,17 @@ fn entry(plan: &Plan, i: usize, bound: u64, random: &mut Random) -> Num
                 large(negative, plan.bits, random)
             }
         }
-        Entries::Smooth => Num::from_parts(negative, smooth(random) as u128),
+        Entries::Smooth => Num::from_parts(negative, SMOOTH[random.below(8) as usize] as u128),
     }
 }
 
-// A number of so many bits but those that a few pivots add, and no more than 96.
+// Products of 2 and 3, and 0.
+const SMOOTH: [u64; 8] = [0, 1, 2, 3, 4, 6, 12, 36];
+
+// How many bits the pivots of `prepared` add to a large number, about.
+const BITS_OF_PIVOTS: u32 = 12;
+
+// A number of so many bits, without those that pivots add, and of no more than 96.
 fn large(negative: bool, bits: u32, random: &mut Random) -> Num {
     let mut size: i128 = 0;
     'parts: for _ in 0..3 {
@@ -105,20 +111,4 @@ fn large(negative: bool, bits: u32, random: &mut Random) -> Num {
     let kept = bits.saturating_sub(BITS_OF_PIVOTS).min(96);
     let number = Num::new(size >> (96 - kept)).unwrap_or(Num::ZERO);
     if negative { neg(number) } else { number }
-}
-
-const BITS_OF_PIVOTS: u32 = 12;
-
-// A product of 2 and 3, or 0.
-fn smooth(random: &mut Random) -> u64 {
-    match random.below(8) {
-        0 => 0,
-        1 => 1,
-        2 => 2,
-        3 => 3,
-        4 => 4,
-        5 => 6,
-        6 => 12,
-        _ => 36,
-    }
 }

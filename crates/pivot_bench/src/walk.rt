@@ -6,11 +6,11 @@ use crate::prepare::exchange;
 use crate::random::Random;
 use crate::table::Table;
 use dictionary::Dict;
-use poly_model::{Label, Overflow};
+use poly_model::{Label, Overflow, Place};
 use std::io;
 
-/// Exchanges labels at random until the pivots of the plan are done, or so many tries are over, with a line
-/// for each exchange that was done or refused.
+/// Exchanges labels at random until the pivots of the plan are done, or so many tries are over, and prints a
+/// line for each exchange that was done or refused.
 pub fn walk(rt: &HostRuntime, dict: &mut Dict, plan: &Plan, random: &mut Random) -> io::Result<()> {
     let mut done = 0;
     for _ in 0..4096 {
@@ -40,18 +40,24 @@ fn tell_pivot(rt: &HostRuntime, table: &Table) -> io::Result<()> {
     println!(rt; "pivot to {bits} bits, checksum {checksum}")
 }
 
-// The numbers of the labels of the four places, and of those of the key.
+// The phase, and the numbers of the labels of the four places and of those of the key.
 fn tell_overflow(rt: &HostRuntime, overflow: &Overflow) -> io::Result<()> {
     let phase = overflow.phase;
     print!(rt; "overflow in {phase:?} at")?;
-    for place in &[overflow.a, overflow.b, overflow.c, overflow.d] {
-        let (row, column) = (place.row.number(), place.col.number());
-        print!(rt; " {row} {column}")?;
-    }
+    tell_place(rt, &overflow.a)?;
+    tell_place(rt, &overflow.b)?;
+    tell_place(rt, &overflow.c)?;
+    tell_place(rt, &overflow.d)?;
     print!(rt; " of")?;
     for label in overflow.key.labels() {
         let number = label.number();
         print!(rt; " {number}")?;
     }
     println!(rt; "")
+}
+
+fn tell_place(rt: &HostRuntime, place: &Place) -> io::Result<()> {
+    let row = place.row.number();
+    let column = place.col.number();
+    print!(rt; " {row} {column}")
 }
