@@ -1,7 +1,7 @@
 // The exchange of a row and a column in a plain table, for bench/pivot to time beside the dictionary: the same
 // kernel by columns, with no labels, no unit rows and nothing proved. It reads what `pivot_bench print` prints
-// and pivots at the spots in turn, to and fro, as often as its argument says. It prints the checksum that
-// `pivot_bench` has, and the processor time of the pivots on standard error.
+// and does as many pivots as its argument says, at the spots in turn, to and fro at each. It prints the checksum
+// that `pivot_bench` has, and the processor time of the pivots on standard error.
 //
 // Compiled with HALVES all numbers must have 31 bits, with WORDS 63, with WIDE 127. All numbers are read at run
 // time, so no product is known to the compiler. Where a division has a rest or a number does not fit, the
@@ -267,11 +267,11 @@ static Spots read_spots(void) {
     return spots;
 }
 
-// Pivots at the spots in turn, to and fro, so many times.
-static void turns(Table *t, const Spots *spots, size_t times) {
-    for (size_t k = 0; k < times; k++) {
-        Spot spot = spots->items[k % spots->count];
-        if (!exchange(t, spot.row, spot.column) || !exchange(t, spot.row, spot.column)) {
+// So many pivots, at the spots in turn, to and fro at each.
+static void turns(Table *t, const Spots *spots, size_t pivots) {
+    for (size_t k = 0; k < pivots; k++) {
+        Spot spot = spots->items[k / 2 % spots->count];
+        if (!exchange(t, spot.row, spot.column)) {
             fail("a pivot was refused");
         }
     }
@@ -281,14 +281,14 @@ int main(int count, char **words) {
     if (count != 2) {
         fail("usage: pivot_kernel PIVOTS < TABLE");
     }
-    size_t times = (size_t)atoll(words[1]) / 2;
+    size_t pivots = (size_t)atoll(words[1]);
     number(); // the seed
     Table t = read_table();
     Spots spots = read_spots();
     int64_t start = processor_time();
-    turns(&t, &spots, times);
+    turns(&t, &spots, pivots);
     int64_t end = processor_time();
-    printf("%zu pivots, checksum ", 2 * times);
+    printf("%zu pivots, checksum ", pivots);
     print_number((Wide)checksum(&t));
     printf("\n");
     fprintf(stderr, "%lld ns\n", (long long)(end - start));

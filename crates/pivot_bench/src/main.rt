@@ -61,9 +61,9 @@ fn time_dictionary(rt: &HostRuntime, plan: &Plan) -> io::Result<()> {
     let alloc = rt.alloc();
     let mut prepared = Prepared::of(alloc, plan, plan.seed)?;
     let start = rt.thread_cpu_time()?;
-    let done = turns(&mut prepared.dict, &prepared.spots, plan.pivots / 2);
+    let done = turns(&mut prepared.dict, &prepared.spots, plan.pivots);
     let end = rt.thread_cpu_time()?;
-    tell(rt, 2 * done, &Table::of(alloc, &prepared.dict, plan)?)?;
+    tell(rt, done, &Table::of(alloc, &prepared.dict, plan)?)?;
     tell_time(rt, start, end)
 }
 
@@ -71,9 +71,9 @@ fn time_dictionary(rt: &HostRuntime, plan: &Plan) -> io::Result<()> {
 fn time_checked(rt: &HostRuntime, plan: &Plan) -> io::Result<()> {
     let mut prepared = Prepared::of(rt.alloc(), plan, plan.seed)?;
     let start = rt.thread_cpu_time()?;
-    let done = turns(&mut prepared.table, &prepared.spots, plan.pivots / 2);
+    let done = turns(&mut prepared.table, &prepared.spots, plan.pivots);
     let end = rt.thread_cpu_time()?;
-    tell(rt, 2 * done, &prepared.table)?;
+    tell(rt, done, &prepared.table)?;
     tell_time(rt, start, end)
 }
 

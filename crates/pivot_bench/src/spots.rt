@@ -68,17 +68,22 @@ impl Pivots for Table {
     }
 }
 
-/// Pivots at the spots in turn, to and fro, so many times. The answer is how many times that was possible.
-pub fn turns<P: Pivots>(numbers: &mut P, spots: &[Spot], times: u64) -> u64
-    ensures { result ≤ times }
+/// So many pivots, at the spots in turn, to and fro at each. The answer is how many of them were possible.
+pub fn turns<P: Pivots>(numbers: &mut P, spots: &[Spot], pivots: u64) -> u64
+    ensures { result ≤ pivots }
 {
     let mut done = 0;
     if spots.is_empty() {
         return done;
     }
-    for k in 0..times {
-        let spot = &spots[(k % spots.len() as u64) as usize];
-        if numbers.go(spot) && numbers.come_back(spot) {
+    for k in 0..pivots {
+        let spot = &spots[(k / 2 % spots.len() as u64) as usize];
+        let possible = if k % 2 == 0 {
+            numbers.go(spot)
+        } else {
+            numbers.come_back(spot)
+        };
+        if possible {
             done += 1;
         }
     }
