@@ -11,7 +11,7 @@ use std::alloc::Global;
 
 /// A dictionary of rows at random, in which rows took the places of coordinates until its largest number
 /// has the bits of the plan, or none is left.
-pub fn prepared(alloc: Global, plan: &Plan, random: &mut Random) -> Result<Dict, OutOfMemory> {
+pub fn enlarged(alloc: Global, plan: &Plan, random: &mut Random) -> Result<Dict, OutOfMemory> {
     let mut dict = drawn(alloc, plan, random)?;
     'columns: for j in 0..plan.columns {
         if Table::of(alloc, &dict, plan)?.bits() >= plan.bits {
@@ -99,7 +99,7 @@ fn entry(plan: &Plan, i: usize, bound: u64, random: &mut Random) -> Num
 // Products of 2 and 3, and 0.
 const SMOOTH: [u64; 8] = [0, 1, 2, 3, 4, 6, 12, 36];
 
-// How many bits the pivots of `prepared` add to a large number, about.
+// How many bits the pivots of `enlarged` add to a large number, about.
 const BITS_OF_PIVOTS: u32 = 12;
 
 // A number of so many bits, without those that pivots add, and of no more than 96.

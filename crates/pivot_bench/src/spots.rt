@@ -2,7 +2,7 @@
 ghost use Rattle.std.specs.Prelude.{◌≤◌};
 
 use crate::plan::Plan;
-use crate::prepare::{exchange, prepared};
+use crate::prepare::{enlarged, exchange};
 use crate::random::Random;
 use crate::table::Table;
 use dictionary::Dict;
@@ -30,7 +30,7 @@ impl Prepared {
     /// Those of a plan at a seed.
     pub fn of(alloc: Global, plan: &Plan, seed: u64) -> Result<Prepared, OutOfMemory> {
         let mut random = Random { state: seed };
-        let dict = prepared(alloc, plan, &mut random)?;
+        let dict = enlarged(alloc, plan, &mut random)?;
         let table = Table::of(alloc, &dict, plan)?;
         let spots = if table.bits() == plan.bits {
             spots_of(alloc, &dict, &table, &mut random)?
