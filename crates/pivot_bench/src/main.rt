@@ -3,21 +3,22 @@
 
 mod plan;
 mod prepare;
+mod print;
 mod random;
 mod spots;
 mod table;
 mod walk;
 
 use plan::{Mode, Plan, plan_of};
-use poly_model::OutOfMemory;
-use prepare::prepared;
+use prepare::drawn;
+use print::print_first;
 use random::Random;
-use spots::{spots_of, turns};
-use std::alloc::Global;
+use spots::{Prepared, turns};
 use std::io;
 use std::process::ExitCode;
+use std::time::{CpuClock, Duration};
 use table::Table;
-use walk::walked;
+use walk::walk;
 
 fn main(rt: HostRuntime) -> ExitCode {
     match run(&rt) {
@@ -37,36 +38,54 @@ fn run(rt: &HostRuntime) -> io::Result<bool> {
         .map(|word| word.as_str())
         .collect::<Vec<&str>>(alloc)?;
     let Some(plan) = plan_of(&words) else {
-        eprintln!(rt; "usage: pivot_bench dictionary|checked|walk ROWS COLUMNS BITS PIVOTS SEED")?;
+        eprintln!(rt;
+            "usage: pivot_bench print|dictionary|checked|walk uniform|graded|smooth ROWS COLUMNS BITS PIVOTS SEED"
+        )?;
         return Ok(false);
     };
-    let (pivots, table) = carried_out(alloc, &plan)?;
-    let bits = table.bits();
-    let checksum = table.checksum();
-    println!(rt; "{pivots} pivots of {bits} bits, checksum {checksum}")?;
+    match plan.mode {
+        Mode::Print => print_first(rt, &plan)?,
+        Mode::Dictionary => time_dictionary(rt, &plan)?,
+        Mode::Checked => time_checked(rt, &plan)?,
+        Mode::Walk => {
+            let mut random = Random { state: plan.seed };
+            let mut dict = drawn(alloc, &plan, &mut random)?;
+            walk(rt, &mut dict, &plan, &mut random)?;
+        }
+    }
     Ok(true)
 }
 
-// How many pivots were done, and the table after them.
-fn carried_out(alloc: Global, plan: &Plan) -> Result<(u64, Table), OutOfMemory> {
-    let mut random = Random { state: plan.seed };
-    let mut dict = prepared(alloc, plan, &mut random)?;
-    match plan.mode {
-        Mode::Dictionary => {
-            let table = Table::of(alloc, &dict, plan)?;
-            let spots = spots_of(alloc, &dict, &table, &mut random)?;
-            let done = turns(&mut dict, &spots, plan.pivots / 2);
-            Ok((2 * done, Table::of(alloc, &dict, plan)?))
-        }
-        Mode::Checked => {
-            let mut table = Table::of(alloc, &dict, plan)?;
-            let spots = spots_of(alloc, &dict, &table, &mut random)?;
-            let done = turns(&mut table, &spots, plan.pivots / 2);
-            Ok((2 * done, table))
-        }
-        Mode::Walk => {
-            let done = walked(&mut dict, plan, &mut random);
-            Ok((done, Table::of(alloc, &dict, plan)?))
-        }
-    }
+// Pivots of a dictionary, to and fro.
+fn time_dictionary(rt: &HostRuntime, plan: &Plan) -> io::Result<()> {
+    let alloc = rt.alloc();
+    let mut prepared = Prepared::of(alloc, plan, plan.seed)?;
+    let start = rt.thread_cpu_time()?;
+    let done = turns(&mut prepared.dict, &prepared.spots, plan.pivots);
+    let end = rt.thread_cpu_time()?;
+    tell(rt, done, &Table::of(alloc, &prepared.dict, plan)?)?;
+    tell_time(rt, start, end)
+}
+
+// Pivots of a plain table, to and fro.
+fn time_checked(rt: &HostRuntime, plan: &Plan) -> io::Result<()> {
+    let mut prepared = Prepared::of(rt.alloc(), plan, plan.seed)?;
+    let start = rt.thread_cpu_time()?;
+    let done = turns(&mut prepared.table, &prepared.spots, plan.pivots);
+    let end = rt.thread_cpu_time()?;
+    tell(rt, done, &prepared.table)?;
+    tell_time(rt, start, end)
+}
+
+// How many pivots were done, and what the table is after them.
+fn tell(rt: &HostRuntime, pivots: u64, table: &Table) -> io::Result<()> {
+    let bits = table.bits();
+    let checksum = table.checksum();
+    println!(rt; "{pivots} pivots of {bits} bits, checksum {checksum}")
+}
+
+// The processor time of the pivots; not among the results, which are the same in each run.
+fn tell_time(rt: &HostRuntime, start: Duration, end: Duration) -> io::Result<()> {
+    let time = end.as_nanos().wrapping_sub(start.as_nanos());
+    eprintln!(rt; "{time} ns")
 }

@@ -4,19 +4,30 @@ ghost use Rattle.poly_model.specs.Limits.{most_columns, most_file_rows};
 
 use poly_model::{Label, MOST_COLUMNS, MOST_FILE_ROWS};
 
-/// Which pivots are done: those of a dictionary, or of a plain table with each number checked, there and
-/// back; or those of a dictionary that goes on at random, from the coordinates.
+/// What is done: a table is printed; or pivots are timed, those of a dictionary, or of a plain table with
+/// each number checked, to and fro; or a dictionary goes on at random from the coordinates.
 #[derive(Clone, Copy)]
 pub enum Mode {
+    Print,
     Dictionary,
     Checked,
     Walk,
+}
+
+/// How large the numbers of a system are: all below one bound; or those of every other row far larger than
+/// the rest; or all of them products of 2 and 3.
+#[derive(Clone, Copy)]
+pub enum Entries {
+    Uniform,
+    Graded,
+    Smooth,
 }
 
 /// The pivots that are asked for, and the table that they are done in.
 #[derive(Clone, Copy)]
 pub struct Plan {
     pub mode: Mode,
+    pub entries: Entries,
     pub rows: u32,
     pub columns: u32,
     pub bits: u32,
@@ -50,15 +61,11 @@ impl Plan {
 
 /// What these words ask for; they are those after the program's name.
 pub fn plan_of(words: &[&str]) -> Option<Plan> {
-    let [mode, rows, columns, bits, pivots, seed] = words else {
+    let [mode, entries, rows, columns, bits, pivots, seed] = words else {
         return None;
     };
-    let mode = match *mode {
-        "dictionary" => Mode::Dictionary,
-        "checked" => Mode::Checked,
-        "walk" => Mode::Walk,
-        _ => return None,
-    };
+    let mode = mode_of(*mode)?;
+    let entries = entries_of(*entries)?;
     let rows: u32 = rows.parse().ok()?;
     let columns: u32 = columns.parse().ok()?;
     if rows == 0 || rows > MOST_FILE_ROWS {
@@ -69,10 +76,30 @@ pub fn plan_of(words: &[&str]) -> Option<Plan> {
     }
     Some(Plan {
         mode,
+        entries,
         rows,
         columns,
         bits: bits.parse().ok()?,
         pivots: pivots.parse().ok()?,
         seed: seed.parse().ok()?,
     })
+}
+
+fn mode_of(word: &str) -> Option<Mode> {
+    match word {
+        "print" => Some(Mode::Print),
+        "dictionary" => Some(Mode::Dictionary),
+        "checked" => Some(Mode::Checked),
+        "walk" => Some(Mode::Walk),
+        _ => None,
+    }
+}
+
+fn entries_of(word: &str) -> Option<Entries> {
+    match word {
+        "uniform" => Some(Entries::Uniform),
+        "graded" => Some(Entries::Graded),
+        "smooth" => Some(Entries::Smooth),
+        _ => None,
+    }
 }

@@ -44,6 +44,21 @@ impl Table {
         &self.labels
     }
 
+    /// How many numbers a row has.
+    pub fn width(&self) -> usize {
+        self.width
+    }
+
+    /// The numbers, row by row.
+    pub fn cells(&self) -> &[i128] {
+        &self.cells
+    }
+
+    /// The denominator of the numbers.
+    pub fn denominator(&self) -> i128 {
+        self.denominator
+    }
+
     /// A table that is equal.
     pub fn copy(&self) -> Result<Table, OutOfMemory> {
         Ok(Table {
