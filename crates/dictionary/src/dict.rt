@@ -100,6 +100,7 @@ impl Dict {
         ensures own { row ≡ col → result ≡ self.now.denominator }
         ensures unit { Contains self.now.key row → row ≢ col → result ≡ pos 0 }
     {
+        let _ = &self.phase;
         self.number(row, self.column_of(col))
     }
 

@@ -231,6 +231,28 @@ fn refuses_what_passes(rt: HostRuntime) -> Result<(), Fail> {
     Ok(())
 }
 
+/// The cone of an H file of one row of two numbers: it, and the row at infinity.
+fn narrow(alloc: Global, first: Num, second: Num) -> Result<System, OutOfMemory> {
+    let cells = Vec::from_slice(alloc, &[first, second, Num::ONE, Num::ZERO])?;
+    let linear = Vec::from_slice(alloc, &[false, false])?;
+    let kinds = Vec::from_slice(alloc, &[RowKind::Ray, RowKind::Ray])?;
+    Ok(System::new(Kind::H, 2, cells, linear, kinds))
+}
+
+#[test]
+fn asks_for_no_square_of_the_denominator(rt: HostRuntime) -> Result<(), Fail> {
+    let sys = narrow(rt.alloc(), num(i128::MAX), Num::ONE)?;
+    let mut dict = Dict::new(rt.alloc(), &sys, Phase::Cone)?;
+    let first = pivot(&mut dict, row(1), x(0));
+    let over = dict.denominator().get();
+    let second = pivot(&mut dict, row(2), x(1));
+    assert_eq!(rt;
+        (first, over, second, dict.denominator().get(), entry(&dict, x(1), row(1)), entry(&dict, x(1), row(2))),
+        (Some(Ok(())), i128::MAX, Some(Ok(())), 1, Some(1), Some(-i128::MAX))
+    );
+    Ok(())
+}
+
 #[test]
 fn the_cone_has_no_constants(rt: HostRuntime) -> Result<(), Fail> {
     let alloc = rt.alloc();

@@ -27,7 +27,7 @@ use Rattle.dictionary_laws.proofs.Values.{own_row}
 use Rattle.dictionary_laws.proofs.MainRows.{count_of_rows, linear_in_file, equation_only, equation_has, row_in_cone}
 use Rattle.dictionary_laws.proofs.MainSpace.{equation_in, main_dictionary}
 use Rattle.dictionary.specs.Views.{Dictionary, IsDictionaryIn, table_of}
-use Rattle.dictionary.proofs.Beginnings.{ascending_joined}
+use Rattle.dictionary.proofs.Joined.{ascending_joined}
 use Rattle.linearity.specs.declared.eliminate.Pass.TheVariants.{Others}
 use Rattle.linearity.specs.Columns.{columns_in}
 use Rattle.linearity.specs.Elimination.{IsBehind, IsSettled, IsEliminated}
