@@ -20,12 +20,9 @@ corner = record {
   labels = 1 ∷ 2 ∷ 8193 ∷ 8194 ∷ [];
   key = 1 ∷ 8194 ∷ [];
   columns = 1 ∷ 8194 ∷ [];
+  rows = 2 ∷ 8193 ∷ [];
   denominator = pos 2;
-  cells =
-      pos 0 ∷ pos 2 ∷ pos 0
-      ∷ pos 0 ∷ pos 0 ∷ pos 2
-      ∷ negsuc 0 ∷ pos 1 ∷ pos 3
-      ∷ pos 0 ∷ pos 0 ∷ pos 2 ∷ [];
+  cells = pos 0 ∷ negsuc 0 ∷ pos 0 ∷ pos 1 ∷ pos 2 ∷ pos 3 ∷ [];
 }
 
 -- the point (-1/2, 0)
@@ -56,12 +53,9 @@ facets = record {
   labels = 1 ∷ 2 ∷ coordinates_from ∷ 8193 ∷ [];
   key = 1 ∷ 2 ∷ [];
   columns = 1 ∷ 2 ∷ [];
+  rows = coordinates_from ∷ 8193 ∷ [];
   denominator = pos 1;
-  cells =
-      pos 0 ∷ pos 1 ∷ pos 0
-      ∷ pos 0 ∷ pos 0 ∷ pos 1
-      ∷ pos 0 ∷ pos 1 ∷ pos 0
-      ∷ pos 0 ∷ pos 0 ∷ pos 1 ∷ [];
+  cells = pos 0 ∷ pos 0 ∷ pos 1 ∷ pos 0 ∷ pos 0 ∷ pos 1 ∷ [];
 }
 
 -- x >= 0, which the point touches
