@@ -21,119 +21,125 @@ struct Case {
     points: &'static [bool],
 }
 
+const CASES: [Case; 8] = [
+    Case {
+        name: "a square",
+        kind: Kind::H,
+        n: 3,
+        entries: &[0, 1, 0, 0, 0, 1, 1, -1, 0, 1, 0, -1],
+        linear: &[false, false, false, false],
+        added: &[1, 0, 0],
+        cone_linear: &[false, false, false, false, false],
+        points: &[false, false, false, false, false],
+    },
+    Case {
+        name: "a ray on the line x = 2",
+        kind: Kind::H,
+        n: 3,
+        entries: &[0, 0, 1, 2, -1, 0],
+        linear: &[false, true],
+        added: &[1, 0, 0],
+        cone_linear: &[false, true, false],
+        points: &[false, false, false],
+    },
+    Case {
+        name: "a point, a ray and a line",
+        kind: Kind::V,
+        n: 3,
+        entries: &[0, 1, 0, 2, 3, 1, 0, 0, 1],
+        linear: &[false, false, true],
+        added: &[],
+        cone_linear: &[false, false, true],
+        points: &[false, true, false],
+    },
+    Case {
+        name: "a ray and a line without a point",
+        kind: Kind::V,
+        n: 4,
+        entries: &[0, 1, 0, 0, 0, 0, 1, -1],
+        linear: &[false, true],
+        added: &[1, 0, 0, 0],
+        cone_linear: &[false, true, false],
+        points: &[false, false, true],
+    },
+    Case {
+        name: "the point of no coordinates, by no inequality",
+        kind: Kind::H,
+        n: 1,
+        entries: &[],
+        linear: &[],
+        added: &[1],
+        cone_linear: &[false],
+        points: &[false],
+    },
+    Case {
+        name: "nothing, by an inequality -1 >= 0",
+        kind: Kind::H,
+        n: 1,
+        entries: &[-1],
+        linear: &[false],
+        added: &[1],
+        cone_linear: &[false, false],
+        points: &[false, false],
+    },
+    Case {
+        name: "the point of no coordinates, as a point",
+        kind: Kind::V,
+        n: 1,
+        entries: &[1],
+        linear: &[false],
+        added: &[],
+        cone_linear: &[false],
+        points: &[true],
+    },
+    Case {
+        name: "the point of no coordinates, by a row that is zero",
+        kind: Kind::V,
+        n: 1,
+        entries: &[0],
+        linear: &[false],
+        added: &[1],
+        cone_linear: &[false, false],
+        points: &[false, true],
+    },
+];
+
+/// A cone: its rows one after the other, which are linear, and which are points.
+#[derive(PartialEq, Eq, Debug, Drop)]
+struct Cone {
+    kind: Kind,
+    n: u32,
+    entries: Vec<i128>,
+    linear: Vec<bool>,
+    points: Vec<bool>,
+}
+
 #[test]
 fn gives_the_rows_of_the_cone(rt: HostRuntime) -> Result<(), Fail> {
-    for case in [
-        Case {
-            name: "a square",
-            kind: Kind::H,
-            n: 3,
-            entries: &[0, 1, 0, 0, 0, 1, 1, -1, 0, 1, 0, -1],
-            linear: &[false, false, false, false],
-            added: &[1, 0, 0],
-            cone_linear: &[false, false, false, false, false],
-            points: &[false, false, false, false, false],
-        },
-        Case {
-            name: "a ray on the line x = 2",
-            kind: Kind::H,
-            n: 3,
-            entries: &[0, 0, 1, 2, -1, 0],
-            linear: &[false, true],
-            added: &[1, 0, 0],
-            cone_linear: &[false, true, false],
-            points: &[false, false, false],
-        },
-        Case {
-            name: "a point, a ray and a line",
-            kind: Kind::V,
-            n: 3,
-            entries: &[0, 1, 0, 2, 3, 1, 0, 0, 1],
-            linear: &[false, false, true],
-            added: &[],
-            cone_linear: &[false, false, true],
-            points: &[false, true, false],
-        },
-        Case {
-            name: "a ray and a line without a point",
-            kind: Kind::V,
-            n: 4,
-            entries: &[0, 1, 0, 0, 0, 0, 1, -1],
-            linear: &[false, true],
-            added: &[1, 0, 0, 0],
-            cone_linear: &[false, true, false],
-            points: &[false, false, true],
-        },
-        Case {
-            name: "the point of no coordinates, by no inequality",
-            kind: Kind::H,
-            n: 1,
-            entries: &[],
-            linear: &[],
-            added: &[1],
-            cone_linear: &[false],
-            points: &[false],
-        },
-        Case {
-            name: "nothing, by an inequality -1 >= 0",
-            kind: Kind::H,
-            n: 1,
-            entries: &[-1],
-            linear: &[false],
-            added: &[1],
-            cone_linear: &[false, false],
-            points: &[false, false],
-        },
-        Case {
-            name: "the point of no coordinates, as a point",
-            kind: Kind::V,
-            n: 1,
-            entries: &[1],
-            linear: &[false],
-            added: &[],
-            cone_linear: &[false],
-            points: &[true],
-        },
-        Case {
-            name: "the point of no coordinates, by a row that is zero",
-            kind: Kind::V,
-            n: 1,
-            entries: &[0],
-            linear: &[false],
-            added: &[1],
-            cone_linear: &[false, false],
-            points: &[false, true],
-        },
-    ] {
-        let alloc = rt.alloc();
+    let alloc = rt.alloc();
+    for case in CASES {
         let poly = poly_of(alloc, case.kind, case.n, case.entries, case.linear)?;
-        let cone = system_of(alloc, &poly)?;
-        assert_eq!(rt;
-            (cone.kind(), cone.n()),
-            (case.kind, case.n),
-            "{}",
-            case.name
-        );
-        assert_eq!(rt;
-            entries_of(alloc, &cone)?.as_slice(),
-            joined(alloc, case.entries, case.added)?.as_slice(),
-            "{}",
-            case.name
-        );
-        assert_eq!(rt;
-            marks_of(alloc, &cone)?.as_slice(),
-            case.cone_linear,
-            "{}",
-            case.name
-        );
-        assert_eq!(rt;
-            points_of(alloc, &cone)?.as_slice(),
-            case.points,
-            "{}",
-            case.name
-        );
+        let found = cone_of(alloc, &system_of(alloc, &poly)?)?;
+        let want = Cone {
+            kind: case.kind,
+            n: case.n,
+            entries: joined(alloc, case.entries, case.added)?,
+            linear: Vec::from_slice(alloc, case.cone_linear)?,
+            points: Vec::from_slice(alloc, case.points)?,
+        };
+        assert_eq!(rt; found, want, "{}", case.name);
     }
     Ok(())
+}
+
+fn cone_of(alloc: Global, system: &System) -> Result<Cone, Fail> {
+    Ok(Cone {
+        kind: system.kind(),
+        n: system.n(),
+        entries: entries_of(alloc, system)?,
+        linear: marks_of(alloc, system)?,
+        points: points_of(alloc, system)?,
+    })
 }
 
 pub(crate) fn poly_of(
