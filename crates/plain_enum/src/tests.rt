@@ -2,7 +2,7 @@
 use crate::{FeasibleStop, ListStop, PlainStop, feasible_plain, list_feasible, list_plain};
 use hull_lift::system_of;
 use poly_io::MemSink;
-use poly_model::{Kind, MOST_COLUMNS, MOST_FILE_ROWS, Phase, Poly};
+use poly_model::{Kind, MOST_COLUMNS, MOST_FILE_ROWS, Phase, Poly, System};
 use poly_num::Num;
 use std::alloc::Global;
 use std::test::Fail;
@@ -221,37 +221,37 @@ fn tells_whether_a_file_is_feasible(rt: HostRuntime) -> Result<(), Fail> {
     for case in CASES {
         let alloc = rt.alloc();
         let cone = system_of(alloc, &poly_of(alloc, case)?)?;
-        let told = match feasible_plain(alloc, &cone) {
-            Ok(feasible) => Some(feasible),
-            Err(FeasibleStop::Overflow(_)) => None,
-            Err(FeasibleStop::Memory) => return Err("memory")?,
-        };
-        assert_eq!(rt; told, case.feasible, "{}", case.name);
+        let found = (is_feasible(alloc, &cone)?, is_listed(alloc, &cone)?);
+        assert_eq!(rt; found, (case.feasible, case.feasible), "{}", case.name);
     }
     Ok(())
 }
 
-#[test]
-fn lists_what_is_feasible(rt: HostRuntime) -> Result<(), Fail> {
-    for case in CASES {
-        let alloc = rt.alloc();
-        let cone = system_of(alloc, &poly_of(alloc, case)?)?;
-        let mut out = MemSink::new(alloc, &[]);
-        let told = match list_feasible(alloc, &cone, &mut out) {
-            Ok(_) => Some(true),
-            Err(ListStop::Infeasible) => Some(false),
-            Err(ListStop::Overflow(_)) => None,
-            Err(_) => return Err("memory, or a fault")?,
-        };
-        assert_eq!(rt; told, case.feasible, "{}", case.name);
+// Whether a file is feasible, or none where a number passes.
+fn is_feasible(alloc: Global, cone: &System) -> Result<Option<bool>, Fail> {
+    match feasible_plain(alloc, cone) {
+        Ok(feasible) => Ok(Some(feasible)),
+        Err(FeasibleStop::Overflow(_)) => Ok(None),
+        Err(FeasibleStop::Memory) => Err("memory")?,
     }
-    Ok(())
+}
+
+// The same by the call that lists what is feasible.
+fn is_listed(alloc: Global, cone: &System) -> Result<Option<bool>, Fail> {
+    let mut out = MemSink::new(alloc, &[]);
+    match list_feasible(alloc, cone, &mut out) {
+        Ok(_) => Ok(Some(true)),
+        Err(ListStop::Infeasible) => Ok(Some(false)),
+        Err(ListStop::Overflow(_)) => Ok(None),
+        Err(_) => Err("memory, or a fault")?,
+    }
 }
 
 /// A file without linear rows, how many rows and lines its listing has if no number passes, and how many bytes are
 /// written by then.
 #[derive(Clone, Copy)]
 struct Listing {
+    name: &'static str,
     kind: Kind,
     n: u32,
     entries: &'static [i128],
@@ -260,8 +260,8 @@ struct Listing {
 }
 
 const LISTINGS: [Listing; 4] = [
-    // The square, and the plane without rows.
     Listing {
+        name: "a square",
         kind: Kind::H,
         n: 3,
         entries: &[0, 1, 0, 0, 0, 1, 1, -1, 0, 1, 0, -1],
@@ -269,22 +269,23 @@ const LISTINGS: [Listing; 4] = [
         bytes: 72,
     },
     Listing {
+        name: "the plane without rows",
         kind: Kind::H,
         n: 3,
         entries: &[],
         listed: Some((1, 2)),
         bytes: 81,
     },
-    // The origin is a vertex, and is written; a later list of rows passes.
     Listing {
+        name: "the origin is a vertex, and is written; a later list of rows passes",
         kind: Kind::H,
         n: 3,
         entries: &[0, 1, 0, 0, 0, 1, 1, -LARGE, -1, 1, -1, -LARGE - 1],
         listed: None,
         bytes: 47,
     },
-    // Of points nothing is asked before the first row is sought.
     Listing {
+        name: "of points nothing is asked before the first row is sought",
         kind: Kind::V,
         n: 3,
         entries: &[1, 0, 0, 1, LARGE, 1, 1, 1, LARGE],
@@ -295,7 +296,7 @@ const LISTINGS: [Listing; 4] = [
 
 #[test]
 fn counts_the_rows_and_lines_of_a_listing(rt: HostRuntime) -> Result<(), Fail> {
-    for (i, case) in LISTINGS.iter().enumerate() {
+    for case in LISTINGS {
         let alloc = rt.alloc();
         let poly = poly_with(alloc, case.kind, case.n, case.entries, &[])?;
         let mut out = MemSink::new(alloc, &[]);
@@ -303,7 +304,8 @@ fn counts_the_rows_and_lines_of_a_listing(rt: HostRuntime) -> Result<(), Fail> {
         assert_eq!(rt;
             (listed, out.written().len()),
             (case.listed, case.bytes),
-            "{i}"
+            "{}",
+            case.name
         );
     }
     Ok(())
