@@ -3,284 +3,426 @@ use crate::process::respond;
 use crate::status::{Status, status_line};
 use crate::top::lrs;
 use command_line::LineStop;
-use poly_io::{Call, MemSink, MemSource};
+use poly_io::{Call, MemSink, MemSource, WriteFault};
 use poly_model::{Key, Label, Overflow, Phase, Place};
 use poly_reader::{BadFile, BadKind};
 use std::alloc::{AllocError, Global};
 use std::test::Fail;
 
-const SQUARE: &str = "H-representation\nbegin\n4 3 integer\n0 1 0\n0 0 1\n1 -1 0\n1 0 -1\nend\n";
+/// A call, with the limits of its reads and writes, how it ends, and what it writes. The rows of a listing may stand in
+/// any order.
+#[derive(Clone, Copy)]
+struct Case {
+    name: &'static str,
+    words: &'static [&'static str],
+    file: &'static str,
+    reads: &'static [Call],
+    writes: &'static [Call],
+    end: End,
+    written: &'static str,
+}
 
-const SQUARE_LISTING: &str =
-    "V-representation\nbegin\n***** 3 rational\n 1 0 0\n 1 1 0\n 1 0 1\n 1 1 1\nend\n";
+/// How a call ends. Of an overflow no more is asked than its phase.
+#[derive(Clone, Copy, PartialEq, Eq, Debug)]
+enum End {
+    Done(u64, u32),
+    BadFile(BadKind, u64),
+    Overflow(Phase),
+    Other(u8),
+}
 
-const USAGE: &str =
+const USAGE: End = End::Other(2);
+
+const INFEASIBLE: End = End::Other(4);
+
+const USAGE_LINE: &str =
     "lrs: usage: lrs convert / run LEDGER / resume LEDGER / status LEDGER / job / demo KIND N\n";
 
-/// The lines of a text in a fixed order, since the rows of a listing stand in any.
-fn sorted_lines<'a>(alloc: Global, text: &'a [u8]) -> Result<Vec<&'a [u8]>, AllocError> {
-    let mut lines = text.split(|b| *b == b'\n').collect::<Vec<&[u8]>>(alloc)?;
-    lines.sort()?;
-    Ok(lines)
-}
+const SQUARE: Case = Case {
+    name: "a square",
+    words: &["convert"],
+    file: "H-representation\nbegin\n4 3 integer\n0 1 0\n0 0 1\n1 -1 0\n1 0 -1\nend\n",
+    reads: &[],
+    writes: &[],
+    end: End::Done(4, 0),
+    written: "V-representation\nbegin\n***** 3 rational\n 1 0 0\n 1 1 0\n 1 0 1\n 1 1 1\nend\n",
+};
 
-/// What the program answers to a file, which it reads whole and whose listing it can write.
-fn answer(alloc: Global, file: &str, out: &mut MemSink) -> Status {
-    let mut input = MemSource::new(file.as_bytes(), &[]);
-    lrs(alloc, ["convert"].as_slice(), &mut input, out)
-}
+const LISTED: [Case; 21] = [
+    SQUARE,
+    Case {
+        name: "a row twice, and a row of zeros",
+        file: "H-representation\nbegin\n6 3 integer\n0 1 0\n0 1 0\n0 0 1\n1 -1 0\n1 0 -1\n0 0 0\nend\n",
+        ..SQUARE
+    },
+    Case {
+        name: "a vertex and two rays",
+        file: "H-representation\nbegin\n2 3 integer\n0 1 0\n0 0 1\nend\n",
+        end: End::Done(3, 0),
+        written: "V-representation\nbegin\n***** 3 rational\n 1 0 0\n 0 1 0\n 0 0 1\nend\n",
+        ..SQUARE
+    },
+    Case {
+        name: "a half plane with its line",
+        file: "H-representation\nbegin\n1 3 integer\n0 1 0\nend\n",
+        end: End::Done(2, 1),
+        written: "V-representation\nlinearity 1 1\nbegin\n***** 3 rational\n 0 0 1\n 1 0 0\n 0 1 0\nend\n",
+        ..SQUARE
+    },
+    Case {
+        name: "the plane without rows",
+        file: "H-representation\nbegin\n0 3 integer\nend\n",
+        end: End::Done(1, 2),
+        written: "V-representation\nlinearity 2 1 2\nbegin\n***** 3 rational\n 0 1 0\n 0 0 1\n 1 0 0\nend\n",
+        ..SQUARE
+    },
+    Case {
+        name: "the point of the space without coordinates",
+        file: "H-representation\nbegin\n1 1 integer\n5\nend\n",
+        end: End::Done(1, 0),
+        written: "V-representation\nbegin\n***** 1 rational\n 1\nend\n",
+        ..SQUARE
+    },
+    Case {
+        name: "a triangle with a corner of thirds",
+        file: "H-representation\nbegin\n3 3 integer\n0 1 0\n0 0 1\n4 -2 -6\nend\n",
+        end: End::Done(3, 0),
+        written: "V-representation\nbegin\n***** 3 rational\n 1 0 0\n 1 2 0\n 1 0 2/3\nend\n",
+        ..SQUARE
+    },
+    Case {
+        name: "a segment that does not reach the origin",
+        file: "H-representation\nbegin\n3 2 integer\n-1 1\n0 1\n2 -1\nend\n",
+        end: End::Done(2, 0),
+        written: "V-representation\nbegin\n***** 2 rational\n 1 1\n 1 2\nend\n",
+        ..SQUARE
+    },
+    Case {
+        name: "no kind, a name, fractions",
+        file: "segment\nbegin 2 2 rational 1/2 -1 +0 01 end",
+        end: End::Done(2, 0),
+        written: "V-representation\nbegin\n***** 2 rational\n 1 0\n 1 1/2\nend\n",
+        ..SQUARE
+    },
+    Case {
+        name: "a pyramid over a square",
+        file: "H-representation\nbegin\n5 4 integer\n0 0 0 1\n1 -1 0 -1\n1 1 0 -1\n1 0 -1 -1\n1 0 1 -1\nend\n",
+        end: End::Done(5, 0),
+        written: "V-representation\nbegin\n***** 4 rational\n 1 1 1 0\n 1 1 -1 0\n 1 -1 1 0\n 1 -1 -1 0\n 1 0 0 1\nend\n",
+        ..SQUARE
+    },
+    Case {
+        name: "the segment of an equation in the quadrant",
+        file: "H-representation\nlinearity 1 1\nbegin\n3 3 integer\n-1 1 1\n0 1 0\n0 0 1\nend\n",
+        end: End::Done(2, 0),
+        written: "V-representation\nbegin\n***** 3 rational\n 1 1 0\n 1 0 1\nend\n",
+        ..SQUARE
+    },
+    Case {
+        name: "a point by as many equations",
+        file: "H-representation\nlinearity 2 1 2\nbegin\n2 3 integer\n-1 1 0\n-2 0 3\nend\n",
+        end: End::Done(1, 0),
+        written: "V-representation\nbegin\n***** 3 rational\n 1 1 2/3\nend\n",
+        ..SQUARE
+    },
+    Case {
+        name: "a line by one equation, which is not an axis",
+        file: "H-representation\nlinearity 1 1\nbegin\n1 3 integer\n1 1 -2\nend\n",
+        end: End::Done(1, 1),
+        written: "V-representation\nlinearity 1 1\nbegin\n***** 3 rational\n 0 2 1\n 1 -1 0\nend\n",
+        ..SQUARE
+    },
+    Case {
+        name: "the points of a square with an inner one: four facets, and not `1 0 0`",
+        file: "V-representation\nbegin\n5 3 rational\n1 0 0\n1 1 0\n1 0 1\n1 1 1\n1 1/2 1/2\nend\n",
+        written: "H-representation\nbegin\n***** 3 rational\n 0 1 0\n 0 0 1\n 1 -1 0\n 1 0 -1\nend\n",
+        ..SQUARE
+    },
+    Case {
+        name: "the quadrant by its vertex and two rays",
+        file: "V-representation\nbegin\n3 3 integer\n1 0 0\n0 1 0\n0 0 1\nend\n",
+        end: End::Done(2, 0),
+        written: "H-representation\nbegin\n***** 3 rational\n 0 1 0\n 0 0 1\nend\n",
+        ..SQUARE
+    },
+    Case {
+        name: "a segment in the plane",
+        file: "V-representation\nbegin\n2 3 integer\n1 0 0\n1 1 1\nend\n",
+        end: End::Done(2, 1),
+        written: "H-representation\nlinearity 1 1\nbegin\n***** 3 rational\n 0 -1 1\n 0 1 0\n 1 -1 0\nend\n",
+        ..SQUARE
+    },
+    Case {
+        name: "a half plane by a point, a ray and a line",
+        file: "V-representation\nlinearity 1 3\nbegin\n3 3 integer\n1 1 0\n0 1 0\n0 0 1\nend\n",
+        end: End::Done(1, 0),
+        written: "H-representation\nbegin\n***** 3 rational\n -1 1 0\nend\n",
+        ..SQUARE
+    },
+    Case {
+        name: "the point of the space without coordinates, as a point",
+        file: "V-representation\nbegin\n1 1 integer\n1\nend\n",
+        end: End::Done(0, 0),
+        written: "H-representation\nbegin\n***** 1 rational\nend\n",
+        ..SQUARE
+    },
+    Case {
+        name: "a ray without a point: the origin is added",
+        file: "V-representation\nbegin\n1 2 integer\n0 1\nend\n",
+        end: End::Done(1, 0),
+        written: "H-representation\nbegin\n***** 2 rational\n 0 1\nend\n",
+        ..SQUARE
+    },
+    Case {
+        name: "the square without the number of its rows",
+        file: "H-representation\nbegin\n***** 3 integer\n0 1 0\n0 0 1\n1 -1 0\n1 0 -1\nend\n",
+        ..SQUARE
+    },
+    Case {
+        name: "the square with its rows broken",
+        file: "H-representation\r\nbegin\r\n4 3\ninteger 0\n1 0 0\t0 1\n\n1 -1 0 1 0\n-1 end of it\nmaxoutput 3\n",
+        ..SQUARE
+    },
+];
 
-#[test]
-fn lists_files(rt: HostRuntime) -> Result<(), Fail> {
-    let alloc = rt.alloc();
-    // A file, its listing with the rows in some order, and how many rows and lines that has.
-    let files = [
-        (SQUARE, SQUARE_LISTING, 4, 0),
-        // A row twice, and a row of zeros.
-        (
-            "H-representation\nbegin\n6 3 integer\n0 1 0\n0 1 0\n0 0 1\n1 -1 0\n1 0 -1\n0 0 0\nend\n",
-            SQUARE_LISTING,
-            4,
-            0,
-        ),
-        // A vertex and two rays.
-        (
-            "H-representation\nbegin\n2 3 integer\n0 1 0\n0 0 1\nend\n",
-            "V-representation\nbegin\n***** 3 rational\n 1 0 0\n 0 1 0\n 0 0 1\nend\n",
-            3,
-            0,
-        ),
-        // The half plane with its line, and the plane without rows.
-        (
-            "H-representation\nbegin\n1 3 integer\n0 1 0\nend\n",
-            "V-representation\nlinearity 1 1\nbegin\n***** 3 rational\n 0 0 1\n 1 0 0\n 0 1 0\nend\n",
-            2,
-            1,
-        ),
-        (
-            "H-representation\nbegin\n0 3 integer\nend\n",
-            "V-representation\nlinearity 2 1 2\nbegin\n***** 3 rational\n 0 1 0\n 0 0 1\n 1 0 0\nend\n",
-            1,
-            2,
-        ),
-        // The point of the space without coordinates.
-        (
-            "H-representation\nbegin\n1 1 integer\n5\nend\n",
-            "V-representation\nbegin\n***** 1 rational\n 1\nend\n",
-            1,
-            0,
-        ),
-        (
-            "H-representation\nbegin\n3 3 integer\n0 1 0\n0 0 1\n4 -2 -6\nend\n",
-            "V-representation\nbegin\n***** 3 rational\n 1 0 0\n 1 2 0\n 1 0 2/3\nend\n",
-            3,
-            0,
-        ),
-        // A segment that does not reach the origin.
-        (
-            "H-representation\nbegin\n3 2 integer\n-1 1\n0 1\n2 -1\nend\n",
-            "V-representation\nbegin\n***** 2 rational\n 1 1\n 1 2\nend\n",
-            2,
-            0,
-        ),
-        // No kind, a name, fractions.
-        (
-            "segment\nbegin 2 2 rational 1/2 -1 +0 01 end",
-            "V-representation\nbegin\n***** 2 rational\n 1 0\n 1 1/2\nend\n",
-            2,
-            0,
-        ),
-        // A pyramid over a square.
-        (
-            "H-representation\nbegin\n5 4 integer\n0 0 0 1\n1 -1 0 -1\n1 1 0 -1\n1 0 -1 -1\n1 0 1 -1\nend\n",
-            "V-representation\nbegin\n***** 4 rational\n 1 1 1 0\n 1 1 -1 0\n 1 -1 1 0\n 1 -1 -1 0\n 1 0 0 1\nend\n",
-            5,
-            0,
-        ),
-        // The segment of an equation in the quadrant.
-        (
-            "H-representation\nlinearity 1 1\nbegin\n3 3 integer\n-1 1 1\n0 1 0\n0 0 1\nend\n",
-            "V-representation\nbegin\n***** 3 rational\n 1 1 0\n 1 0 1\nend\n",
-            2,
-            0,
-        ),
-        // A point by as many equations, and a line by one: which is not an axis.
-        (
-            "H-representation\nlinearity 2 1 2\nbegin\n2 3 integer\n-1 1 0\n-2 0 3\nend\n",
-            "V-representation\nbegin\n***** 3 rational\n 1 1 2/3\nend\n",
-            1,
-            0,
-        ),
-        (
-            "H-representation\nlinearity 1 1\nbegin\n1 3 integer\n1 1 -2\nend\n",
-            "V-representation\nlinearity 1 1\nbegin\n***** 3 rational\n 0 2 1\n 1 -1 0\nend\n",
-            1,
-            1,
-        ),
-        // The points of the square with an inner one: four facets, and not `1 0 0`.
-        (
-            "V-representation\nbegin\n5 3 rational\n1 0 0\n1 1 0\n1 0 1\n1 1 1\n1 1/2 1/2\nend\n",
-            "H-representation\nbegin\n***** 3 rational\n 0 1 0\n 0 0 1\n 1 -1 0\n 1 0 -1\nend\n",
-            4,
-            0,
-        ),
-        // The quadrant by its vertex and two rays.
-        (
-            "V-representation\nbegin\n3 3 integer\n1 0 0\n0 1 0\n0 0 1\nend\n",
-            "H-representation\nbegin\n***** 3 rational\n 0 1 0\n 0 0 1\nend\n",
-            2,
-            0,
-        ),
-        // A segment in the plane.
-        (
-            "V-representation\nbegin\n2 3 integer\n1 0 0\n1 1 1\nend\n",
-            "H-representation\nlinearity 1 1\nbegin\n***** 3 rational\n 0 -1 1\n 0 1 0\n 1 -1 0\nend\n",
-            2,
-            1,
-        ),
-        // A half plane by a point, a ray and a line.
-        (
-            "V-representation\nlinearity 1 3\nbegin\n3 3 integer\n1 1 0\n0 1 0\n0 0 1\nend\n",
-            "H-representation\nbegin\n***** 3 rational\n -1 1 0\nend\n",
-            1,
-            0,
-        ),
-        // The point of the space without coordinates, and a ray without a point: the origin is added.
-        (
-            "V-representation\nbegin\n1 1 integer\n1\nend\n",
-            "H-representation\nbegin\n***** 1 rational\nend\n",
-            0,
-            0,
-        ),
-        (
-            "V-representation\nbegin\n1 2 integer\n0 1\nend\n",
-            "H-representation\nbegin\n***** 2 rational\n 0 1\nend\n",
-            1,
-            0,
-        ),
-        // The square without the number of its rows, and with its rows broken.
-        (
-            "H-representation\nbegin\n***** 3 integer\n0 1 0\n0 0 1\n1 -1 0\n1 0 -1\nend\n",
-            SQUARE_LISTING,
-            4,
-            0,
-        ),
-        (
-            "H-representation\r\nbegin\r\n4 3\ninteger 0\n1 0 0\t0 1\n\n1 -1 0 1 0\n-1 end of it\nmaxoutput 3\n",
-            SQUARE_LISTING,
-            4,
-            0,
-        ),
-    ];
-    for (file, listing, rows, lines) in files {
-        let mut out = MemSink::new(alloc, &[]);
-        let status = answer(alloc, file, &mut out);
-        assert_eq!(rt; status, Status::Done { rows, lines }, "{file}");
-        let got = sorted_lines(alloc, out.written())?;
-        let want = sorted_lines(alloc, listing.as_bytes())?;
-        assert!(rt; got == want, "{file}");
-    }
-    Ok(())
-}
-
-#[test]
-fn finds_files_without_a_point(rt: HostRuntime) {
-    let files = [
-        "H-representation\nbegin\n2 1 integer\n5\n-5\nend\n",
-        "H-representation\nbegin\n1 1 integer\n-5\nend\n",
-        // At infinity there is a ray.
-        "H-representation\nbegin\n2 2 integer\n-1 0\n0 1\nend\n",
-        "H-representation\nbegin\n2 2 integer\n-1 1\n0 -1\nend\n",
-        // Equations without a common point, and one that no inequality leaves a point of.
-        "H-representation\nlinearity 2 1 2\nbegin\n2 2 integer\n-1 1\n-2 1\nend\n",
-        "H-representation\nlinearity 1 1\nbegin\n1 1 integer\n5\nend\n",
-        "H-representation\nlinearity 1 1\nbegin\n3 3 integer\n1 1 1\n0 1 0\n0 0 1\nend\n",
-    ];
-    for file in files {
-        let mut out = MemSink::new(rt.alloc(), &[]);
-        let status = answer(rt.alloc(), file, &mut out);
-        assert_eq!(rt; status, Status::Infeasible, "{file}");
-        assert_eq!(rt; out.written(), b"".as_slice());
-    }
-}
-
-#[test]
-fn answers_an_overflow_before_anything_is_written(rt: HostRuntime) {
-    let files = [
-        // One extreme point has the denominator 3 * 2^199 - 1.
-        "H-representation\nbegin\n4 3 integer\n\
+const WITHOUT_A_LISTING: [Case; 13] = [
+    Case {
+        name: "5 >= 0 and -5 >= 0",
+        file: "H-representation\nbegin\n2 1 integer\n5\n-5\nend\n",
+        end: INFEASIBLE,
+        written: "",
+        ..SQUARE
+    },
+    Case {
+        name: "-5 >= 0",
+        file: "H-representation\nbegin\n1 1 integer\n-5\nend\n",
+        end: INFEASIBLE,
+        written: "",
+        ..SQUARE
+    },
+    Case {
+        name: "-1 >= 0 and a ray at infinity",
+        file: "H-representation\nbegin\n2 2 integer\n-1 0\n0 1\nend\n",
+        end: INFEASIBLE,
+        written: "",
+        ..SQUARE
+    },
+    Case {
+        name: "x >= 1 and -x >= 0",
+        file: "H-representation\nbegin\n2 2 integer\n-1 1\n0 -1\nend\n",
+        end: INFEASIBLE,
+        written: "",
+        ..SQUARE
+    },
+    Case {
+        name: "equations without a common point",
+        file: "H-representation\nlinearity 2 1 2\nbegin\n2 2 integer\n-1 1\n-2 1\nend\n",
+        end: INFEASIBLE,
+        written: "",
+        ..SQUARE
+    },
+    Case {
+        name: "5 = 0",
+        file: "H-representation\nlinearity 1 1\nbegin\n1 1 integer\n5\nend\n",
+        end: INFEASIBLE,
+        written: "",
+        ..SQUARE
+    },
+    Case {
+        name: "an equation of which no inequality leaves a point",
+        file: "H-representation\nlinearity 1 1\nbegin\n3 3 integer\n1 1 1\n0 1 0\n0 0 1\nend\n",
+        end: INFEASIBLE,
+        written: "",
+        ..SQUARE
+    },
+    Case {
+        name: "an extreme point with the denominator 3 * 2^199 - 1",
+        file: "H-representation\nbegin\n4 3 integer\n\
          1 -1267650600228229401496703205376 -1\n\
          1 -1 -1901475900342344102245054808064\n0 1 0\n0 0 1\nend\n",
-        // Two rows whose exchange needs 2^128.
-        "H-representation\nbegin\n2 3 integer\n\
+        end: End::Overflow(Phase::Cone),
+        written: "",
+        ..SQUARE
+    },
+    Case {
+        name: "two rows whose exchange needs 2^128",
+        file: "H-representation\nbegin\n2 3 integer\n\
          0 18446744073709551616 1\n0 1 18446744073709551616\nend\n",
-    ];
-    for file in files {
-        let mut out = MemSink::new(rt.alloc(), &[]);
-        let status = answer(rt.alloc(), file, &mut out);
-        assert!(rt;
-            matches!(&status, Status::Overflow(o) if o.phase == Phase::Cone),
-            "{file} was answered with {status:?}"
-        );
-        assert_eq!(rt; out.written(), b"".as_slice());
+        end: End::Overflow(Phase::Cone),
+        written: "",
+        ..SQUARE
+    },
+    Case {
+        name: "an empty text",
+        file: "",
+        end: End::BadFile(BadKind::NoBegin, 1),
+        written: "",
+        ..SQUARE
+    },
+    Case {
+        name: "a row too short",
+        file: "H-representation\nbegin\n4 3 integer\n0 1 0\n0 0 1\n1 -1 0\n1 0\nend\n",
+        end: End::BadFile(BadKind::ShortData, 8),
+        written: "",
+        ..SQUARE
+    },
+    Case {
+        name: "a number with a point",
+        file: "begin\n1 2 integer\n 1 1.5\nend\n",
+        end: End::BadFile(BadKind::BadNumber, 3),
+        written: "",
+        ..SQUARE
+    },
+    Case {
+        name: "a type that is not read",
+        file: "begin\n1 2 real\n 1 1\nend\n",
+        end: End::BadFile(BadKind::UnsupportedType, 2),
+        written: "",
+        ..SQUARE
+    },
+];
+
+const ONE: Call = Call::AtMost(1);
+
+const STOPPED: [Case; 11] = [
+    Case {
+        name: "a sink that takes 20 bytes, one at a time, and then fails",
+        writes: &[
+            ONE,
+            ONE,
+            ONE,
+            ONE,
+            ONE,
+            ONE,
+            ONE,
+            ONE,
+            ONE,
+            ONE,
+            ONE,
+            ONE,
+            ONE,
+            ONE,
+            ONE,
+            ONE,
+            ONE,
+            ONE,
+            ONE,
+            ONE,
+            Call::Fail,
+        ],
+        end: End::Other(7),
+        written: "V-representation\nbeg",
+        ..SQUARE
+    },
+    Case {
+        name: "a source that gives 40 bytes, and then fails",
+        reads: &[Call::AtMost(40), Call::Fail],
+        end: End::Other(6),
+        written: "",
+        ..SQUARE
+    },
+    Case {
+        name: "fly",
+        words: &["fly"],
+        end: USAGE,
+        written: "",
+        ..SQUARE
+    },
+    Case {
+        name: "no words",
+        words: &[],
+        end: USAGE,
+        written: "",
+        ..SQUARE
+    },
+    Case {
+        name: "convert convert",
+        words: &["convert", "convert"],
+        end: USAGE,
+        written: "",
+        ..SQUARE
+    },
+    Case {
+        name: "--help",
+        words: &["--help"],
+        end: USAGE,
+        written: "",
+        ..SQUARE
+    },
+    Case {
+        name: "run",
+        words: &["run"],
+        end: USAGE,
+        written: "",
+        ..SQUARE
+    },
+    Case {
+        name: "help",
+        words: &["help"],
+        end: USAGE,
+        written: "",
+        ..SQUARE
+    },
+    Case {
+        name: "-h",
+        words: &["-h"],
+        end: USAGE,
+        written: "",
+        ..SQUARE
+    },
+    Case {
+        name: "convert --help",
+        words: &["convert", "--help"],
+        end: USAGE,
+        written: "",
+        ..SQUARE
+    },
+    Case {
+        name: "--version",
+        words: &["--version"],
+        end: USAGE,
+        written: "",
+        ..SQUARE
+    },
+];
+
+#[derive(PartialEq, Eq, Debug, Drop)]
+struct Answer<'a> {
+    end: End,
+    written: Vec<&'a [u8]>,
+}
+
+/// An answer with the lines that were written, those of a whole listing in a fixed order.
+fn answered<'a>(alloc: Global, end: End, text: &'a [u8]) -> Result<Answer<'a>, AllocError> {
+    let mut written = text.split(|b| *b == b'\n').collect::<Vec<&[u8]>>(alloc)?;
+    if let End::Done(..) = end {
+        written.sort()?;
+    }
+    Ok(Answer { end, written })
+}
+
+fn end_of(status: &Status) -> End {
+    match status {
+        Status::Done { rows, lines } => End::Done(*rows, *lines),
+        Status::BadFile(bad) => End::BadFile(bad.kind, bad.line),
+        Status::Overflow(overflow) => End::Overflow(overflow.phase),
+        other => End::Other(other.number()),
     }
 }
 
 #[test]
-fn says_what_is_wrong_with_a_file(rt: HostRuntime) {
+fn answers_calls(rt: HostRuntime) -> Result<(), Fail> {
     let alloc = rt.alloc();
-    let rows = [
-        ("", BadKind::NoBegin, 1),
-        (
-            "H-representation\nbegin\n4 3 integer\n0 1 0\n0 0 1\n1 -1 0\n1 0\nend\n",
-            BadKind::ShortData,
-            8,
-        ),
-        ("begin\n1 2 integer\n 1 1.5\nend\n", BadKind::BadNumber, 3),
-        ("begin\n1 2 real\n 1 1\nend\n", BadKind::UnsupportedType, 2),
-    ];
-    for (file, kind, line) in rows {
-        let mut out = MemSink::new(alloc, &[]);
-        let status = answer(alloc, file, &mut out);
-        assert_eq!(rt; status, Status::BadFile(BadFile { kind, line }), "{file}");
-        assert_eq!(rt; out.written(), b"".as_slice());
+    let cases = LISTED.iter().chain(&WITHOUT_A_LISTING).chain(&STOPPED);
+    for case in cases {
+        let mut input = MemSource::new(case.file.as_bytes(), case.reads);
+        let mut out = MemSink::new(alloc, case.writes);
+        let status = lrs(alloc, case.words, &mut input, &mut out);
+        let found = answered(alloc, end_of(&status), out.written())?;
+        let want = answered(alloc, case.end, case.written.as_bytes())?;
+        assert_eq!(rt; found, want, "{}", case.name);
     }
-}
-
-#[test]
-fn answers_faults_and_other_words(rt: HostRuntime) {
-    let alloc = rt.alloc();
-    // A sink that takes 20 bytes, one at a time, and then fails.
-    let mut calls = [Call::AtMost(1); 21];
-    calls[20] = Call::Fail;
-    let mut input = MemSource::new(SQUARE.as_bytes(), &[]);
-    let mut out = MemSink::new(alloc, calls.as_slice());
-    let status = lrs(alloc, ["convert"].as_slice(), &mut input, &mut out);
-    assert_eq!(rt; status, Status::WriteFault);
-    assert_eq!(rt; out.written(), b"V-representation\nbeg".as_slice());
-
-    let reads = [Call::AtMost(40), Call::Fail];
-    let mut input = MemSource::new(SQUARE.as_bytes(), reads.as_slice());
-    let mut out = MemSink::new(alloc, &[]);
-    let status = lrs(alloc, ["convert"].as_slice(), &mut input, &mut out);
-    assert_eq!(rt; status, Status::ReadFault);
-    assert_eq!(rt; out.written(), b"".as_slice());
-
-    for words in [
-        ["fly"].as_slice(),
-        &[],
-        &["convert", "convert"],
-        &["--help"],
-        &["run"],
-        &["help"],
-        &["-h"],
-        &["convert", "--help"],
-        &["--version"],
-    ] {
-        let mut input = MemSource::new(SQUARE.as_bytes(), &[]);
-        let mut out = MemSink::new(alloc, &[]);
-        assert_eq!(rt; lrs(alloc, words, &mut input, &mut out), Status::Usage);
-    }
+    Ok(())
 }
 
 // The arguments of a process: the program's name, and these words.
@@ -297,25 +439,41 @@ fn arguments(alloc: Global, words: &[&str]) -> Result<Vec<String>, AllocError> {
 fn a_process_says_how_it_ends(rt: HostRuntime) -> Result<(), Fail> {
     let alloc = rt.alloc();
     let rows = [
-        (Ok(["convert"].as_slice()), 0, "lrs: done 4 rows 0 lines\n"),
-        (Ok(&[]), 2, USAGE),
-        (Ok(&["convert", "convert"]), 2, USAGE),
-        (Err(LineStop::Usage), 2, USAGE),
-        (Err(LineStop::Memory), 15, "lrs: out of memory\n"),
+        (
+            "a listing",
+            Ok(["convert"].as_slice()),
+            0,
+            "lrs: done 4 rows 0 lines\n",
+        ),
+        ("no words", Ok(&[]), 2, USAGE_LINE),
+        (
+            "a word too many",
+            Ok(&["convert", "convert"]),
+            2,
+            USAGE_LINE,
+        ),
+        ("no text", Err(LineStop::Usage), 2, USAGE_LINE),
+        (
+            "no memory",
+            Err(LineStop::Memory),
+            15,
+            "lrs: out of memory\n",
+        ),
     ];
-    for (words, number, line) in rows {
+    for (name, words, number, line) in rows {
         let given = match words {
             Ok(words) => Ok(arguments(alloc, words)?),
             Err(stop) => Err(stop),
         };
-        let mut input = MemSource::new(SQUARE.as_bytes(), &[]);
+        let mut input = MemSource::new(SQUARE.file.as_bytes(), &[]);
         let mut out = MemSink::new(alloc, &[]);
         let mut errors = MemSink::new(alloc, &[]);
+        let said = respond(alloc, given, &mut input, &mut out, &mut errors);
         assert_eq!(rt;
-            respond(alloc, given, &mut input, &mut out, &mut errors),
-            number
+            (said, errors.written()),
+            (number, line.as_bytes()),
+            "{name}"
         );
-        assert_eq!(rt; errors.written(), line.as_bytes());
     }
     Ok(())
 }
@@ -337,7 +495,7 @@ fn prints_status_lines(rt: HostRuntime) -> Result<(), Fail> {
             Status::Done { rows: 4, lines: 0 },
             "lrs: done 4 rows 0 lines\n",
         ),
-        (Status::Usage, USAGE),
+        (Status::Usage, USAGE_LINE),
         (
             Status::Overflow(overflow),
             "lrs: overflow cone 3 3 x1 x3 2,x1 t,c x2,x1 2,3\n",
@@ -353,8 +511,8 @@ fn prints_status_lines(rt: HostRuntime) -> Result<(), Fail> {
     ];
     for (status, line) in rows {
         let mut out = MemSink::new(rt.alloc(), &[]);
-        assert_eq!(rt; status_line(&status, &mut out), Ok(()));
-        assert_eq!(rt; out.written(), line.as_bytes());
+        let done: Result<(), WriteFault> = status_line(&status, &mut out);
+        assert_eq!(rt; (done, out.written()), (Ok(()), line.as_bytes()), "{line}");
     }
     Ok(())
 }
