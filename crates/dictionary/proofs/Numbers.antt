@@ -25,12 +25,15 @@ module _ (d : Dictionary) (i j : ℕ) where
   by inside own = cond inside (cond own d.denominator (pos 0)) (cell_at (length d.rows) d.cells (place_in d.rows i) j)
 
   pub own_number : Contains d.columns i → j ≡ place → number d i j ≡ d.denominator
+  unfolding number
   own_number c e = ap (λ b. by b (j == place)) (member_has i d.columns c) ∙ ap (λ b. by true b) (eq-eqb j place e)
 
   pub other_number : Contains d.columns i → j ≢ place → number d i j ≡ pos 0
+  unfolding number
   other_number c n = ap (λ b. by b (j == place)) (member_has i d.columns c) ∙ ap (λ b. by true b) (ne_eqb j place n)
 
   pub row_number : (Contains d.columns i → ⊥) → number d i j ≡ cell_at (length d.rows) d.cells (place_in d.rows i) j
+  unfolding number
   row_number n = ap (λ b. by b (j == place)) (no_member i d.columns n)
 
 -- the cell of a label outside the cobasis is there

@@ -29,7 +29,7 @@ pub record Dictionary : Type 0 where
 
 -- the number of label i in column j, where column 0 has the constants. A label of the cobasis has no cells: it is the
 -- denominator in its own column, and 0 in the others
-abbrev pub number : Dictionary → ℕ → ℕ → ℤ
+unfoldable pub number : Dictionary → ℕ → ℕ → ℤ
 number d i j =
     if is_member i d.columns then (if j == suc (place_in d.columns i) then d.denominator else pos 0)
     else cell_at (length d.rows) d.cells (place_in d.rows i) j

@@ -1,4 +1,4 @@
-use Rattle.std.proofs.Common.{◌≡◌, ◌<◌, suc, ℕ, List, length, arith, refl, sym, ap, subst, ◌∙◌, ⊎_elim}
+use Rattle.std.proofs.Common.{◌≡◌, ◌≢◌, ◌<◌, suc, ℕ, List, length, arith, refl, sym, ap, subst, ◌∙◌, ⊎_elim}
 use Rattle.std.specs.List.{Contains}
 use Rattle.std.proofs.lemmas.Bool.{cases_eq}
 use Rattle.dictionary_laws.specs.Keys.{place_in}
@@ -47,3 +47,20 @@ returns c =
     c.at.ensures
     ∙ rw (height all, row all, ap (λ (d : Dictionary). d.cells) c.self.view_is)
     (sym (row_number c.args.self.now c.args.label c.args.column (no_column all)))
+
+-- a label of the cobasis
+pub returns-then-place-len : goal.returns-then-place-len
+returns-then-place-len c =
+    let now = c.args.self.now in
+    let label = c.args.label in
+    let same = c.deref.ensures.value ∙ ap (λ (d : Dictionary). d.columns) c.self.view_is in
+    let place = c.place_of-place.ensures.value ∙ ap (λ ks. place_in ks label) same in
+    let lt = c.if-place-len.true in
+    let member = subst (λ (ks : List ℕ). Contains ks label) same
+    (c.place_of-place.ensures.member (omega (arith, c.len.ensures, c.deref.ensures.len, lt))) in
+    ⊎_elim
+    (λ (e : c.args.column ≡ suc (place_in now.columns label)).
+    c.own_number.ensures.own (e ∙ ap suc (sym place)) ∙ sym (own_number now label c.args.column member e))
+    (λ (n : c.args.column ≢ suc (place_in now.columns label)).
+    c.own_number.ensures.other (λ e. n (e ∙ ap suc place)) ∙ sym (other_number now label c.args.column member n))
+    (cases_eq c.args.column (suc (place_in now.columns label)))
