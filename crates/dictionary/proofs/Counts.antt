@@ -1,5 +1,5 @@
 -- How many labels there are: as many as rows and columns.
-use Rattle.std.proofs.Common.{◌≡◌, ℕ, suc, ◌+◌, ℤ, pos, List, [], ◌∷◌, ◌++◌, length, arith, refl, sym, ap, ◌∙◌, inl, inr, ⊎_elim, length-append}
+use Rattle.std.proofs.Common.{◌≡◌, ℕ, suc, ◌+◌, ◌*◌, ℤ, pos, List, [], ◌∷◌, ◌++◌, length, arith, refl, sym, ap, ◌∙◌, inl, inr, ⊎_elim, length-append}
 use Rattle.std.specs.List.{Contains}
 use Rattle.std.proofs.lemmas.Int.{ints}
 use Rattle.std.proofs.lemmas.List.Elements.{Contains-append_left, Contains-append_right}
@@ -35,3 +35,13 @@ label_count d whole =
           (joined_cases d.rows d.columns k m);
     })
     ∙ length-append d.rows d.columns
+
+-- two of one shape have as many rows, and as many cells
+module _ (d e : Dictionary) (whole : IsWhole d) (other : IsWhole e) (labels : length e.labels ≡ length d.labels)
+    (columns : length e.columns ≡ length d.columns) where
+  pub same_rows : length e.rows ≡ length d.rows
+  same_rows = let m = label_count d whole in let n = label_count e other in omega (arith, labels, columns)
+
+  pub same_cells : length e.cells ≡ suc (length d.columns) * length d.rows
+  same_cells =
+      other.size ∙ ap (λ w. suc w * length e.rows) columns ∙ ap (λ h. suc (length d.columns) * h) same_rows

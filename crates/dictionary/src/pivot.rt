@@ -1,5 +1,5 @@
 //! Pivots: a label outside the cobasis takes the place of one inside.
-ghost use Rattle.std.specs.Prelude.{◌≡◌, ◌≢◌, ◌↔◌, IsTrue, IsOk, IfOk, IfErr};
+ghost use Rattle.std.specs.Prelude.{◌≡◌, ◌≢◌, ◌↔◌, IsTrue, IsOk, IfOk, IfErr, length};
 ghost use Rattle.std.specs.List.{Contains};
 ghost use Rattle.dictionary.specs.Views.{exchange_at, CanPivot, IsPivot, IsOverflow, NothingPasses};
 
@@ -42,6 +42,36 @@ impl Dict {
                 self.key.exchange_at(at, row);
                 self.columns[x.column - 1] = row;
                 self.rows[x.row] = col;
+                Ok(())
+            }
+            Err(passing) => Err(self.overflow_at(row, col, passing)),
+        }
+    }
+
+    /// The same into another dictionary of the same shape, which is written over; this one stays. Takes no memory.
+    pub fn pivot_into(&self, to: &mut Dict, row: Label, col: Label) -> Result<(), Overflow>
+        requires can { CanPivot self.now row col }
+        requires rows { length to.old.labels ≡ length self.now.labels }
+        requires columns { length to.old.columns ≡ length self.now.columns }
+        ensures pivoted { IfOk result (λ _. IsPivot self.now row col to.new) }
+        ensures unchanged { IfErr result (λ _. to.new ≡ to.old) }
+        ensures passes { IfErr result (λ o. IsOverflow self.now row col o) }
+        ensures complete { NothingPasses self.now row col → IsOk result }
+    {
+        let x = self.exchange_of(row, col);
+        match exchange_cells(&self.cells, &mut to.own, &mut to.spare, &x) {
+            Ok(denominator) => {
+                swap(&mut to.cells, &mut to.spare);
+                to.denominator = denominator;
+                to.phase = self.phase;
+                to.labels.copy_from_slice(&self.labels);
+                let at = place_of(self.key.labels(), col);
+                to.key = self.key;
+                to.key.exchange_at(at, row);
+                to.columns.copy_from_slice(&self.columns);
+                to.columns[x.column - 1] = row;
+                to.rows.copy_from_slice(&self.rows);
+                to.rows[x.row] = col;
                 Ok(())
             }
             Err(passing) => Err(self.overflow_at(row, col, passing)),

@@ -94,6 +94,15 @@ fn pivot(dict: &mut Dict, row: Label, col: Label) -> Option<Result<(), Overflow>
     }
 }
 
+/// The dictionary after a pivot into another one, which was a copy.
+fn pivoted(dict: &Dict, row: Label, col: Label) -> Result<Dict, OutOfMemory> {
+    let mut to = dict.copy()?;
+    if dict.can_pivot(row, col) {
+        let _ = dict.pivot_into(&mut to, row, col);
+    }
+    Ok(to)
+}
+
 /// The numbers of a label: its constant, and its entries at two labels.
 fn numbers(dict: &Dict, row: Label, key: [Label; 2]) -> [Option<i128>; 3] {
     [
@@ -155,6 +164,7 @@ struct Outcome {
     denominator: i128,
     first_row: [Option<i128>; 3],
     second_row: [Option<i128>; 3],
+    second_row_beside: [Option<i128>; 3],
     x1: [Option<i128>; 3],
     x2: [Option<i128>; 3],
     back: Option<Result<(), Overflow>>,
@@ -164,6 +174,7 @@ struct Outcome {
 fn outcome_of(alloc: Global, case: &Case) -> Result<Outcome, OutOfMemory> {
     let sys = system(alloc, case.first, false, case.second)?;
     let mut dict = Dict::new(alloc, &sys, Phase::Prepare)?;
+    let beside = pivoted(&dict, case.row, case.col)?;
     let pivoted = pivot(&mut dict, case.row, case.col);
     let (key, denominator) = (dict.key(), dict.denominator().get());
     let first_row = numbers(&dict, row(1), case.key);
@@ -177,6 +188,7 @@ fn outcome_of(alloc: Global, case: &Case) -> Result<Outcome, OutOfMemory> {
         denominator,
         first_row,
         second_row,
+        second_row_beside: numbers(&beside, row(2), case.key),
         x1,
         x2,
         back,
@@ -195,6 +207,7 @@ fn pivots_worked_out_by_hand(rt: HostRuntime) -> Result<(), Fail> {
             denominator: case.denominator,
             first_row: known(a),
             second_row: known(b),
+            second_row_beside: known(b),
             x1: known(c),
             x2: known(d),
             back: Some(Ok(())),

@@ -63,7 +63,7 @@ fn visit_left<O, E, V: Visit<O, E>>(
 }
 
 // Makes the next dictionary the one of the cobasis in which a row has taken the place of a column. Where that
-// overflows, the next one is as this one.
+// overflows, the next one is as before.
 fn take_row(dict: &Dict, row: Label, col: Label, next: &mut Dict) -> Result<(), Overflow>
     requires can { CanPivot dict.now row col }
     requires shape { HasShapeOf dict.now next.old }
@@ -71,8 +71,7 @@ fn take_row(dict: &Dict, row: Label, col: Label, next: &mut Dict) -> Result<(), 
     ensures passes { IfErr result (λ o. IsOverflow dict.now row col o) }
     ensures shape { HasShapeOf dict.now next.new }
 {
-    dict.copy_into(next);
-    next.pivot(row, col)
+    dict.pivot_into(next, row, col)
 }
 
 /// Visits the vectors under a prefix of rows: those whose first list of tight rows has, of the rows before the prefix's
