@@ -174,3 +174,12 @@ pub record IsOver (x : Exchange) (old : List ℤ) (f : ℤ) (n : ℕ) (g : ℤ) 
   pub done : (i j : ℕ) → i < x.height → j < n → IsNewCell x old i j (f *ℤ (g *ℤ cell_at x.height now i j))
   pub greatest : (k : ℕ) → k ∣ unsigned_abs x.denominator →
       ((i j : ℕ) → i < x.height → j < n → (q : ℤ) × IsNewCell x old i j (f *ℤ (pos k *ℤ q))) → k ∣ unsigned_abs g
+
+-- the columns before column j are the new ones over what the divisor g and the factor f make of the denominator, and
+-- column j is the next
+pub record IsReached (old : List ℤ) (parts : Parts ℤ) (j : ℕ) (g f : ℤ) (now : List ℤ) : Type 0 where
+  pub from_parts : AreWideParts old parts
+  pub room : length now ≡ parts.x.now.width * parts.x.now.height
+  pub within : j < parts.x.now.width
+  pub scale : IsScale parts.x.now g f
+  pub over : IsOver parts.x.now old (factor_of parts) j g now

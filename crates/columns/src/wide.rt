@@ -1,8 +1,8 @@
 //! The exchange of a row and a column in numbers of 127 bits, into another table.
-ghost use Rattle.std.specs.Prelude.{◌≡◌, ◌<◌, ◌≤◌, ◌+◌, ◌*◌, ◌*ℤ◌, ◌<ℤ◌, IfOk, IfErr, MatchResult, pos, length, unsigned_abs};
+ghost use Rattle.std.specs.Prelude.{◌≡◌, ◌≢◌, ◌<◌, ◌≤◌, ◌+◌, ◌*◌, ◌*ℤ◌, ◌<ℤ◌, IfOk, IfErr, MatchResult, pos, length, unsigned_abs};
 ghost use Prim.Native.Nat.{◌∣◌};
 ghost use Rattle.columns.specs.Cells.{CellPasses, IsTableAfter, Passes};
-ghost use Rattle.columns.specs.Steps.{AreWideParts, factor_of, IsScale, IsOtherColumn, IsColumnDone, IsScaled, IsRescaled, PassesScaled, PassesRescaled, IsOver};
+ghost use Rattle.columns.specs.Steps.{AreWideParts, IsScale, IsColumnDone, IsScaled, IsRescaled, PassesScaled, PassesRescaled, IsReached};
 
 use crate::cells::Cells;
 use crate::common::is_one;
@@ -64,10 +64,8 @@ fn column_over_left(
     column: usize,
     scale: &mut WideScale,
 ) -> Result<(), Spot>
-    requires parts { AreWideParts old.now parts.now }
-    requires inside { IsOtherColumn parts.now.x.now column new.old }
-    requires scale { IsScale parts.now.x.now scale.old.divisor scale.old.factor }
-    requires over { IsOver parts.now.x.now old.now (factor_of parts.now) column scale.old.divisor new.old }
+    requires reached { IsReached old.now parts.now column scale.old.divisor scale.old.factor new.old }
+    requires other { column ≢ parts.now.x.now.column }
     ensures done { MatchResult result
         (λ u. IsColumnDone old.now parts.now column scale.old.divisor scale.new.divisor new.old new.new)
         (λ s. CellPasses parts.now.x.now old.now s.row s.column) }
@@ -96,11 +94,7 @@ fn wide_column(
     column: usize,
     scale: &mut WideScale,
 ) -> Result<(), Spot>
-    requires parts { AreWideParts old.now parts.now }
-    requires room { length new.old ≡ parts.now.x.now.width * parts.now.x.now.height }
-    requires within { column < parts.now.x.now.width }
-    requires scale { IsScale parts.now.x.now scale.old.divisor scale.old.factor }
-    requires over { IsOver parts.now.x.now old.now (factor_of parts.now) column scale.old.divisor new.old }
+    requires reached { IsReached old.now parts.now column scale.old.divisor scale.old.factor new.old }
     ensures done { MatchResult result
         (λ u. IsColumnDone old.now parts.now column scale.old.divisor scale.new.divisor new.old new.new)
         (λ s. CellPasses parts.now.x.now old.now s.row s.column) }

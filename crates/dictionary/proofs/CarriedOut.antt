@@ -1,6 +1,7 @@
 -- What the fields of a `Dict` hold after a pivot is the pivot of what they held.
 use Rattle.std.proofs.Common.{◌≡◌, ℕ, suc, ◌-◌, ◌<◌, ℤ, List, length, set, remove, arith, ap, subst, ◌∙◌, sym}
 use Rattle.std.specs.List.{Contains}
+use Rattle.poly_model.specs.declared.overflow.Phase.{Phase}
 use Rattle.poly_model.specs.Keys.{with_label}
 use Rattle.dictionary_laws.specs.Keys.{place_in}
 use Rattle.dictionary_laws.specs.Laws.{IsExchangedKey}
@@ -43,21 +44,33 @@ module _ (d : Dictionary) (r s : ℕ) (whole : IsWhole d) (can : CanPivot d r s)
       (at_place d.key s 0 can.inside)
       (exchanged_key d.key r (place_in d.key s) whole.key can.outside l)
 
+  -- the fields of what was made, each by what the exchange and the old fields say of it
   module _ (x : Exchange) (at : x ≡ exchange_at d r s) (old news : List ℤ) (same : old ≡ d.cells) (least : ℤ)
       (after : IsTableAfter x old least news) where
     after_at : IsTableAfter (exchange_at d r s) d.cells least news
     after_at = subst (λ (y : Exchange). IsTableAfter y d.cells least news) at
         (subst (λ (v : List ℤ). IsTableAfter x v least news) same after)
 
-    pub carried_out : (key columns rows : List ℕ) → key ≡ with_label r (remove d.key (place_in d.key s)) →
-        columns ≡ set d.columns (x.column - 1) r → rows ≡ set d.rows x.row s →
-        IsPivot d r s (record { phase = d.phase; labels = d.labels; key = key; columns = columns; rows = rows; denominator = least; cells = news })
-        × IsWhole (record { phase = d.phase; labels = d.labels; key = key; columns = columns; rows = rows; denominator = least; cells = news })
-    carried_out key columns rows ekey ecolumns erows =
+    abbrev pub made : Phase → List ℕ → List ℕ → List ℕ → List ℕ → List ℤ → Dictionary
+    made phase labels key columns rows cells = record {
+      phase = phase;
+      labels = labels;
+      key = key;
+      columns = columns;
+      rows = rows;
+      denominator = least;
+      cells = cells;
+    }
+
+    pub carried_out : (phase : Phase) (labels key columns rows : List ℕ) (cells : List ℤ) → phase ≡ d.phase →
+        labels ≡ d.labels → key ≡ with_label r (remove d.key (place_in d.key s)) →
+        columns ≡ set d.columns (x.column - 1) r → rows ≡ set d.rows x.row s → cells ≡ news →
+        IsPivot d r s (made phase labels key columns rows cells) × IsWhole (made phase labels key columns rows cells)
+    carried_out phase labels key columns rows cells ephase elabels ekey ecolumns erows ecells =
         let column = ap (λ (y : Exchange). y.column) at in
         let row : x.row ≡ place_in d.rows r = ap (λ (y : Exchange). y.row) at in
         let place : x.column - 1 ≡ place_in d.columns s = omega arith in
-        rw (erows, ecolumns, place, row, ekey) (
+        rw (ephase, elabels, ecells, erows, ecolumns, place, row, ekey) (
           pivot_is d r s whole can least news after_at (with_label r (remove d.key (place_in d.key s))) new_key,
           whole_new d r s whole can least news after_at (with_label r (remove d.key (place_in d.key s))) new_key,
         )

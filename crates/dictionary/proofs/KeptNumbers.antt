@@ -55,8 +55,7 @@ module _ (d : Dictionary) (left stays : ℕ → Bool) (whole : IsWhole d) where
       (filter_kept left d.labels i back.0 p.1, λ s. back.1 (filter_only stays d.columns i s).0))
       (λ (c : Contains (filter leaves d.columns) i).
       let p = filter_only leaves d.columns i c in
-      let b = both_true (left i) (stays i) p.1 in
-      (
+      let b = both_true (left i) (stays i) p.1 in (
         filter_kept left d.labels i (whole.inside i p.0) b.0,
         λ s. let e : true ≡ false = sym (filter_only stays d.columns i s).1 ∙ b.1 in absurd cc,
       ))

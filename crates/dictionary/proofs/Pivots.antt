@@ -390,10 +390,12 @@ module _ (old : Dictionary) (r s : ℕ) (whole : IsWhole old) (can : CanPivot ol
       -- what divides all numbers divides each cell
       primitive : ArePrimitive space key (table_of new)
       primitive e h =
-          x.least.1 e (divisor_positive e d x.positive h.denominator)
-          (h.denominator, each_number (λ z. e ∣ unsigned_abs z) new whole_new
-          (λ i l. h.constants i (label_back i l))
-          (λ i k l c. h.entries i k (label_back i l) (same_new.back k c)))
+          x.least.1 e (divisor_positive e d x.positive h.denominator) (
+            h.denominator,
+            each_number (λ z. e ∣ unsigned_abs z) new whole_new
+                (λ i l. h.constants i (label_back i l))
+                (λ i k l c. h.entries i k (label_back i l) (same_new.back k c)),
+          )
 
       pub dictionary_new : IsDictionaryIn space new
       dictionary_new = record {

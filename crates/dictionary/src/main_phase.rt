@@ -115,7 +115,12 @@ impl Dict {
     }
 
     // Puts the numbers of these labels in a column behind what is kept.
-    fn keep_column(&self, kept: &mut Vec<Num>, rows: &[Label], column: usize) -> Result<(), OutOfMemory>
+    fn keep_column(
+        &self,
+        kept: &mut Vec<Num>,
+        rows: &[Label],
+        column: usize,
+    ) -> Result<(), OutOfMemory>
         requires rows { All (λ l. Contains self.now.labels l) rows.now }
         requires column { column < suc (length self.now.columns) }
         ensures { OnOk result (kept.new.items ≡ kept.old.items ++ map (λ l. number self.now l column) rows.now) }

@@ -260,8 +260,22 @@ fn asks_for_no_square_of_the_denominator(rt: HostRuntime) -> Result<(), Fail> {
     let over = dict.denominator().get();
     let second = pivot(&mut dict, row(2), x(1));
     assert_eq!(rt;
-        (first, over, second, dict.denominator().get(), entry(&dict, x(1), row(1)), entry(&dict, x(1), row(2))),
-        (Some(Ok(())), i128::MAX, Some(Ok(())), 1, Some(1), Some(-i128::MAX))
+        (
+            first,
+            over,
+            second,
+            dict.denominator().get(),
+            entry(&dict, x(1), row(1)),
+            entry(&dict, x(1), row(2))
+        ),
+        (
+            Some(Ok(())),
+            i128::MAX,
+            Some(Ok(())),
+            1,
+            Some(1),
+            Some(-i128::MAX)
+        )
     );
     Ok(())
 }

@@ -16,8 +16,8 @@ returns-in-Err-clause-done c =
     let g = c.args.scale.now.divisor in
     let e = c.in-Err.ensures in
     let within : spot.column * x.height < c.args.column * x.height = omega (arith, c.spot_of.ensures.same, e.within) in
-    rescaled_passes c.args.old.now parts parts.u c.requires.parts c.args.column g c.in_ok-less.less c.args.new.now
-    c.in_ok-less.ensures.left.positive (omega (arith, c.requires.inside.within)) c.requires.over spot.row spot.column
+    rescaled_passes c.args.old.now parts parts.u c.requires.reached.from_parts c.args.column g c.in_ok-less.less c.args.new.now
+    c.in_ok-less.ensures.left.positive (omega (arith, c.requires.reached.within)) c.requires.reached.over spot.row spot.column
     c.spot_of.ensures.row (lt_of_mul-lt-mul_right x.height within) e.number
     (e.same ∙ ap (λ (k : ℕ). get_or c.args.new.now k (pos 0) *ℤ g) (sym c.spot_of.ensures.same)) e.passes
 
@@ -31,7 +31,7 @@ smaller c =
       whole =
           ap (λ (z : ℤ). z *ℤ less) c.quotient.ensures
           ∙ quotient_exact less c.args.parts.now.x.now.denominator left.positive
-          (dvd_trans _ left.divides c.requires.over.divides);
+          (dvd_trans _ left.divides c.requires.reached.over.divides);
     }
 
 pub divided_column-requires-clause-scale : goal.divided_column-requires-clause-scale

@@ -14,12 +14,12 @@ returns-then-column-parts-clause-done c =
     let e : x.column ≡ c.args.column = sym c.if-column-parts.true in
     answered_more own.result
     (λ _ w.
-    done_same old parts c.args.column g c.args.new.now own.new.new c.requires.scale.positive
+    done_same old parts c.args.column g c.args.new.now own.new.new c.requires.reached.scale.positive
     (subst (λ (j : ℕ). AreKept (j * x.height) c.args.new.now own.new.new) e own.ensures.kept)
-    (subst (λ (j : ℕ). IsColumnWritten old parts j x.height g own.new.new) e (w old c.requires.parts)))
-    (λ _ p. p old c.requires.parts) own.ensures.written
+    (subst (λ (j : ℕ). IsColumnWritten old parts j x.height g own.new.new) e (w old c.requires.reached.from_parts)))
+    (λ _ p. p old c.requires.reached.from_parts) own.ensures.written
 
 pub returns-then-stays-clause-done : goal.returns-then-stays-clause-done
 returns-then-stays-clause-done c =
     done_same c.args.old.now c.args.parts.now c.args.column c.args.scale.now.divisor c.args.new.now c.same_column.new.new
-    c.requires.scale.positive c.same_column.ensures.kept c.same_column.ensures.written
+    c.requires.reached.scale.positive c.same_column.ensures.kept c.same_column.ensures.written

@@ -2,8 +2,8 @@ use Rattle.std.proofs.Common.{◌≡◌, ℕ, ℤ, List, ◌-◌, length, set, r
 use Rattle.std.proofs.lemmas.List.{length-set}
 use Rattle.poly_model.specs.Keys.{with_label}
 use Rattle.dictionary_laws.specs.Keys.{place_in}
-use Rattle.columns.specs.Cells.{AllowsExchange, IsTableAfter}
-use Rattle.dictionary.specs.Views.{Dictionary, CanPivot, IsPivot, IsWhole, exchange_at}
+use Rattle.columns.specs.Cells.{AllowsExchange}
+use Rattle.dictionary.specs.Views.{Dictionary, IsPivot, IsWhole}
 use Rattle.dictionary.proofs.CarriedOut.{allows_exchange, column_bound, row_bound, carried_out}
 use Rattle.dictionary.proofs.dict.Dict.pivot.Goals.{After-index_mut-in-Ok}
 use Rattle.dictionary.proofs.dict.Dict.pivot.Goals as goal
@@ -29,18 +29,7 @@ index_mut-requires-in-Ok c =
     c.exchange_of-x.ensures _
     (ap (λ (d : Dictionary). length d.rows) (sym c.self.view_is) ∙ sym c.self.inside.rows.ok.0)
 
--- the dictionary of the fields before, and after
-abbrev before : (c : After-index_mut-in-Ok) → Dictionary
-before c = let v = c.self.inside in record {
-  phase = v.phase;
-  labels = v.labels.items;
-  key = v.key;
-  columns = v.columns.items;
-  rows = v.rows.items;
-  denominator = v.denominator;
-  cells = v.cells;
-}
-
+-- what the fields hold after the pivot
 abbrev after : (c : After-index_mut-in-Ok) → Dictionary
 after c = let v = c.self.inside in record {
   phase = v.phase;
@@ -52,36 +41,32 @@ after c = let v = c.self.inside in record {
   cells = c.swap.new.x;
 }
 
-pivoted : (c : After-index_mut-in-Ok) → IsPivot (before c) c.args.row c.args.col (after c) × IsWhole (after c)
+pivoted : (c : After-index_mut-in-Ok) → IsPivot c.args.self.now c.args.row c.args.col (after c) × IsWhole (after c)
 pivoted c =
     let row = c.args.row in
     let col = c.args.col in
-    let v = c.self.inside in
-    let d = before c in
+    let view = c.self.view_is in
     let x = c.exchange_of-x.result in
-    let can : CanPivot d row col =
-    subst (λ (e : Dictionary). CanPivot e row col) (sym c.self.view_is) c.requires in
-    let at : x ≡ exchange_at d row col =
-    c.exchange_of-x.ensures ∙ ap (λ (e : Dictionary). exchange_at e row col) (sym c.self.view_is) in
-    let place = c.place_of-at.ensures.value ∙ ap (λ ks. place_in ks col) c.labels.ensures.value in
-    let key = c.exchange_at.ensures ∙ ap (λ i. with_label row (remove v.key i)) place in
-    carried_out d row col c.self.invariant.2 can x at v.cells c.swap.new.x refl c.in-Ok.denominator
-    (subst (λ (cells : List ℤ). IsTableAfter x v.cells c.in-Ok.denominator cells) (sym c.swap.ensures.x_after)
-    c.in-Ok.ensures.exchanged)
-    c.exchange_at.new.self (set v.columns.items (x.column - 1) row) (set v.rows.items x.row col) key refl refl
+    let keys = c.labels.ensures.value ∙ ap (λ (d : Dictionary). d.key) view in
+    carried_out c.args.self.now row col (subst (λ (d : Dictionary). IsWhole d) view c.self.invariant.2) c.requires x
+    c.exchange_of-x.ensures c.self.inside.cells _ (ap (λ (d : Dictionary). d.cells) view) c.in-Ok.denominator
+    c.in-Ok.ensures.exchanged (after c).phase (after c).labels (after c).key (after c).columns (after c).rows c.swap.new.x
+    (ap (λ (d : Dictionary). d.phase) view) (ap (λ (d : Dictionary). d.labels) view)
+    (c.exchange_at.ensures
+    ∙ ap (λ i. with_label row (remove c.self.inside.key i)) (c.place_of-at.ensures.value ∙ ap (λ ks. place_in ks col) keys)
+    ∙ ap (λ ks. with_label row (remove ks (place_in c.args.self.now.key col))) (ap (λ (d : Dictionary). d.key) view))
+    (ap (λ (d : Dictionary). set d.columns (x.column - 1) row) view)
+    (ap (λ (d : Dictionary). set d.rows x.row col) view) c.swap.ensures.x_after
 
 pub invariant_of-self : goal.invariant_of-self
 invariant_of-self c =
-    let all = (goal.at.invariant_of-self c).After-index_mut-in-Ok in
-    let v = c.self.inside in (
+    let all = (goal.at.invariant_of-self c).After-index_mut-in-Ok in (
       ap length c.swap.ensures.y_after ∙ sym c.self.invariant.0 ∙ sym c.exchange_cells.ensures.room
-      ∙ ap length (sym c.swap.ensures.x_after),
+          ∙ ap length (sym c.swap.ensures.x_after),
       c.exchange_cells.ensures.own ∙ c.self.invariant.1
-      ∙ sym (length-set v.rows.items c.exchange_of-x.result.row c.args.col),
+          ∙ sym (length-set c.self.inside.rows.items c.exchange_of-x.result.row c.args.col),
       (pivoted all).1,
     )
 
 pub returns-in-Ok-clause-pivoted : goal.returns-in-Ok-clause-pivoted
-returns-in-Ok-clause-pivoted c =
-    let all = (goal.at.returns-in-Ok-clause-pivoted c).After-index_mut-in-Ok in
-    subst (λ (d : Dictionary). IsPivot d c.args.row c.args.col (after all)) c.self.view_is (pivoted all).0
+returns-in-Ok-clause-pivoted c = (pivoted (goal.at.returns-in-Ok-clause-pivoted c).After-index_mut-in-Ok).0

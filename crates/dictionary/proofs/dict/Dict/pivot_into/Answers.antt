@@ -3,8 +3,8 @@ use Rattle.std.proofs.lemmas.List.{length-set}
 use Rattle.poly_model.specs.Keys.{with_label}
 use Rattle.dictionary_laws.specs.Keys.{place_in}
 use Rattle.columns.specs.declared.exchange.Exchange.{Exchange}
-use Rattle.columns.specs.Cells.{AllowsExchange, IsTableAfter}
-use Rattle.dictionary.specs.Views.{Dictionary, CanPivot, IsPivot, IsWhole, exchange_at}
+use Rattle.columns.specs.Cells.{AllowsExchange}
+use Rattle.dictionary.specs.Views.{Dictionary, IsPivot, IsWhole}
 use Rattle.dictionary.proofs.CarriedOut.{allows_exchange, column_bound, row_bound, carried_out}
 use Rattle.dictionary.proofs.Counts.{same_rows, same_cells}
 use Rattle.dictionary.proofs.dict.Dict.pivot_into.Goals.{After-to, After-index_mut-in-Ok}
@@ -56,22 +56,11 @@ index_mut-requires-in-Ok c =
     ∙ ap length (sym (c.copy_from_slice-in-Ok-2.ensures.items ∙ c.deref-in-Ok-2.ensures.value))
     ∙ sym c.copy_from_slice-in-Ok-2.new.self.ok.0)
 
--- the dictionary of the fields of the old one, and of the new one's
-abbrev before : (c : After-index_mut-in-Ok) → Dictionary
-before c = let v = c.self.inside in record {
-  phase = v.phase;
-  labels = v.labels.items;
-  key = v.key;
-  columns = v.columns.items;
-  rows = v.rows.items;
-  denominator = v.denominator;
-  cells = v.cells;
-}
-
-abbrev after : (c : After-index_mut-in-Ok) → List ℕ → Dictionary
-after c labels = record {
+-- what the fields of the other one hold
+abbrev after : (c : After-index_mut-in-Ok) → Dictionary
+after c = record {
   phase = c.self.inside.phase;
-  labels = labels;
+  labels = c.copy_from_slice.new.self.items;
   key = c.exchange_at.new.self;
   columns = set c.copy_from_slice-in-Ok.new.self.items (c.exchange_of-x.result.column - 1) c.args.row;
   rows = set c.copy_from_slice-in-Ok-2.new.self.items c.exchange_of-x.result.row c.args.col;
@@ -79,30 +68,24 @@ after c labels = record {
   cells = c.swap.new.x;
 }
 
-abbrev IsMade : (c : After-index_mut-in-Ok) → List ℕ → Type 0
-IsMade c labels = IsPivot (before c) c.args.row c.args.col (after c labels) × IsWhole (after c labels)
-
-pivoted : (c : After-index_mut-in-Ok) → IsMade c c.copy_from_slice.new.self.items
+pivoted : (c : After-index_mut-in-Ok) → IsPivot c.args.self.now c.args.row c.args.col (after c) × IsWhole (after c)
 pivoted c =
-    let row = c.args.row in
-    let col = c.args.col in
-    let v = c.self.inside in
-    let d = before c in
+    let view = c.self.view_is in
     let x = c.exchange_of-x.result in
-    let can : CanPivot d row col =
-    subst (λ (e : Dictionary). CanPivot e row col) (sym c.self.view_is) c.requires.can in
-    let at : x ≡ exchange_at d row col =
-    c.exchange_of-x.ensures ∙ ap (λ (e : Dictionary). exchange_at e row col) (sym c.self.view_is) in
-    let place = c.place_of-at.ensures.value ∙ ap (λ ks. place_in ks col) c.labels.ensures.value in
-    let key = c.exchange_at.ensures ∙ ap (λ i. with_label row (remove v.key i)) place in
-    let columns = ap (λ ks. set ks (x.column - 1) row) (c.copy_from_slice-in-Ok.ensures.items ∙ c.deref-in-Ok.ensures.value) in
-    let rows = ap (λ ks. set ks x.row col) (c.copy_from_slice-in-Ok-2.ensures.items ∙ c.deref-in-Ok-2.ensures.value) in
-    subst (IsMade c) (sym (c.copy_from_slice.ensures.items ∙ c.deref.ensures.value))
-    (carried_out d row col c.self.invariant.2 can x at v.cells c.swap.new.x refl c.in-Ok.denominator
-    (subst (λ (cells : List ℤ). IsTableAfter x v.cells c.in-Ok.denominator cells) (sym c.swap.ensures.x_after)
-    c.in-Ok.ensures.exchanged)
-    c.exchange_at.new.self (set c.copy_from_slice-in-Ok.new.self.items (x.column - 1) row)
-    (set c.copy_from_slice-in-Ok-2.new.self.items x.row col) key columns rows)
+    let keys = ap (λ (d : Dictionary). d.key) view in
+    let place = c.place_of-at.ensures.value ∙ ap (λ ks. place_in ks c.args.col) (c.labels.ensures.value ∙ keys) in
+    carried_out c.args.self.now c.args.row c.args.col (subst (λ (d : Dictionary). IsWhole d) view c.self.invariant.2)
+    c.requires.can x c.exchange_of-x.ensures c.self.inside.cells _ (ap (λ (d : Dictionary). d.cells) view)
+    c.in-Ok.denominator c.in-Ok.ensures.exchanged c.self.inside.phase (after c).labels c.exchange_at.new.self
+    (after c).columns (after c).rows (after c).cells (ap (λ (d : Dictionary). d.phase) view)
+    (c.copy_from_slice.ensures.items ∙ c.deref.ensures.value ∙ ap (λ (d : Dictionary). d.labels) view)
+    (c.exchange_at.ensures ∙ ap (λ i. with_label c.args.row (remove c.self.inside.key i)) place
+    ∙ ap (λ ks. with_label c.args.row (remove ks (place_in c.args.self.now.key c.args.col))) keys)
+    (ap (λ ks. set ks (x.column - 1) c.args.row)
+    (c.copy_from_slice-in-Ok.ensures.items ∙ c.deref-in-Ok.ensures.value ∙ ap (λ (d : Dictionary). d.columns) view))
+    (ap (λ ks. set ks x.row c.args.col)
+    (c.copy_from_slice-in-Ok-2.ensures.items ∙ c.deref-in-Ok-2.ensures.value ∙ ap (λ (d : Dictionary). d.rows) view))
+    c.swap.ensures.x_after
 
 pub invariant_of-to : goal.invariant_of-to
 invariant_of-to c =
@@ -110,17 +93,14 @@ invariant_of-to c =
     let to = (goal.at.invariant_of-to c).After-to in
     let rows = c.copy_from_slice-in-Ok-2.new.self.items in (
       ap length c.swap.ensures.y_after ∙ sym c.to.invariant.0 ∙ sym c.exchange_cells.ensures.room
-      ∙ ap length (sym c.swap.ensures.x_after),
+          ∙ ap length (sym c.swap.ensures.x_after),
       c.exchange_cells.ensures.own ∙ c.to.invariant.1 ∙ ap (λ (d : Dictionary). length d.rows) c.to.view_is
-      ∙ same_rows c.args.self.now c.args.to.now (whole to) (other to) c.requires.rows c.requires.columns
-      ∙ ap (λ (d : Dictionary). length d.rows) (sym c.self.view_is)
-      ∙ ap length (sym (c.copy_from_slice-in-Ok-2.ensures.items ∙ c.deref-in-Ok-2.ensures.value))
-      ∙ sym (length-set rows c.exchange_of-x.result.row c.args.col),
+          ∙ same_rows c.args.self.now c.args.to.now (whole to) (other to) c.requires.rows c.requires.columns
+          ∙ ap (λ (d : Dictionary). length d.rows) (sym c.self.view_is)
+          ∙ ap length (sym (c.copy_from_slice-in-Ok-2.ensures.items ∙ c.deref-in-Ok-2.ensures.value))
+          ∙ sym (length-set rows c.exchange_of-x.result.row c.args.col),
       (pivoted all).1,
     )
 
 pub returns-in-Ok-clause-pivoted : goal.returns-in-Ok-clause-pivoted
-returns-in-Ok-clause-pivoted c =
-    let all = (goal.at.returns-in-Ok-clause-pivoted c).After-index_mut-in-Ok in
-    subst (λ (d : Dictionary). IsPivot d c.args.row c.args.col (after all c.copy_from_slice.new.self.items))
-    c.self.view_is (pivoted all).0
+returns-in-Ok-clause-pivoted c = (pivoted (goal.at.returns-in-Ok-clause-pivoted c).After-index_mut-in-Ok).0
