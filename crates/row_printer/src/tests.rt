@@ -29,57 +29,23 @@ fn listing(out: &mut MemSink, kind: Kind, rows: &[[i128; 4]]) -> Result<(), Writ
     listing.finish(out)
 }
 
-/// A listing of one line and some rows, the calls of its sink, how it ends, and what is written.
-#[derive(Clone, Copy)]
-struct Case {
-    name: &'static str,
-    kind: Kind,
-    rows: &'static [[i128; 4]],
-    calls: &'static [Call],
-    end: Result<(), WriteFault>,
-    text: &'static str,
-}
-
-const VERTICES: Case = Case {
-    name: "vertices and a ray",
-    kind: Kind::H,
-    rows: &[[2, 4, -1, 0], [6, 4, -9, 6], [0, 2, -4, 1]],
-    calls: &[],
-    end: Ok(()),
-    text: "V-representation\nlinearity 1 1\nbegin\n***** 4 rational\n 0 0 0 1\n 1 2 -1/2 0\n 1 2/3 -3/2 1\n 0 2 -4 1\nend\n",
-};
-
-const CASES: [Case; 3] = [
-    VERTICES,
-    Case {
-        name: "facets",
-        kind: Kind::V,
-        text: "H-representation\nlinearity 1 1\nbegin\n***** 4 rational\n 0 0 0 1\n 2 4 -1 0\n 6 4 -9 6\n 0 2 -4 1\nend\n",
-        ..VERTICES
-    },
-    Case {
-        name: "the third write fails",
-        kind: Kind::V,
-        rows: &[],
-        calls: &[Call::AtMost(99), Call::AtMost(3), Call::Fail],
-        end: Err(WriteFault),
-        text: "H-representation\nlin",
-    },
-];
-
 #[test]
 fn prints_listings(rt: HostRuntime) -> Result<(), Fail> {
-    for case in CASES {
-        let mut out = MemSink::new(rt.alloc(), case.calls);
-        let end = listing(&mut out, case.kind, case.rows);
-        let found = (end, out.written());
-        assert_eq!(rt; found, (case.end, case.text.as_bytes()), "{}", case.name);
+    let rows = [[2, 4, -1, 0], [6, 4, -9, 6], [0, 2, -4, 1]];
+    let vertices = "V-representation\nlinearity 1 1\nbegin\n***** 4 rational\n 0 0 0 1\n \
+                    1 2 -1/2 0\n 1 2/3 -3/2 1\n 0 2 -4 1\nend\n";
+    let facets = "H-representation\nlinearity 1 1\nbegin\n***** 4 rational\n 0 0 0 1\n \
+                  2 4 -1 0\n 6 4 -9 6\n 0 2 -4 1\nend\n";
+    for (kind, text) in [(Kind::H, vertices), (Kind::V, facets)] {
+        let mut out = MemSink::new(rt.alloc(), &[]);
+        assert_eq!(rt; listing(&mut out, kind, rows.as_slice()), Ok(()));
+        assert_eq!(rt; out.written(), text.as_bytes());
     }
     Ok(())
 }
 
 #[test]
-fn prints_heads(rt: HostRuntime) {
+fn prints_heads_and_stops_at_a_fault(rt: HostRuntime) -> Result<(), Fail> {
     let heads = [
         (0, "V-representation\nbegin\n***** 7 rational\n"),
         (
@@ -89,11 +55,12 @@ fn prints_heads(rt: HostRuntime) {
     ];
     for (lines, text) in heads {
         let mut out = MemSink::new(rt.alloc(), &[]);
-        let is_printed = Listing::head(&mut out, Kind::H, 7, lines).is_ok();
-        assert_eq!(rt;
-            (is_printed, out.written()),
-            (true, text.as_bytes()),
-            "{lines}"
-        );
+        assert!(rt; Listing::head(&mut out, Kind::H, 7, lines).is_ok());
+        assert_eq!(rt; out.written(), text.as_bytes());
     }
+    let table = [Call::AtMost(99), Call::AtMost(3), Call::Fail];
+    let mut out = MemSink::new(rt.alloc(), table.as_slice());
+    assert_eq!(rt; listing(&mut out, Kind::V, [].as_slice()), Err(WriteFault));
+    assert_eq!(rt; out.written(), b"H-representation\nlin".as_slice());
+    Ok(())
 }
