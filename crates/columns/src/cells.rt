@@ -132,7 +132,7 @@ impl Cells {
 }
 
 // Whether all words fit half a machine word.
-fn are_halves(words: &[Word]) -> bool
+pub(crate) fn are_halves(words: &[Word]) -> bool
     ensures { IsTrue result → AreHalvesTo (length words.now) words.now }
 {
     'cells: for k in 0..words.len() {

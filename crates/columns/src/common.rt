@@ -10,7 +10,7 @@ use crate::cells::Cells;
 use crate::exchange::{Exchange, word_at};
 use crate::parts::Factors;
 use poly_num::{Num, add, gcd, neg, quotient};
-use words::Word;
+use words::{Word, WordDivisor};
 
 // Whether the number is 1.
 #[inline(always)]
@@ -32,8 +32,58 @@ pub(crate) fn common_with(common: Num, c: Num) -> Num
     gcd(c, common)
 }
 
+// The greatest common divisor of a divisor and a word; no division is made where the first divides.
+#[inline(always)]
+fn shared(divisor: WordDivisor, c: Word) -> Option<WordDivisor>
+    ensures { IfSome result (λ g. IsGcdOf divisor c g) }
+{
+    match divisor.exact(c) {
+        Some(_) => Some(divisor),
+        None => less(&divisor, c),
+    }
+}
+
+// The same where it does not divide.
+#[cold]
+#[inline(never)]
+fn less(divisor: &WordDivisor, c: Word) -> Option<WordDivisor>
+    ensures { IfSome result (λ g. IsGcdOf divisor.now c g) }
+{
+    positive_word(gcd(c.wide(), divisor.word().wide()))
+}
+
+// The divisor of this value; `None` where it is no positive word.
+fn positive_word(n: Num) -> Option<WordDivisor>
+    ensures { IfSome result (λ g. g ≡ n) }
+{
+    if !n.is_positive() {
+        return None;
+    }
+    match Word::of(n) {
+        Some(word) => Some(WordDivisor::new(word)),
+        None => None,
+    }
+}
+
+// The greatest common divisor of the denominator and of the words of the exchange's column and row.
+fn word_factor(cells: &[Word], x: &Exchange) -> Option<Num>
+    requires { AllowsExchange x.now cells.now }
+    ensures { IfSome result (λ h. IsCommonFactor x.now cells.now x.now.height x.now.width h) }
+{
+    let v = word_at(cells, x, x.row, x.column).wide();
+    let mut common = positive_word(gcd(x.denominator, v))?;
+    // common = the greatest common divisor of common and c
+    'rows: for i in 0..x.height {
+        common = shared(common, word_at(cells, x, i, x.column))?;
+    }
+    'columns: for j in 0..x.width {
+        common = shared(common, word_at(cells, x, x.row, j))?;
+    }
+    Some(common.word().wide())
+}
+
 // The greatest common divisor of the denominator and of the cells of the exchange's column and row.
-fn common_factor(cells: &Cells, x: &Exchange) -> Num
+fn wide_factor(cells: &Cells, x: &Exchange) -> Num
     requires { AllowsExchange x.now cells.now }
     ensures { IsCommonFactor x.now cells.now x.now.height x.now.width result }
 {
@@ -50,6 +100,19 @@ fn common_factor(cells: &Cells, x: &Exchange) -> Num
         common = common_with(common, c);
     }
     common
+}
+
+// The same, by words where the cells are.
+fn common_factor(cells: &Cells, x: &Exchange) -> Num
+    requires { AllowsExchange x.now cells.now }
+    ensures { IsCommonFactor x.now cells.now x.now.height x.now.width result }
+{
+    if !cells.is_wide
+        && let Some(common) = word_factor(&cells.words, x)
+    {
+        return common;
+    }
+    wide_factor(cells, x)
 }
 
 // 1 or -1.
@@ -107,6 +170,16 @@ fn word_sum(a: Num, b: Num) -> Option<Word>
     }
 }
 
+// The word with a sign.
+#[inline(always)]
+fn turned_word(a: Word, positive: bool, sign: Num) -> Word
+    requires sign { unsigned_abs sign ≡ 1 }
+    requires positive { IsTrue positive ↔ (pos 0 <ℤ sign) }
+    ensures { result ≡ sign *ℤ a }
+{
+    if positive { a } else { a.negated() }
+}
+
 // The cells of the exchange's column with the sign, over the common factor. Whether all fit.
 fn column_over(cells: &[Word], own: &mut [Word], x: &Exchange, factors: &Factors) -> bool
     requires can { AllowsExchange x.now cells.now }
@@ -114,11 +187,14 @@ fn column_over(cells: &[Word], own: &mut [Word], x: &Exchange, factors: &Factors
     requires factors { AreFactors x.now cells.now factors.now }
     ensures over { IsTrue result → IsColumnOver x.now cells.now factors.now x.now.height own.new }
 {
+    let Some(common) = positive_word(factors.common) else {
+        return false;
+    };
+    let positive = factors.sign.is_positive();
     // own(i) = sign cell(i, column) / common
     'cells: for i in 0..x.height {
-        let c = word_at(cells, x, i, x.column).wide();
-        match Word::of(signed_over(c, factors.sign, factors.common)) {
-            Some(q) => own[i] = q,
+        match common.exact(word_at(cells, x, i, x.column)) {
+            Some(q) => own[i] = turned_word(q, positive, factors.sign),
             None => return false,
         }
     }

@@ -5,7 +5,7 @@ ghost use Rattle.columns.specs.Cells.{AllowsExchange, IsTableAfter, ExchangePass
 ghost use Rattle.poly_num.specs.Halves.{IsHalf};
 ghost use Rattle.columns.specs.Steps.{AreFactors, AreWordParts};
 
-use crate::cells::Cells;
+use crate::cells::{Cells, are_halves};
 use crate::common::{factors_of, own_of, wide_own_of};
 use crate::exchange::{Exchange, Passing, at_place};
 use crate::into::exchange_into;
@@ -96,7 +96,7 @@ impl Cells {
         self.halves = false;
         match exchange_into(cells, parts, &mut self.words) {
             Some(written) => {
-                self.halves = written.halves;
+                self.halves = written.halves || are_halves(&self.words);
                 Some(written.denominator.wide())
             }
             None => None,

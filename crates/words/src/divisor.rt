@@ -70,6 +70,16 @@ impl WordDivisor {
         self.tested_quotient(full_cross(a, p, c, b))
     }
 
+    /// `a` over the divisor, where that divides it; `None` says nothing.
+    #[inline(always)]
+    pub fn exact(&self, a: Word) -> Option<Word>
+        ensures quotient { IfSome result (λ q. q *ℤ self.now ≡ a) }
+        ensures positive { pos 0 <ℤ self.now }
+    {
+        let _ = &self.value;
+        self.tested_quotient(a.value as i128)
+    }
+
     // The number over the divisor, where that is a word; `None` says nothing.
     #[inline(always)]
     fn tested_quotient(&self, n: i128) -> Option<Word>

@@ -62,6 +62,21 @@ fn exact_quotients(rt: HostRuntime) {
 }
 
 #[test]
+fn exact_quotients_of_words(rt: HostRuntime) {
+    let table = [
+        (-36, 12, Some(-3)),
+        (0, 12, Some(0)),
+        (18, 12, None),
+        (-(1 << 62), 1, Some(-(1 << 62))),
+    ];
+    for (a, d, want) in table {
+        let found = WordDivisor::new(positive(d)).exact(word(a));
+        assert_eq!(rt; value_of(found), want, "{a} over {d}");
+    }
+    assert_eq!(rt; word(-7).negated().wide().get(), 7);
+}
+
+#[test]
 fn exact_quotients_of_halves(rt: HostRuntime) {
     let table = [
         (5, 6, 2, 3, 12, Some(2)),

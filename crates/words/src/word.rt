@@ -1,6 +1,6 @@
 //! Whole numbers of one machine word, and their products.
 ghost use Rattle.std.specs.Option.{IfSome, SomeIff};
-ghost use Rattle.std.specs.Prelude.{◌≡◌, ◌*ℤ◌, ◌-ℤ◌, ◌↔◌, IsTrue};
+ghost use Rattle.std.specs.Prelude.{◌≡◌, ◌*ℤ◌, ◌-ℤ◌, ◌↔◌, neg_ℤ, IsTrue};
 ghost use Rattle.poly_num.specs.Halves.{IsHalf};
 ghost use Rattle.poly_num.specs.Numbers.{IsNum, IsWord};
 
@@ -57,6 +57,14 @@ impl Word {
         } else {
             None
         }
+    }
+
+    /// The word with the other sign.
+    #[inline(always)]
+    pub fn negated(self) -> Word
+        ensures { result ≡ neg_ℤ self }
+    {
+        Word { value: -self.value }
     }
 
     /// Whether the word fits half a machine word.

@@ -1,5 +1,5 @@
 use Rattle.columns.specs.Steps.{IsCommonFactor}
-use Rattle.columns.proofs.common.common_factor.Given as goal
+use Rattle.columns.proofs.common.wide_factor.Given as goal
 
 abbrev pub invariant-rows : goal.invariant-rows
 invariant-rows l = IsCommonFactor l.x l.cells l.i 0 l.common

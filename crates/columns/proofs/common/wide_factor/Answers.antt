@@ -1,7 +1,7 @@
 use Rattle.std.proofs.Common.{ℤ, subst}
 use Rattle.poly_num.specs.Divisors.{IsGcdOf}
 use Rattle.columns.proofs.CommonFactors.{factor_start, factor_column, factor_row}
-use Rattle.columns.proofs.common.common_factor.Goals as goal
+use Rattle.columns.proofs.common.wide_factor.Goals as goal
 
 pub rows-init : goal.rows-init
 rows-init c =

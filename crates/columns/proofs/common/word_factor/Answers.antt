@@ -1,0 +1,33 @@
+use Rattle.std.proofs.Common.{rules, ◌≡◌, ℕ, ℤ, sym, subst, ◌∙◌}
+use Rattle.poly_num.specs.Divisors.{IsGcdOf}
+use Rattle.columns.specs.Steps.{IsCommonFactor}
+use Rattle.columns.proofs.CommonFactors.{factor_start, factor_column, factor_row}
+use Rattle.columns.proofs.common.word_factor.Goals as goal
+
+pub rows-init : goal.rows-init
+rows-init c =
+    let x = c.args.x.now in
+    let g = c.gcd.result in
+    let is = subst (λ (z : ℤ). IsGcdOf x.denominator z g) (c.wide-v.ensures.value ∙ c.word_at.ensures)
+    c.gcd.ensures.divisor in
+    subst (λ (z : ℤ). IsCommonFactor x c.args.cells.now 0 0 z) (sym c.in_ok-common.ensures)
+    (factor_start x c.args.cells.now g c.requires.denominator is)
+
+pub rows-preserved : goal.rows-preserved
+rows-preserved c =
+    factor_column c.args.x.now c.args.cells.now c.rows.i 0 c.rows.common c.word_at-in-rows.result
+    c.in_ok-common-2.common c.in_ok-common-2.ensures c.rows.invariant c.word_at-in-rows.ensures
+
+pub columns-preserved : goal.columns-preserved
+columns-preserved c =
+    let x = c.args.x.now in
+    factor_row x c.args.cells.now x.height c.columns.j c.columns.common c.word_at-in-columns.result
+    c.in_ok-common-3.common c.in_ok-common-3.ensures c.columns.invariant c.word_at-in-columns.ensures
+
+pub returns : goal.returns
+returns c =
+    let x = c.args.x.now in
+    let all : c.columns.j ≡ x.width = search rules in
+    subst (λ (n : ℕ). IsCommonFactor x c.args.cells.now x.height n c.wide.result) all
+    (subst (λ (z : ℤ). IsCommonFactor x c.args.cells.now x.height c.columns.j z)
+    (sym (c.wide.ensures.value ∙ c.word.ensures.value)) c.columns.invariant)
