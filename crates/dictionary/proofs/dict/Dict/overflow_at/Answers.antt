@@ -1,4 +1,4 @@
-use Rattle.std.proofs.Common.{◌≡◌, subst}
+use Rattle.std.proofs.Common.{subst}
 use Rattle.columns.specs.declared.exchange.Passing.{Passing}
 use Rattle.columns.specs.Cells.{ExchangePasses}
 use Rattle.dictionary.specs.Views.{Dictionary, IsWhole, exchange_at}
