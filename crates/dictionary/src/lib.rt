@@ -8,7 +8,9 @@ mod overflow;
 mod pivot;
 mod places;
 mod rooms;
+mod steps;
 #[cfg(test)]
 mod tests;
 
 pub use dict::Dict;
+pub use steps::Steps;
