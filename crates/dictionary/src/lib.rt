@@ -10,8 +10,10 @@ mod pivot;
 mod places;
 mod positions;
 mod rooms;
+mod steps;
 #[cfg(test)]
 mod tests;
 
 pub use dict::Dict;
 pub use positions::Position;
+pub use steps::Steps;

@@ -1,15 +1,16 @@
 //! Pivots: a label outside the cobasis takes the place of one inside.
-ghost use Rattle.std.specs.Prelude.{◌≡◌, ◌≢◌, ◌↔◌, IsTrue, IsOk, IfOk, IfErr, length};
+ghost use Rattle.std.specs.Prelude.{◌≡◌, ◌≢◌, ◌↔◌, ◌+◌, IsTrue, IsOk, IfOk, IfErr, MatchResult, length};
 ghost use Rattle.std.specs.List.{Contains};
 ghost use Rattle.dictionary.specs.Views.{exchange_at, CanPivot, IsPivot, IsOverflow, NothingPasses};
 
-use crate::Dict;
 use crate::places::place_of;
 use crate::positions::{exchange_positions, write_positions};
+use crate::{Dict, Steps};
 use columns::{Exchange, exchange_cells};
 use poly_model::{Label, Overflow};
 use poly_num::Num;
 use std::mem::swap;
+use std::sync::ledger::Ledger;
 
 impl Dict {
     /// Whether `row` can take the place of `col`: it is a label outside the cobasis, `col` is in it, and
@@ -26,17 +27,25 @@ impl Dict {
     /// Exchanges `row`, which is outside the cobasis, for `col`, which is in it. Takes no memory.
     ///
     /// The new numbers are written into a room of their own. Where a product or a difference of two that the pivot
-    /// needs has no 127 bits, the answer names the dictionary and its places, and nothing has changed.
-    pub fn pivot(&mut self, row: Label, col: Label) -> Result<(), Overflow>
+    /// needs has no 127 bits, the answer names the dictionary and its places, and nothing has changed. `steps` rises by one
+    /// where the pivot is carried out.
+    pub fn pivot<L: Ledger>(
+        &mut self,
+        row: Label,
+        col: Label,
+        steps: &mut Steps<L>,
+    ) -> Result<(), Overflow>
         requires { CanPivot self.old row col }
         ensures pivoted { IfOk result (λ _. IsPivot self.old row col self.new) }
         ensures unchanged { IfErr result (λ _. self.new ≡ self.old) }
         ensures passes { IfErr result (λ o. IsOverflow self.old row col o) }
         ensures complete { NothingPasses self.old row col → IsOk result }
+        ensures counted { MatchResult result (λ _. steps.new ≡ steps.old + 1) (λ _. steps.new ≡ steps.old) }
     {
         let x = self.exchange_of(row, col);
         match exchange_cells(&self.cells, &mut self.own, &mut self.spare, &x) {
             Ok(denominator) => {
+                steps.tick();
                 swap(&mut self.cells, &mut self.spare);
                 self.denominator = denominator;
                 let at = place_of(self.key.labels(), col);
@@ -51,7 +60,13 @@ impl Dict {
     }
 
     /// The same into another dictionary of the same shape, which is written over; this one stays. Takes no memory.
-    pub fn pivot_into(&self, to: &mut Dict, row: Label, col: Label) -> Result<(), Overflow>
+    pub fn pivot_into<L: Ledger>(
+        &self,
+        to: &mut Dict,
+        row: Label,
+        col: Label,
+        steps: &mut Steps<L>,
+    ) -> Result<(), Overflow>
         requires can { CanPivot self.now row col }
         requires rows { length to.old.labels ≡ length self.now.labels }
         requires columns { length to.old.columns ≡ length self.now.columns }
@@ -59,10 +74,12 @@ impl Dict {
         ensures unchanged { IfErr result (λ _. to.new ≡ to.old) }
         ensures passes { IfErr result (λ o. IsOverflow self.now row col o) }
         ensures complete { NothingPasses self.now row col → IsOk result }
+        ensures counted { MatchResult result (λ _. steps.new ≡ steps.old + 1) (λ _. steps.new ≡ steps.old) }
     {
         let x = self.exchange_of(row, col);
         match exchange_cells(&self.cells, &mut to.own, &mut to.spare, &x) {
             Ok(denominator) => {
+                steps.tick();
                 swap(&mut to.cells, &mut to.spare);
                 to.denominator = denominator;
                 to.phase = self.phase;

@@ -2,13 +2,15 @@
 ghost use Rattle.std.specs.Prelude.{◌≡◌, ◌<◌, IfOk, length};
 ghost use Rattle.poly_model.specs.Labels.{coordinates_from};
 
-use crate::Dict;
+use crate::{Dict, Steps};
 use poly_model::{
     FreeColumns, Key, Kind, Label, MOST_COLUMNS, OutOfMemory, Overflow, Phase, Place, RowKind,
     System,
 };
 use poly_num::Num;
 use std::alloc::Global;
+use std::marker::Brand;
+use std::sync::ledger::{Blank, Ledger};
 use std::test::Fail;
 
 /// Two rows of three numbers, an exchange, and the dictionary after it: its key, its denominator, and
@@ -87,8 +89,19 @@ fn entry(dict: &Dict, row: Label, col: Label) -> Option<i128> {
 }
 
 fn pivot(dict: &mut Dict, row: Label, col: Label) -> Option<Result<(), Overflow>> {
+    pivot_counted::<Brand>(dict, row, col, Blank::new(1))
+}
+
+fn pivot_counted<L: Ledger>(
+    dict: &mut Dict,
+    row: Label,
+    col: Label,
+    blank: Blank,
+) -> Option<Result<(), Overflow>>
+    requires blank { (blank.name ≡ L.name) × (blank.parts ≡ L.parts) × (0 < blank.parts) }
+{
     if dict.can_pivot(row, col) {
-        Some(dict.pivot(row, col))
+        Some(dict.pivot(row, col, &mut Steps::<L>::new(blank)))
     } else {
         None
     }
@@ -96,10 +109,21 @@ fn pivot(dict: &mut Dict, row: Label, col: Label) -> Option<Result<(), Overflow>
 
 /// The dictionary after a pivot into another one, which was a copy.
 fn pivoted(dict: &Dict, row: Label, col: Label) -> Result<Dict, OutOfMemory> {
+    pivoted_counted::<Brand>(dict, row, col, Blank::new(1))
+}
+
+fn pivoted_counted<L: Ledger>(
+    dict: &Dict,
+    row: Label,
+    col: Label,
+    blank: Blank,
+) -> Result<Dict, OutOfMemory>
+    requires blank { (blank.name ≡ L.name) × (blank.parts ≡ L.parts) × (0 < blank.parts) }
+{
     let mut to = dict.copy()?;
     dict.copy_into(&mut to);
     if dict.can_pivot(row, col) {
-        let _ = dict.pivot_into(&mut to, row, col);
+        let _ = dict.pivot_into(&mut to, row, col, &mut Steps::<L>::new(blank));
     }
     Ok(to)
 }

@@ -6,10 +6,12 @@ ghost use Rattle.hull_lift.specs.Facets.{IsColumn, HasPointRows};
 
 use crate::tests::poly_of;
 use crate::{facet_row, is_shown, system_of};
-use dictionary::Dict;
+use dictionary::{Dict, Steps};
 use poly_model::{Kind, Label, OutOfMemory, Phase, System};
 use poly_num::Num;
 use std::alloc::Global;
+use std::marker::Brand;
+use std::sync::ledger::{Blank, Ledger};
 use std::test::Fail;
 
 /// A label, for tables that are constants.
@@ -179,6 +181,18 @@ fn label_of(named: Named) -> Option<Label> {
 }
 
 fn dictionary_at(alloc: Global, sys: &System, exchanges: &[[u32; 2]]) -> Result<Dict, Fail> {
+    dictionary_counted::<Brand>(alloc, sys, exchanges, Blank::new(1))
+}
+
+fn dictionary_counted<L: Ledger>(
+    alloc: Global,
+    sys: &System,
+    exchanges: &[[u32; 2]],
+    blank: Blank,
+) -> Result<Dict, Fail>
+    requires blank { (blank.name ≡ L.name) × (blank.parts ≡ L.parts) × (0 < blank.parts) }
+{
+    let mut steps = Steps::<L>::new(blank);
     let mut dict = match sys.kind() {
         Kind::H => Dict::new(alloc, sys, Phase::Prepare)?,
         Kind::V => Dict::new(alloc, sys, Phase::Cone)?,
@@ -189,7 +203,7 @@ fn dictionary_at(alloc: Global, sys: &System, exchanges: &[[u32; 2]]) -> Result<
         if !dict.can_pivot(row, col) {
             return Err("an exchange of a row and a column")?;
         }
-        if dict.pivot(row, col).is_err() {
+        if dict.pivot(row, col, &mut steps).is_err() {
             return Err("small numbers")?;
         }
     }

@@ -11,8 +11,10 @@ ghost use Rattle.linearity.specs.Columns.{IsLeastColumn, IsZeroAtCoordinates};
 ghost use Rattle.linearity.specs.Elimination.{IsDictionaryOf, IsEliminated, tries_others};
 ghost use Rattle.linearity.specs.Turns.{KeepsShape, OverflowsFor, IsEntered, Eliminates, StopsAt};
 
-use dictionary::Dict;
+use dictionary::{Dict, Steps};
 use poly_model::{Label, Overflow, System};
+use std::marker::Brand;
+use std::sync::ledger::{Blank, Ledger};
 
 /// Which rows a pass of elimination tries.
 #[derive(Clone, Copy, PartialEq, Eq, Debug)]
@@ -64,16 +66,18 @@ fn least_column(dict: &Dict, row: Label) -> Option<Label>
     None
 }
 
-// A row enters the cobasis for that coordinate, where there is one. Where the pivot overflows, nothing has changed.
-fn enter(dict: &mut Dict, row: Label) -> Result<(), Overflow>
+// A row enters the cobasis for that coordinate, where there is one. Where the pivot overflows, nothing has changed. The
+// blank is for the pivot's counter, of which nothing is said.
+fn enter<L: Ledger>(dict: &mut Dict, row: Label, blank: Blank) -> Result<(), Overflow>
     requires label { Contains dict.old.labels row }
     requires row { IsRow row }
+    requires blank { (blank.name ≡ L.name) × (blank.parts ≡ L.parts) × (0 < blank.parts) }
     ensures entered { IfOk result (λ _. IsEntered dict.old row dict.new) }
     ensures unchanged { IfErr result (λ _. dict.new ≡ dict.old) }
     ensures overflows { IfErr result (λ o. (k : ℕ) × OverflowsFor dict.old row k o) }
 {
     match least_column(dict, row) {
-        Some(col) => dict.pivot(row, col),
+        Some(col) => dict.pivot(row, col, &mut Steps::<L>::new(blank)),
         None => Ok(()),
     }
 }
@@ -105,7 +109,7 @@ fn try_row(dict: &mut Dict, sys: &System, i: u32, pass: Pass) -> Result<(), Over
     ensures phase { (o : Passed) → IsErrOf result o → o.phase ≡ dict.old.phase }
 {
     if is_tried(dict, sys, i, pass) {
-        enter(dict, Label::row(i))
+        enter::<Brand>(dict, Label::row(i), Blank::new(1))
     } else {
         Ok(())
     }

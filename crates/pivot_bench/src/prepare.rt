@@ -1,13 +1,15 @@
 //! A dictionary of rows at random, with numbers as large as is asked.
-ghost use Rattle.std.specs.Prelude.{◌<◌};
+ghost use Rattle.std.specs.Prelude.{◌≡◌, ◌<◌};
 
 use crate::plan::{Entries, Plan};
 use crate::random::Random;
 use crate::table::Table;
-use dictionary::Dict;
+use dictionary::{Dict, Steps};
 use poly_model::{Kind, Label, OutOfMemory, Overflow, Phase, RowKind, System};
 use poly_num::{Num, neg};
 use std::alloc::Global;
+use std::marker::Brand;
+use std::sync::ledger::{Blank, Ledger};
 
 /// A dictionary of rows at random, in which rows took the places of coordinates until its largest number
 /// has the bits of the plan, or none is left.
@@ -36,10 +38,22 @@ pub fn drawn(alloc: Global, plan: &Plan, random: &mut Random) -> Result<Dict, Ou
 /// Exchanges a label outside the cobasis for one in it, and says whether the two can be exchanged. All
 /// pivots are done here.
 pub fn exchange(dict: &mut Dict, outside: Label, inside: Label) -> Result<bool, Overflow> {
+    exchange_counted::<Brand>(dict, outside, inside, Blank::new(1))
+}
+
+// The same with a blank for the pivot's counter, of which nothing is said.
+fn exchange_counted<L: Ledger>(
+    dict: &mut Dict,
+    outside: Label,
+    inside: Label,
+    blank: Blank,
+) -> Result<bool, Overflow>
+    requires blank { (blank.name ≡ L.name) × (blank.parts ≡ L.parts) × (0 < blank.parts) }
+{
     if !dict.can_pivot(outside, inside) {
         return Ok(false);
     }
-    dict.pivot(outside, inside)?;
+    dict.pivot(outside, inside, &mut Steps::<L>::new(blank))?;
     Ok(true)
 }
 

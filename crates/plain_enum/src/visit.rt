@@ -17,9 +17,11 @@ use crate::begin::Room;
 use crate::prefix::{Ended, Prefix};
 use crate::shown::{shown_side, write_direction};
 use crate::side::{column_of, left_coordinate};
-use dictionary::Dict;
+use dictionary::{Dict, Steps};
 use poly_model::{Label, Overflow};
 use poly_num::Num;
+use std::marker::Brand;
+use std::sync::ledger::{Blank, Ledger};
 
 /// What is done at each vector that a search finds. It works on an `O`, and may end the search with an `E`.
 pub trait Visit<O, E>: Drop {
@@ -71,7 +73,25 @@ fn take_row(dict: &Dict, row: Label, col: Label, next: &mut Dict) -> Result<(), 
     ensures passes { IfErr result (λ o. IsOverflow dict.now row col o) }
     ensures shape { HasShapeOf dict.now next.new }
 {
-    dict.pivot_into(next, row, col)
+    take_row_counted::<Brand>(dict, row, col, next, Blank::new(1))
+}
+
+// The same with a blank for the pivot's counter, of which nothing is said.
+fn take_row_counted<L: Ledger>(
+    dict: &Dict,
+    row: Label,
+    col: Label,
+    next: &mut Dict,
+    blank: Blank,
+) -> Result<(), Overflow>
+    requires can { CanPivot dict.now row col }
+    requires shape { HasShapeOf dict.now next.old }
+    requires blank { (blank.name ≡ L.name) × (blank.parts ≡ L.parts) × (0 < blank.parts) }
+    ensures pivoted { IfOk result (λ _. IsPivot dict.now row col next.new) }
+    ensures passes { IfErr result (λ o. IsOverflow dict.now row col o) }
+    ensures shape { HasShapeOf dict.now next.new }
+{
+    dict.pivot_into(next, row, col, &mut Steps::<L>::new(blank))
 }
 
 /// Visits the vectors under a prefix of rows: those whose first list of tight rows has, of the rows before the prefix's

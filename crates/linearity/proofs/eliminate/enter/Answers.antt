@@ -3,7 +3,7 @@ use Rattle.std.proofs.lemmas.Result.{IfOk-weaker, IfErr-weaker}
 use Rattle.linearity.proofs.eliminate.enter.Goals as goal
 
 pub returns-in-Some-clause-entered : goal.returns-in-Some-clause-entered
-returns-in-Some-clause-entered c =
+returns-in-Some-clause-entered g c =
     IfOk-weaker c.pivot.result _ _
     (λ _ p. inl (
       c.in-Some.col,
@@ -12,7 +12,7 @@ returns-in-Some-clause-entered c =
     c.pivot.ensures.pivoted
 
 pub returns-in-Some-clause-overflows : goal.returns-in-Some-clause-overflows
-returns-in-Some-clause-overflows c =
+returns-in-Some-clause-overflows g c =
     IfErr-weaker c.pivot.result _ _
     (λ o h. (c.in-Some.col, record { column = c.in-Some.ensures.some; can = c.in-Some.ensures.pivots; overflow = h }))
     c.pivot.ensures.passes

@@ -5,6 +5,7 @@ use Rattle.dictionary_laws.specs.Keys.{place_in}
 use Rattle.columns.specs.Cells.{AllowsExchange}
 use Rattle.dictionary.specs.Views.{Dictionary, IsPivot, IsWhole}
 use Rattle.dictionary.proofs.CarriedOut.{allows_exchange, column_bound, row_bound, carried_out}
+use Rattle.dictionary.proofs.dict.Dict.pivot.Given.{Over}
 use Rattle.dictionary.proofs.dict.Dict.pivot.Goals.{After-index_mut-in-Ok}
 use Rattle.std.proofs.lemmas.List.{with_items_is}
 use Rattle.dictionary.specs.declared.positions.Position.TheVariants.{Row, Column}
@@ -13,29 +14,29 @@ use Rattle.dictionary.proofs.PositionsAfter.{positions_after}
 use Rattle.dictionary.proofs.dict.Dict.pivot.Goals as goal
 
 pub exchange_cells-requires-clause-can : goal.exchange_cells-requires-clause-can
-exchange_cells-requires-clause-can c =
+exchange_cells-requires-clause-can g c =
     let whole = subst (λ (d : Dictionary). IsWhole d) c.self.view_is c.self.invariant.2 in
     subst (λ (v : List ℤ). AllowsExchange c.exchange_of-x.result v)
     (ap (λ (d : Dictionary). d.cells) (sym c.self.view_is))
     (rw (c.exchange_of-x.ensures) (allows_exchange c.args.self.now c.args.row c.args.col whole c.requires))
 
 pub index_mut-requires : goal.index_mut-requires
-index_mut-requires c =
+index_mut-requires g c =
     column_bound c.args.self.now c.args.row c.args.col
     (subst (λ (d : Dictionary). IsWhole d) c.self.view_is c.self.invariant.2) c.requires c.exchange_of-x.result
     c.exchange_of-x.ensures _
     (ap (λ (d : Dictionary). length d.columns) (sym c.self.view_is) ∙ sym c.self.inside.columns.ok.0)
 
 pub index_mut-requires-in-Ok : goal.index_mut-requires-in-Ok
-index_mut-requires-in-Ok c =
+index_mut-requires-in-Ok g c =
     row_bound c.args.self.now c.args.row c.args.col
     (subst (λ (d : Dictionary). IsWhole d) c.self.view_is c.self.invariant.2) c.requires c.exchange_of-x.result
     c.exchange_of-x.ensures _
     (ap (λ (d : Dictionary). length d.rows) (sym c.self.view_is) ∙ sym c.self.inside.rows.ok.0)
 
 -- what the fields hold after the pivot
-abbrev after : (c : After-index_mut-in-Ok) → Dictionary
-after c = let v = c.self.inside in record {
+abbrev after : (g : Over) (c : After-index_mut-in-Ok g) → Dictionary
+after g c = let v = c.self.inside in record {
   phase = v.phase;
   labels = v.labels.items;
   key = c.exchange_at.new.self;
@@ -45,8 +46,8 @@ after c = let v = c.self.inside in record {
   cells = c.swap.new.x;
 }
 
-pivoted : (c : After-index_mut-in-Ok) → IsPivot c.args.self.now c.args.row c.args.col (after c) × IsWhole (after c)
-pivoted c =
+pivoted : (g : Over) (c : After-index_mut-in-Ok g) → IsPivot c.args.self.now c.args.row c.args.col (after g c) × IsWhole (after g c)
+pivoted g c =
     let row = c.args.row in
     let col = c.args.col in
     let view = c.self.view_is in
@@ -54,7 +55,7 @@ pivoted c =
     let keys = c.labels.ensures.value ∙ ap (λ (d : Dictionary). d.key) view in
     carried_out c.args.self.now row col (subst (λ (d : Dictionary). IsWhole d) view c.self.invariant.2) c.requires x
     c.exchange_of-x.ensures c.self.inside.cells _ (ap (λ (d : Dictionary). d.cells) view) c.in-Ok.denominator
-    c.in-Ok.ensures.exchanged (after c).phase (after c).labels (after c).key (after c).columns (after c).rows c.swap.new.x
+    c.in-Ok.ensures.exchanged (after g c).phase (after g c).labels (after g c).key (after g c).columns (after g c).rows c.swap.new.x
     (ap (λ (d : Dictionary). d.phase) view) (ap (λ (d : Dictionary). d.labels) view)
     (c.exchange_at.ensures
     ∙ ap (λ i. with_label row (remove c.self.inside.key i)) (c.place_of-at.ensures.value ∙ ap (λ ks. place_in ks col) keys)
@@ -63,15 +64,15 @@ pivoted c =
     (ap (λ (d : Dictionary). set d.rows x.row col) view) c.swap.ensures.x_after
 
 pub exchange_positions-requires-clause-entering : goal.exchange_positions-requires-clause-entering
-exchange_positions-requires-clause-entering c =
+exchange_positions-requires-clause-entering g c =
     let below = subst (λ (d : Dictionary). AreBelow d.labels label_count) c.self.view_is c.self.invariant.3 in
     let l = below c.args.row c.requires.label in
     let room = ap length c.deref_mut.ensures.value ∙ c.self.invariant.4.room in
     omega (arith, l, room)
 
 pub invariant_of-self : goal.invariant_of-self
-invariant_of-self c =
-    let all = (goal.at.invariant_of-self c).After-index_mut-in-Ok in
+invariant_of-self g c =
+    let all = (goal.at.invariant_of-self g c).After-index_mut-in-Ok in
     let row = c.args.row in
     let col = c.args.col in
     let v = c.self.inside in
@@ -91,7 +92,7 @@ invariant_of-self c =
       ap length c.swap.ensures.y_after ∙ sym c.self.invariant.0 ∙ sym c.exchange_cells.ensures.room
           ∙ ap length (sym c.swap.ensures.x_after),
       c.exchange_cells.ensures.own ∙ c.self.invariant.1 ∙ sym (length-set v.rows.items x.row col),
-      (pivoted all).1,
+      (pivoted g all).1,
       c.self.invariant.3,
       rw (written, new)
           (subst (λ (d : Dictionary). ArePositions (set d.rows x.row col) (set d.columns (x.column - 1) row) after)
@@ -99,4 +100,4 @@ invariant_of-self c =
     )
 
 pub returns-in-Ok-clause-pivoted : goal.returns-in-Ok-clause-pivoted
-returns-in-Ok-clause-pivoted c = (pivoted (goal.at.returns-in-Ok-clause-pivoted c).After-index_mut-in-Ok).0
+returns-in-Ok-clause-pivoted g c = (pivoted g (goal.at.returns-in-Ok-clause-pivoted g c).After-index_mut-in-Ok).0
