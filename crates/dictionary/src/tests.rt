@@ -305,12 +305,12 @@ fn asks_for_no_square_of_the_denominator(rt: HostRuntime) -> Result<(), Fail> {
     Ok(())
 }
 
-/// What the dictionary of the coordinates has in the phase `Cone`: how many labels its key, a row's numbers, those of the
-/// row at infinity, and the entry of a coordinate in its own column.
+/// What the dictionary of the coordinates has in the phase `Cone`: its key, a row's numbers, those of the row at infinity,
+/// and the entry of a coordinate in its own column.
 #[derive(Clone, Copy, PartialEq, Eq, Debug)]
 struct Beginning {
     phase: Phase,
-    labels: usize,
+    key: Key,
     first_row: [Option<i128>; 3],
     at_infinity: [Option<i128>; 3],
     own: Option<i128>,
@@ -321,7 +321,7 @@ fn beginning_of(alloc: Global) -> Result<Beginning, OutOfMemory> {
     let dict = Dict::new(alloc, &sys, Phase::Cone)?;
     Ok(Beginning {
         phase: dict.phase(),
-        labels: dict.key().len(),
+        key: dict.key(),
         first_row: numbers(&dict, row(1), [x(0), x(2)]),
         at_infinity: numbers(&dict, row(3), [x(0), x(1)]),
         own: entry(&dict, x(0), x(0)),
@@ -332,7 +332,7 @@ fn beginning_of(alloc: Global) -> Result<Beginning, OutOfMemory> {
 fn the_cone_has_no_constants(rt: HostRuntime) -> Result<(), Fail> {
     let want = Beginning {
         phase: Phase::Cone,
-        labels: 3,
+        key: Key::from_ascending(&[x(0), x(1), x(2)]).unwrap_or(Key::empty()),
         first_row: known([0, 1, -3]),
         at_infinity: known([0, 1, 0]),
         own: Some(1),
@@ -390,11 +390,22 @@ fn row_of(alloc: Global, dict: &Dict, row: Label) -> Result<Vec<Option<i128>>, O
     Ok(numbers)
 }
 
-/// Of a copy of a hundred columns: how many labels its key has, and a row of it beside that of the first.
+/// Whether two dictionaries have one phase, one key and one denominator.
+fn are_alike(dict: &Dict, other: &Dict) -> bool {
+    dict.phase() == other.phase()
+        && dict.key() == other.key()
+        && dict.denominator() == other.denominator()
+}
+
+/// Of a copy of a hundred columns, which is like the first: how many labels its key has, and a row of it beside that of the
+/// first.
 fn copied(alloc: Global) -> Result<(usize, Vec<Option<i128>>, Vec<Option<i128>>), Fail> {
     let sys = wide(alloc, 100)?;
     let dict = Dict::new(alloc, &sys, Phase::Prepare)?;
     let copy = dict.copy()?;
+    if !are_alike(&dict, &copy) {
+        return Err("phase, key or denominator")?;
+    }
     let here = row_of(alloc, &copy, row(1))?;
     let there = row_of(alloc, &dict, row(1))?;
     Ok((copy.key().len(), here, there))
