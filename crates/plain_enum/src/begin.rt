@@ -6,6 +6,8 @@ ghost use Rattle.poly_model.specs.declared.overflow.Overflow.{Overflow as Passed
 ghost use Rattle.poly_model.specs.Keys.{IsAscending};
 ghost use Rattle.poly_model.specs.Limits.{most_columns, most_cone_rows};
 ghost use Rattle.poly_model.specs.Systems.{Polyhedron, cone_of};
+ghost use Rattle.poly_model.specs.declared.overflow.Phase.TheVariants.{Cone};
+ghost use Rattle.dictionary.specs.New.{IsCoordinateDictionary};
 ghost use Rattle.linearity.specs.Columns.{columns_in};
 ghost use Rattle.plain_enum.specs.Begin.{IsBegun, HasRoomForAll, left_in};
 ghost use Rattle.plain_enum.specs.Listed.{HasShapeOf};
@@ -15,7 +17,7 @@ use crate::answers::FeasibleStop;
 use crate::side::is_kept;
 use dictionary::Dict;
 use linearity::{Pass, enter_rows, free_columns};
-use poly_model::{FreeColumns, Label, Phase, System};
+use poly_model::{FreeColumns, Label, OutOfMemory, Phase, System};
 use poly_num::Num;
 use std::alloc::{AllocError, Global};
 
@@ -23,9 +25,9 @@ use std::alloc::{AllocError, Global};
 #[derive(Drop)]
 pub(crate) struct Beginning {
     /// The dictionary of the cone at which the linear rows have been tried.
-    pub dict: Dict,
+    pub dict: Box<Dict>,
     /// The same once all rows have been tried.
-    pub last: Dict,
+    pub last: Box<Dict>,
     /// The free columns, ascending.
     pub free: FreeColumns,
     pub room: Room,
@@ -41,19 +43,19 @@ pub(crate) struct Room {
 
 /// What the listing of a system begins with.
 pub(crate) fn begin(alloc: Global, sys: &System) -> Result<Beginning, FeasibleStop>
-    ensures begun { IfOk result (λ b. (p : Polyhedron) → sys.now ≡ cone_of p → IsBegun p b.dict b.last b.free) }
-    ensures room { IfOk result (λ b. HasRoomForAll sys.now b.free b.dict b.room.deeper.items b.room.vector.items) }
+    ensures begun { IfOk result (λ b. (p : Polyhedron) → sys.now ≡ cone_of p → IsBegun p b.dict.value b.last.value b.free) }
+    ensures room { IfOk result (λ b. HasRoomForAll sys.now b.free b.dict.value b.room.deeper.items b.room.vector.items) }
     ensures overflow { (o : Passed) → IsErrOf result (FeasibleStop.Overflow o) → (p : Polyhedron) →
         sys.now ≡ cone_of p → PassesInCone p o }
 {
     sys.keeps_limits();
-    let Ok(mut dict) = Dict::new(alloc, sys, Phase::Cone) else {
+    let Ok(mut dict) = first_of(alloc, sys) else {
         return Err(FeasibleStop::Memory);
     };
     if let Err(overflow) = enter_rows(&mut dict, sys, Pass::Linear) {
         return Err(FeasibleStop::Overflow(overflow));
     }
-    let Ok(mut last) = dict.copy() else {
+    let Ok(mut last) = copy_of(alloc, &dict) else {
         return Err(FeasibleStop::Memory);
     };
     if let Err(overflow) = enter_rows(&mut last, sys, Pass::Others) {
@@ -65,14 +67,33 @@ pub(crate) fn begin(alloc: Global, sys: &System) -> Result<Beginning, FeasibleSt
     }
 }
 
+// The dictionary of the coordinates, with which it begins.
+fn first_of(alloc: Global, sys: &System) -> Result<Box<Dict>, OutOfMemory>
+    ensures { IfOk result (λ d. IsCoordinateDictionary sys.now Cone d.value) }
+{
+    Ok(Box::new(alloc, Dict::new(alloc, sys, Phase::Cone)?)?)
+}
+
+// A dictionary that is equal.
+fn copy_of(alloc: Global, dict: &Dict) -> Result<Box<Dict>, OutOfMemory>
+    ensures { IfOk result (λ d. d.value ≡ dict.now) }
+{
+    Ok(Box::new(alloc, dict.copy()?)?)
+}
+
 // The free columns, and room for a listing from these dictionaries. The answer is `Err` only for want of memory.
-fn with_room(alloc: Global, sys: &System, dict: Dict, last: Dict) -> Result<Beginning, AllocError>
+fn with_room(
+    alloc: Global,
+    sys: &System,
+    dict: Box<Dict>,
+    last: Box<Dict>,
+) -> Result<Beginning, AllocError>
     ensures dict { IfOk result (λ b. b.dict ≡ dict) }
     ensures last { IfOk result (λ b. b.last ≡ last) }
-    ensures columns { IfOk result (λ b. b.free ≡ columns_in last.key) }
-    ensures ascending { IfOk result (λ b. IsAscending last.key) }
-    ensures shapes { IfOk result (λ b. All (HasShapeOf dict) b.room.deeper.items) }
-    ensures depth { IfOk result (λ b. length b.room.deeper.items ≡ length (left_in b.free dict.key) - 1) }
+    ensures columns { IfOk result (λ b. b.free ≡ columns_in last.value.key) }
+    ensures ascending { IfOk result (λ b. IsAscending last.value.key) }
+    ensures shapes { IfOk result (λ b. All (HasShapeOf dict.value) b.room.deeper.items) }
+    ensures depth { IfOk result (λ b. length b.room.deeper.items ≡ length (left_in b.free dict.value.key) - 1) }
     ensures vector { IfOk result (λ b. length b.room.vector.items ≡ sys.now.n) }
 {
     let free = free_columns(alloc, &last)?;

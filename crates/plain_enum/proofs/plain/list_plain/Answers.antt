@@ -1,7 +1,9 @@
-use Rattle.std.proofs.Common.{◌≡◌, Err, refl, subst}
+use Rattle.std.proofs.Common.{◌≡◌, Err, refl, sym, subst}
 use Rattle.std.specs.Result.{IsErrOf}
 use Rattle.poly_model.specs.declared.overflow.Overflow.{Overflow}
 use Rattle.plain_enum.specs.declared.answers.PlainStop.{PlainStop}
+use Rattle.dictionary.specs.Views.{Dictionary}
+use Rattle.plain_enum.specs.Begin.{IsBegun}
 use Rattle.plain_enum.specs.Plain.{PassesInCone}
 use Rattle.plain_enum.proofs.ListingParts.{nothing_written}
 use Rattle.plain_enum.proofs.plain.list_plain.Goals as goal
@@ -29,6 +31,8 @@ returns-in-Err-Overflow-clause-overflow g c o e p file =
 pub returns-in-Err-Overflow-print-clause-overflow : goal.returns-in-Err-Overflow-print-clause-overflow
 returns-in-Err-Overflow-print-clause-overflow g c o e p file =
     let passes = rw c.in-Err-Overflow-print.field-0-is at c.in-Err-Overflow-print.ensures.passes in
-    let found = passes c.in-Err-Overflow-print.overflow refl p c.in-Ok.begun.last file
-    (c.in-Ok.ensures.begun p file) in
+    let begun = c.in-Ok.begun in
+    let found = passes c.in-Err-Overflow-print.overflow refl p begun.last.value file
+    (subst (λ (d : Dictionary). IsBegun p d begun.last.value begun.free) (sym c.deref-2.ensures)
+    (c.in-Ok.ensures.begun p file)) in
     subst (λ (x : Overflow). PassesInCone p x) (same_overflow c.in-Err-Overflow-print.overflow o e) found
