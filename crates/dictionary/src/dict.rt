@@ -219,8 +219,9 @@ impl Dict {
         }
     }
 
-    // The column of cells of a label of the cobasis.
-    pub(crate) fn column_of(&self, col: Label) -> usize
+    /// The column of cells of a label of the cobasis, from 1 on: column 0 has the constants. A loop over labels asks for it
+    /// once, and then for the `number` of each label there.
+    pub fn column_of(&self, col: Label) -> usize
         requires { Contains self.now.key col }
         ensures value { result ≡ suc (place_in self.now.columns col) }
         ensures within { result < suc (length self.now.columns) }

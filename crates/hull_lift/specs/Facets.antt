@@ -1,5 +1,5 @@
 -- The vector of a column of a dictionary, and where it is shown.
-use Rattle.std.specs.Prelude.{◌≡◌, ◌⊎◌, ℕ, ◌<◌, ◌≤◌, ◌==◌, true, if◌then◌else◌, ℤ, pos, map, length}
+use Rattle.std.specs.Prelude.{◌≡◌, ◌⊎◌, ℕ, suc, ◌<◌, ◌≤◌, ◌==◌, true, if◌then◌else◌, ℤ, pos, map, length}
 use Rattle.std.specs.List.{Contains, range_with_len}
 use Rattle.poly_num.specs.Vectors.{Vector}
 use Rattle.poly_num.specs.Divisors.{quotients, gcd_of_all}
@@ -9,7 +9,7 @@ use Rattle.poly_model.specs.Systems.{System, row_of}
 use Rattle.poly_model.specs.Spaces.{is_member}
 use Rattle.poly_model.specs.Labels.{constant_label, coordinate_label}
 use Rattle.poly_model.specs.Dictionaries.{Table}
-use Rattle.dictionary.specs.Views.{Dictionary, table_of}
+use Rattle.dictionary.specs.Views.{Dictionary, number, table_of}
 
 -- col is the label of a column: of one of the cobasis, or of that of the constants
 abbrev pub IsColumn : Dictionary → ℕ → Type 0
@@ -18,6 +18,11 @@ IsColumn d col = (col ≡ constant_label) ⊎ Contains d.key col
 -- the number of a label in the column: its constant, or its entry there
 abbrev pub number_in : Dictionary → ℕ → ℕ → ℤ
 number_in d col i = if col == constant_label then Table.constant (table_of d) i else Table.entry (table_of d) i col
+
+-- column j of the cells is that of a label, or of the constants
+pub record IsPlaceOf (d : Dictionary) (col j : ℕ) : Type 0 where
+  pub within : j < suc (length d.columns)
+  pub numbers : (i : ℕ) → number d i j ≡ number_in d col i
 
 -- the number of a coordinate that is no label, which is that at infinity: the denominator at the point,
 -- 0 in other columns

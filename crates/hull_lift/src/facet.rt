@@ -1,10 +1,12 @@
 //! The vectors of the columns of a dictionary, and which of them are shown.
-ghost use Rattle.std.specs.Prelude.{◌≡◌, ◌<◌, ◌≤◌, ◌↔◌, pos, length, IsTrue};
+ghost use Rattle.std.specs.Prelude.{◌≡◌, ◌<◌, ◌≤◌, ◌↔◌, suc, pos, true, length, IsTrue};
 ghost use Rattle.std.specs.List.{Contains};
 ghost use Rattle.poly_num.specs.Divisors.{MakesPrimitive};
 ghost use Rattle.poly_model.specs.Limits.{most_columns};
 ghost use Rattle.poly_model.specs.declared.kind.Kind.TheVariants.{V};
-ghost use Rattle.hull_lift.specs.Facets.{IsColumn, number_in, infinity_in, coordinate_in, column_of, primitive_column, HasPointRows, IsTouchedAt, IsShownAs, IsShownColumn};
+ghost use Rattle.poly_model.specs.Systems.{row_of};
+ghost use Rattle.dictionary.specs.Views.{number};
+ghost use Rattle.hull_lift.specs.Facets.{IsColumn, IsPlaceOf, number_in, infinity_in, coordinate_in, column_of, primitive_column, HasPointRows, IsShownAs, IsShownColumn};
 
 use dictionary::Dict;
 use poly_model::{Kind, Label, System};
@@ -32,36 +34,46 @@ fn write_column(dict: &Dict, col: Label, out: &mut [Num])
     requires narrow { length out.old ≤ most_columns }
     ensures { out.new ≡ column_of dict.now col (length out.old) }
 {
+    let column = column_in(dict, col);
     'coordinates: for j in 0..out.len() {
-        out[j] = coordinate_in(dict, col, j as u32);
+        out[j] = coordinate_in(dict, col, column, j as u32);
     }
 }
 
-// The number of coordinate j in a column.
-fn coordinate_in(dict: &Dict, col: Label, j: u32) -> Num
-    requires column { IsColumn dict.now col }
+// The column of cells of a label, or of the constants.
+fn column_in(dict: &Dict, col: Label) -> usize
+    requires { IsColumn dict.now col }
+    ensures { IsPlaceOf dict.now col result }
+{
+    if col.is_constant() {
+        0
+    } else {
+        dict.column_of(col)
+    }
+}
+
+// The number of coordinate j in a column, which has this place.
+fn coordinate_in(dict: &Dict, col: Label, column: usize, j: u32) -> Num
+    requires column { IsPlaceOf dict.now col column }
     requires narrow { j < most_columns }
     ensures { result ≡ coordinate_in dict.now col j }
 {
     let label = Label::coordinate(j);
     if dict.has_label(label) {
-        number_in(dict, col, label)
+        number_in(dict, col, column, label)
     } else {
         infinity_in(dict, col)
     }
 }
 
-// The number of a label in a column: its constant, or its entry there.
-fn number_in(dict: &Dict, col: Label, label: Label) -> Num
-    requires column { IsColumn dict.now col }
+// The number of a label in a column, which has this place: its constant, or its entry there.
+fn number_in(dict: &Dict, col: Label, column: usize, label: Label) -> Num
+    requires column { IsPlaceOf dict.now col column }
     requires label { Contains dict.now.labels label }
     ensures { result ≡ number_in dict.now col label }
 {
-    if col.is_constant() {
-        dict.constant(label)
-    } else {
-        dict.entry(label, col)
-    }
+    let _ = col;
+    dict.number(label, column)
 }
 
 // The number at infinity in a column.
@@ -94,22 +106,25 @@ fn touches_point(sys: &System, dict: &Dict, col: Label) -> bool
     requires points { HasPointRows sys.now dict.now }
     ensures { IsTrue result ↔ IsShownAs V sys.now dict.now col }
 {
+    let column = dict.column_of(col);
     'rows: for i in 1..sys.rows() + 1 {
-        if touches(sys, dict, col, i) {
+        if touches(sys, dict, column, i) {
             return true;
         }
     }
     false
 }
 
-// Whether row i, counted from 1, is a point whose entry in a column is 0.
-fn touches(sys: &System, dict: &Dict, col: Label, i: u32) -> bool
-    requires column { Contains dict.now.key col }
+// Whether row i, counted from 1, is a point whose number in a column of cells is 0.
+fn touches(sys: &System, dict: &Dict, column: usize, i: u32) -> bool
+    requires column { column < suc (length dict.now.columns) }
     requires points { HasPointRows sys.now dict.now }
     requires from_one { 0 < i }
     requires within { i ≤ length sys.now.rows }
-    ensures { IsTrue result ↔ IsTouchedAt sys.now dict.now col i }
+    ensures point { IsTrue result → (row_of sys.now.rows i).point ≡ true }
+    ensures zero { IsTrue result → number dict.now i column ≡ pos 0 }
+    ensures other { (row_of sys.now.rows i).point ≡ true → number dict.now i column ≡ pos 0 → IsTrue result }
 {
     sys.keeps_limits();
-    sys.is_point(i) && dict.entry(Label::row(i), col).get() == 0
+    sys.is_point(i) && dict.number(Label::row(i), column).get() == 0
 }

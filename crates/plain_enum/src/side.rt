@@ -44,8 +44,9 @@ fn is_along(dict: &Dict, rows: u32, col: Label) -> bool
     requires column { Contains dict.now.key col }
     ensures { IsTrue result ↔ IsOnSide dict.now rows col Side.Along }
 {
+    let column = dict.column_of(col);
     'rows: for i in 0..rows {
-        if dict.entry(Label::row(i + 1), col).get() < 0 {
+        if dict.number(Label::row(i + 1), column).get() < 0 {
             return false;
         }
     }
@@ -58,8 +59,9 @@ fn is_against(dict: &Dict, rows: u32, col: Label) -> bool
     requires column { Contains dict.now.key col }
     ensures { IsTrue result ↔ IsOnSide dict.now rows col Side.Against }
 {
+    let column = dict.column_of(col);
     'rows: for i in 0..rows {
-        if dict.entry(Label::row(i + 1), col).get() > 0 {
+        if dict.number(Label::row(i + 1), column).get() > 0 {
             return false;
         }
     }
@@ -73,10 +75,11 @@ pub fn is_first(sys: &System, dict: &Dict, rows: u32, col: Label) -> bool
     requires column { Contains dict.now.key col }
     ensures { IsTrue result ↔ IsFirst sys.now.rows dict.now rows col }
 {
+    let column = dict.column_of(col);
     let key = dict.key();
     'rows: for i in 0..rows {
         let row = Label::row(i + 1);
-        if dict.entry(row, col).get() == 0 && !is_zero_at_later(sys, dict, row, key.labels()) {
+        if dict.number(row, column).get() == 0 && !is_zero_at_later(sys, dict, row, key.labels()) {
             return false;
         }
     }

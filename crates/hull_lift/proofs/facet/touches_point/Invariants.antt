@@ -4,4 +4,4 @@ use Rattle.hull_lift.proofs.facet.touches_point.Given as goal
 
 -- no row before row i is touched
 abbrev pub invariant-rows : goal.invariant-rows
-invariant-rows l = (k : ℕ) → k < l.i → IsTouchedAt l.sys l.dict l.col k → ⊥
+invariant-rows l = (k : ℕ) → k < l.i → IsTouchedAt l.sys l.dict l.fn.col k → ⊥

@@ -5,4 +5,4 @@ use Rattle.plain_enum.proofs.side.is_against.Given as goal
 
 -- no row up to row i is positive
 abbrev pub invariant-rows : goal.invariant-rows
-invariant-rows l = (k : ℕ) → 0 < k → k ≤ l.i → Table.entry (table_of l.dict) k l.col ≤ℤ pos 0
+invariant-rows l = (k : ℕ) → 0 < k → k ≤ l.i → Table.entry (table_of l.dict) k l.fn.col ≤ℤ pos 0

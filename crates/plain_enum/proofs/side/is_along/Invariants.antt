@@ -5,4 +5,4 @@ use Rattle.plain_enum.proofs.side.is_along.Given as goal
 
 -- no row up to row i is negative
 abbrev pub invariant-rows : goal.invariant-rows
-invariant-rows l = (k : ℕ) → 0 < k → k ≤ l.i → pos 0 ≤ℤ Table.entry (table_of l.dict) k l.col
+invariant-rows l = (k : ℕ) → 0 < k → k ≤ l.i → pos 0 ≤ℤ Table.entry (table_of l.dict) k l.fn.col
