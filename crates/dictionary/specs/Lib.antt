@@ -1,3 +1,4 @@
 pub mod MainPhase
 pub mod Views
 pub mod New
+pub mod Units

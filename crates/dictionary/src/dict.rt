@@ -1,8 +1,10 @@
 //! The dictionary of a cobasis in one table by columns.
-ghost use Rattle.std.specs.Prelude.{◌≡◌, ◌≢◌, ◌<◌, ◌<ℤ◌, ◌↔◌, IsTrue, suc, pos, IfOk, length};
+ghost use Rattle.std.specs.Prelude.{◌≡◌, ◌≢◌, ◌<◌, ◌<ℤ◌, ◌↔◌, IsTrue, ℕ, suc, pos, IfOk, length};
 ghost use Rattle.std.specs.List.{Contains};
 ghost use Rattle.poly_model.specs.Dictionaries.{Table};
+ghost use Rattle.poly_model.specs.Keys.{IsAscending};
 ghost use Rattle.dictionary_laws.specs.Keys.{place_in};
+ghost use Rattle.dictionary.specs.Units.{HasUnits};
 ghost use Rattle.dictionary.specs.Views.{number, table_of};
 
 use crate::places::{has, place_of};
@@ -59,6 +61,25 @@ impl Dict {
         ensures { result ≡ self.now.key }
     {
         self.key
+    }
+
+    /// All labels of the phase, ascending.
+    pub fn labels(&self) -> &[Label]
+        ensures value { result.now ≡ self.now.labels }
+        ensures ascending { IsAscending result.now }
+    {
+        &self.labels
+    }
+
+    /// The labels of the cobasis, ascending, each one of the labels of the phase. Each is 1 in its own column, over the
+    /// denominator, and 0 in the others.
+    pub fn cobasis(&self) -> &[Label]
+        ensures value { result.now ≡ self.now.key }
+        ensures ascending { IsAscending result.now }
+        ensures labels { (k : ℕ) → Contains result.now k → Contains self.now.labels k }
+        ensures units { HasUnits self.now }
+    {
+        self.key.labels()
     }
 
     /// The common denominator, which is positive.
