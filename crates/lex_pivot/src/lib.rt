@@ -15,7 +15,7 @@ mod ties;
 pub use child::{is_child, is_child_by};
 pub use feasible::is_lex_feasible;
 pub use parents::{Pivot, parent, parent_by};
-pub use ratio::{leaving, leaving_by};
+pub use ratio::{is_candidate, leaving, leaving_by};
 pub use reading::Reading;
 pub use relative::Order;
 pub use rows::{comes_before, is_outside};

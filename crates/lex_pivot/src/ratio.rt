@@ -64,8 +64,8 @@ fn better(dict: &Dict, order: &Order, col: Label, best: Option<Label>, row: Labe
     }
 }
 
-// Whether the row is outside the cobasis and negative in the column.
-fn is_candidate(dict: &Dict, col: Label, row: Label) -> bool
+/// Whether the row is outside the cobasis and negative in the column.
+pub fn is_candidate(dict: &Dict, col: Label, row: Label) -> bool
     requires column { Contains dict.now.key col }
     requires row { Contains dict.now.labels row }
     ensures { IsTrue result ↔ IsCandidate dict.now col row }

@@ -1,0 +1,8 @@
+//! Which vectors are shown at a cobasis: its point, and the rays along its columns.
+#![tactic(auto)]
+
+mod points;
+mod rays;
+
+pub use points::{shows_point, shows_point_by};
+pub use rays::{shows_ray, shows_ray_by};
