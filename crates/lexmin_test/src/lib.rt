@@ -3,6 +3,8 @@
 
 mod points;
 mod rays;
+#[cfg(test)]
+mod tests;
 
 pub use points::{shows_point, shows_point_by};
 pub use rays::{shows_ray, shows_ray_by};
