@@ -180,3 +180,7 @@ pub has_column : (d now : Dictionary) (columns : List ℕ) (col : ℕ) → IsWho
 has_column d now columns col whole e f c =
     subst (λ (ks : List ℕ). Contains ks col) (sym f)
     (whole.same.there col (subst (λ (v : Dictionary). Contains v.key col) (sym e) c))
+
+-- a label of the key is one of all labels
+pub key_label : (d : Dictionary) (k : ℕ) → IsWhole d → Contains d.key k → Contains d.labels k
+key_label d k whole c = whole.inside k (whole.same.there k c)

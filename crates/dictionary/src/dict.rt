@@ -1,8 +1,10 @@
 //! The dictionary of a cobasis in one table by columns.
-ghost use Rattle.std.specs.Prelude.{◌≡◌, ◌≢◌, ◌<◌, ◌<ℤ◌, ◌↔◌, IsTrue, suc, pos, IfOk, length};
+ghost use Rattle.std.specs.Prelude.{◌≡◌, ◌≢◌, ◌<◌, ◌<ℤ◌, ◌↔◌, IsTrue, ℕ, suc, pos, IfOk, length};
 ghost use Rattle.std.specs.List.{Contains};
 ghost use Rattle.poly_model.specs.Dictionaries.{Table};
+ghost use Rattle.poly_model.specs.Keys.{IsAscending};
 ghost use Rattle.dictionary_laws.specs.Keys.{place_in, AreDistinct, HaveSameLabels};
+ghost use Rattle.dictionary.specs.Units.{HasUnits};
 ghost use Rattle.dictionary.specs.Views.{number, table_of};
 ghost use Rattle.dictionary.specs.Positions.{IsPosition, IsColumnOf};
 
@@ -66,6 +68,25 @@ impl Dict {
         ensures { result ≡ self.now.key }
     {
         self.key
+    }
+
+    /// All labels of the phase, ascending.
+    pub fn labels(&self) -> &[Label]
+        ensures value { result.now ≡ self.now.labels }
+        ensures ascending { IsAscending result.now }
+    {
+        &self.labels
+    }
+
+    /// The labels of the cobasis, ascending, each one of the labels of the phase. Each is 1 in its own column, over the
+    /// denominator, and 0 in the others.
+    pub fn cobasis(&self) -> &[Label]
+        ensures value { result.now ≡ self.now.key }
+        ensures ascending { IsAscending result.now }
+        ensures labels { (k : ℕ) → Contains result.now k → Contains self.now.labels k }
+        ensures units { HasUnits self.now }
+    {
+        self.key.labels()
     }
 
     /// The common denominator, which is positive.
@@ -146,13 +167,6 @@ impl Dict {
         to.denominator = self.denominator;
         self.cells.copy_into(&mut to.cells);
         write_positions(&mut to.positions, &self.rows, &self.columns);
-    }
-
-    /// All labels, ascending.
-    pub fn labels(&self) -> &[Label]
-        ensures { result.now ≡ self.now.labels }
-    {
-        &self.labels
     }
 
     /// The labels outside the cobasis, as their rows of cells stand.

@@ -1,0 +1,137 @@
+-- The least row so far, and the row that leaves.
+use Rattle.std.proofs.Common.{◌≡◌, ◌≢◌, ◌⊎◌, inl, inr, ⊎_elim, ℕ, zero, suc, ◌+◌, ◌<◌, pos, neg_ℤ, ◌<ℤ◌, List, [], ◌∷◌, ◌++◌, map, length, take, get_or, sym, subst, arith, add-one, Option, Some, None}
+use Rattle.std.specs.Prelude.{IfSome}
+use Rattle.std.specs.List.{Contains}
+use Rattle.std.specs.Option.{MatchOption}
+use Rattle.std.specs.declared.cmp.Ordering.TheVariants.{Less}
+use Rattle.std.proofs.Math.Seq.{take-suc}
+use Rattle.std.proofs.lemmas.Int.{by_lt_z}
+use Rattle.std.proofs.lemmas.List.Elements.{Contains-append_left, Contains-append_right, Contains-append_cases, Contains-get_or}
+use Rattle.poly_num.proofs.Ring.{lin}
+use Rattle.poly_num.specs.Signs.{lex_sign_of}
+use Rattle.poly_model.specs.Dictionaries.{Table}
+use Rattle.poly_model.specs.Keys.{IsAscending}
+use Rattle.poly_model.specs.LexOrder.{IsNonnegative, list_of}
+use Rattle.poly_model.specs.Tree.{ratio_gaps, Leaves}
+use Rattle.linear_laws.proofs.Members.{Contains-nil, Contains-first, Contains-cons_cases, all_at}
+use Rattle.tree_laws.proofs.LexLemmas.{zero_is_nonnegative, positive_is_nonnegative}
+use Rattle.tree_laws.proofs.GapLemmas.{gaps_turned, gaps_of_itself}
+use Rattle.tree_laws.proofs.Least.{at_most_transitive, length_lists}
+use Rattle.dictionary.specs.Views.{Dictionary, table_of}
+use Rattle.lex_pivot.specs.Ratios.{NoneLeaves, IsCandidate, IsLeastOf, IsBest}
+use Rattle.lex_pivot.proofs.EarlierLemmas.{space_of, row_only}
+use Rattle.lex_pivot.proofs.FirstSigns.{less, not_less}
+
+-- ---- the rows so far
+-- those in front of a label of an ascending list are less
+pub taken_less : (xs : List ℕ) → IsAscending xs → (n k : ℕ) → n < length xs → Contains (take n xs) k → k < get_or xs n 0
+taken_less [] a n k l c = absurd (omega arith)
+taken_less (x ∷ xs) a zero k l c = absurd (Contains-nil k c)
+taken_less (x ∷ xs) a (suc n) k l c =
+    ⊎_elim
+    (λ (e : x ≡ k). subst (λ z. z < get_or xs n 0) e
+    (all_at (λ y. x < y) xs a.0 (get_or xs n 0) (Contains-get_or xs n 0 (omega arith))))
+    (λ (m : Contains (take n xs) k). taken_less xs a.1 n k (omega arith) m)
+    (Contains-cons_cases k x (take n xs) c)
+
+pub taken_other : (xs : List ℕ) → IsAscending xs → (n q : ℕ) → n < length xs → q ≡ get_or xs n 0 → (k : ℕ) →
+    Contains (take n xs) k → k ≢ q
+taken_other xs a n q l e k c f = let b = taken_less xs a n k l c in omega arith
+
+pub one_more : (xs : List ℕ) (n q : ℕ) → n < length xs → q ≡ get_or xs n 0 → take n xs ++ q ∷ [] ≡ take (n + 1) xs
+one_more xs n q l e =
+    subst (λ z. take n xs ++ z ∷ [] ≡ take (n + 1) xs) (sym e)
+    (subst (λ m. take n xs ++ get_or xs n 0 ∷ [] ≡ take m xs) (sym (add-one n)) (sym (take-suc xs n 0 l)))
+
+module _ (d : Dictionary) (root : List ℕ) (s : ℕ) where
+  abbrev Over : ℕ → ℕ → Type 0
+  Over r i = IsNonnegative (ratio_gaps d.labels root d.key (table_of d) s r i)
+
+  itself : (i : ℕ) → Over i i
+  itself i =
+      zero_is_nonnegative (ratio_gaps d.labels root d.key (table_of d) s i i)
+      (gaps_of_itself (neg_ℤ (Table.entry (table_of d) i s)) (list_of d.labels root d.key (table_of d) i))
+
+  pub positive : (i : ℕ) → IsCandidate d s i → pos 0 <ℤ neg_ℤ (Table.entry (table_of d) i s)
+  positive i c = let n = c.negative in omega (arith, lin)
+
+  through : (i r j : ℕ) → IsCandidate d s i → IsCandidate d s r → IsCandidate d s j → Over i r → Over r j → Over i j
+  through i r j a b c h k =
+      at_most_transitive (λ q. neg_ℤ (Table.entry (table_of d) q s)) (λ q. list_of d.labels root d.key (table_of d) q)
+      (length_lists (space_of d.labels) root d.key (table_of d)) i r j (positive i a) (positive r b) (positive j c) h k
+
+  lesser : (i r : ℕ) → lex_sign_of (ratio_gaps d.labels root d.key (table_of d) s r i) ≡ Less → Over i r
+  lesser i r e =
+      subst IsNonnegative
+      (gaps_turned (neg_ℤ (Table.entry (table_of d) r s)) (list_of d.labels root d.key (table_of d) i)
+      (neg_ℤ (Table.entry (table_of d) i s)) (list_of d.labels root d.key (table_of d) r))
+      (positive_is_nonnegative (map neg_ℤ (ratio_gaps d.labels root d.key (table_of d) s r i))
+      ((less (ratio_gaps d.labels root d.key (table_of d) s r i)).0 e))
+
+  module _ (rows : List ℕ) (q : ℕ) where
+    among : (i : ℕ) → Contains (rows ++ q ∷ []) i → Contains rows i ⊎ (i ≡ q)
+    among i c =
+        ⊎_elim
+        (λ (m : Contains rows i). inl m)
+        (λ (m : Contains (q ∷ []) i). ⊎_elim
+        (λ (e : q ≡ i). inr (sym e)) (λ (n : Contains [] i). absurd (Contains-nil i n))
+        (Contains-cons_cases i q [] m))
+        (Contains-append_cases rows (q ∷ []) i c)
+
+    last : Contains (rows ++ q ∷ []) q
+    last = Contains-append_right rows (q ∷ []) q (Contains-first q [])
+
+    pub best_kept : (best : Option ℕ) → IsBest d root s rows best → (IsCandidate d s q → ⊥) →
+        IsBest d root s (rows ++ q ∷ []) best
+    best_kept None h n = λ i c m.
+        ⊎_elim (λ (x : Contains rows i). h i x m) (λ (e : i ≡ q). n (subst (λ k. IsCandidate d s k) e m)) (among i c)
+    best_kept (Some r) h n = record {
+      member = Contains-append_left rows (q ∷ []) r h.member;
+      candidate = h.candidate;
+      least = λ i c m. ⊎_elim (λ (x : Contains rows i). h.least i x m)
+          (λ (e : i ≡ q). absurd (n (subst (λ k. IsCandidate d s k) e m))) (among i c);
+    }
+
+    pub best_first : IsBest d root s rows None → IsCandidate d s q → IsLeastOf d root s (rows ++ q ∷ []) q
+    best_first none m = record {
+      member = last;
+      candidate = m;
+      least = λ i c k. ⊎_elim (λ (x : Contains rows i). absurd (none i x k))
+          (λ (e : i ≡ q). subst (λ z. Over q z) (sym e) (itself q)) (among i c);
+    }
+
+    pub best_new : (r : ℕ) → IsLeastOf d root s rows r → IsCandidate d s q →
+        lex_sign_of (ratio_gaps d.labels root d.key (table_of d) s r q) ≡ Less → IsLeastOf d root s (rows ++ q ∷ []) q
+    best_new r h m e = record {
+      member = last;
+      candidate = m;
+      least = λ i c k. ⊎_elim
+          (λ (x : Contains rows i). through q r i m h.candidate k (lesser q r e) (h.least i x k))
+          (λ (f : i ≡ q). subst (λ z. Over q z) (sym f) (itself q)) (among i c);
+    }
+
+    pub best_old : (r : ℕ) → IsLeastOf d root s rows r →
+        (lex_sign_of (ratio_gaps d.labels root d.key (table_of d) s r q) ≢ Less) → IsLeastOf d root s (rows ++ q ∷ []) r
+    best_old r h n = record {
+      member = Contains-append_left rows (q ∷ []) r h.member;
+      candidate = h.candidate;
+      least = λ i c k. ⊎_elim (λ (x : Contains rows i). h.least i x k)
+          (λ (f : i ≡ q). subst (λ z. Over r z) (sym f)
+          (not_less (ratio_gaps d.labels root d.key (table_of d) s r q) n)) (among i c);
+    }
+
+  pub best_is_candidate : (rows : List ℕ) (best : Option ℕ) → IsBest d root s rows best → IfSome best (λ r. IsCandidate d s r)
+  best_is_candidate rows None h = tt
+  best_is_candidate rows (Some r) h = h.candidate
+
+  -- ---- all rows
+  pub best_leaves : (best : Option ℕ) → IsBest d root s d.labels best →
+      MatchOption best (NoneLeaves d s) (λ r. Leaves d.labels root d.key (table_of d) s r)
+  best_leaves None h = λ i o.
+      by_lt_z (Table.entry (table_of d) i s) (pos 0)
+      (λ n. absurd (h i (row_only d.labels i o.row).0 (record { row = o; negative = n }))) (λ m. m)
+  best_leaves (Some r) h = record {
+    row = h.candidate.row;
+    negative = h.candidate.negative;
+    least = λ i o n. h.least i (row_only d.labels i o.row).0 (record { row = o; negative = n });
+  }

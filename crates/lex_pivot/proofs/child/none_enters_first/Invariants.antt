@@ -1,0 +1,7 @@
+use Rattle.std.proofs.Common.{ℕ, ◌<◌, get_or}
+use Rattle.lex_pivot.specs.Children.{EntersInPlace}
+use Rattle.lex_pivot.proofs.child.none_enters_first.Given as goal
+
+abbrev pub invariant-columns : goal.invariant-columns
+invariant-columns l =
+    (j : ℕ) → j < l.other-index → EntersInPlace l.dict l.order l.col l.row (get_or l.labels j 0) → ⊥

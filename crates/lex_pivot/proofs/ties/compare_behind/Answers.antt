@@ -1,0 +1,79 @@
+use Rattle.std.proofs.Common.{◌≡◌, ◌∙◌, sym, subst, refl, arith, true≢false, ◌<◌, ◌≤◌, ap, length, get_or, ℕ, ℤ, pos, ◌<ℤ◌, List}
+use Rattle.std.proofs.lemmas.List.{get_or_default}
+use Rattle.poly_model.specs.Keys.{IsAscending}
+use Rattle.poly_model.specs.LexOrder.{outside}
+use Rattle.dictionary.specs.Views.{table_of}
+use Rattle.lex_pivot.specs.Pairs.{gap_at, IsBehind}
+use Rattle.lex_pivot.proofs.FirstSigns.{IsZeroBelow, kept_up}
+use Rattle.lex_pivot.proofs.PairLemmas.{at_end, differs_here, gaps_behind}
+use Rattle.lex_pivot.proofs.ties.compare_behind.Goals.{At-labels}
+use Rattle.lex_pivot.proofs.ties.compare_behind.Goals as goal
+
+up : (c : At-labels) → IsAscending c.args.dict.now.labels
+up c = subst IsAscending c.labels-all.ensures.value c.labels-all.ensures.ascending
+
+key_up : (c : At-labels) → IsAscending c.args.dict.now.key
+key_up c = subst IsAscending c.cobasis-labels.ensures.value c.cobasis-labels.ensures.ascending
+
+positive : (c : At-labels) → pos 0 <ℤ c.args.dict.now.denominator
+positive c = subst (λ (z : ℤ). pos 0 <ℤ z) c.denominator-denominator.ensures.value c.denominator-denominator.ensures.positive
+
+so_far : (c : At-labels) → IsZeroBelow (gap_at c.args.dict.now.key (table_of c.args.dict.now) c.args.pair.now)
+    c.args.dict.now.key (outside c.args.dict.now.labels c.args.order.now) c.labels.k-index
+so_far c =
+    subst (λ (ks : List ℕ). IsZeroBelow (gap_at c.args.dict.now.key (table_of c.args.dict.now) c.args.pair.now) ks
+    (outside c.args.dict.now.labels c.args.order.now) c.labels.k-index) c.cobasis-labels.ensures.value
+    c.labels.invariant
+
+item : (c : At-labels) (k : ℕ) → k ≡ get_or c.cobasis-labels.result.now c.labels.k-index k →
+    c.labels.k-index < length c.cobasis-labels.result.now → k ≡ get_or c.args.dict.now.key c.labels.k-index 0
+item c k e l =
+    subst (λ (ks : List ℕ). k ≡ get_or ks c.labels.k-index 0) c.cobasis-labels.ensures.value
+    (e ∙ get_or_default c.cobasis-labels.result.now c.labels.k-index k 0 l)
+
+pub returns-then-is_behind : goal.returns-then-is_behind
+returns-then-is_behind c differ zero =
+    let a = (goal.at.returns-then-is_behind c).At-labels in
+    let l : c.labels.k-index < length c.cobasis-labels.result.now =
+    (let t = c.labels-test.true in let b = c.labels.auto.k-index-end in omega arith) in
+    c.end_sign.ensures
+    ∙ at_end c.args.dict.now c.args.order.now c.args.pair.now c.requires differ (up a) (key_up a) (positive a)
+    c.labels.k-index (so_far a) c.end_of-end.result c.end_of-end.ensures
+    (λ m. subst (λ (q : ℕ). IsBehind q c.end_of-end.result) (item a c.k-item.result c.k-item.is l)
+    (c.if-is_behind.ensures.0 refl))
+    ∙ gaps_behind c.args.dict.now c.args.order.now c.args.pair.now zero
+
+pub returns-then-differs : goal.returns-then-differs
+returns-then-differs c differ zero =
+    let a = (goal.at.returns-then-differs c).At-labels in
+    let l : c.labels.k-index < length c.cobasis-labels.result.now =
+    (let t = c.labels-test.true in let b = c.labels.auto.k-index-end in omega arith) in
+    let n = c.if-differs.ensures.yes refl in
+    let m = c.gap_sign-here.ensures.outside n in
+    differs_here c.args.dict.now c.args.order.now c.args.pair.now c.requires differ (up a) (key_up a) (positive a)
+    c.labels.k-index (so_far a) c.end_of-end.result c.k-item.result c.gap_sign-here.result c.end_of-end.ensures
+    (item a c.k-item.result c.k-item.is l) (λ b. true≢false (sym (c.if-is_behind.ensures.1 b))) m n
+    (c.gap_sign-here.ensures.value m)
+    ∙ gaps_behind c.args.dict.now c.args.order.now c.args.pair.now zero
+
+pub labels-preserved : goal.labels-preserved
+labels-preserved c =
+    kept_up (gap_at c.args.dict.now.key (table_of c.args.dict.now) c.args.pair.now) c.cobasis-labels.result.now
+    (outside c.args.dict.now.labels c.args.order.now) c.labels.k-index c.k-item.result
+    (let t = c.labels-test.true in let b = c.labels.auto.k-index-end in omega arith) c.k-item.is
+    c.gap_sign-here.result c.labels.invariant c.gap_sign-here.ensures.value (c.if-differs.ensures.no refl)
+
+pub returns : goal.returns
+returns c differ zero =
+    let a = (goal.at.returns c).At-labels in
+    let e = c.cobasis-labels.ensures.value in
+    let b = c.labels.auto.k-index-end in
+    let t = c.labels-test.false in
+    c.end_sign-2.ensures
+    ∙ at_end c.args.dict.now c.args.order.now c.args.pair.now c.requires differ (up a) (key_up a) (positive a)
+    c.labels.k-index (so_far a) c.end_of-end.result c.end_of-end.ensures
+    (λ m. absurd (passed c.cobasis-labels.result.now c.args.dict.now.key c.labels.k-index e (omega arith) m))
+    ∙ gaps_behind c.args.dict.now c.args.order.now c.args.pair.now zero
+  where
+    passed : (xs ys : List ℕ) (n : ℕ) → xs ≡ ys → length xs ≤ n → n < length ys → ⊥
+    passed xs ys n e l m = let k : length xs ≡ length ys = ap length e in omega arith

@@ -1,0 +1,57 @@
+-- Two rows of the ratio test, and where their lists differ.
+use Rattle.std.specs.Prelude.{◌≡◌, ◌⊎◌, ◌==◌, ℕ, ◌<◌, ℤ, pos, ◌<ℤ◌, ◌-ℤ◌, ◌*ℤ◌, true, false, if◌then◌else◌, List, Option, Some, None}
+use Rattle.std.specs.declared.cmp.Ordering.{Ordering}
+use Rattle.std.specs.declared.cmp.Ordering.TheVariants.{Less, Equal, Greater}
+use Rattle.poly_model.specs.Dictionaries.{Table}
+use Rattle.poly_model.specs.LexOrder.{gaps, listed_at, list_of}
+use Rattle.poly_model.specs.Tree.{IsRowOutside}
+use Rattle.dictionary.specs.Views.{Dictionary, table_of}
+use Rattle.lex_pivot.specs.Earlier.{is_before_root}
+use Rattle.lex_pivot.specs.declared.ties.Pair.{Pair}
+
+-- two rows outside the cobasis with positive factors
+pub record ArePair (d : Dictionary) (pair : Pair) : Type 0 where
+  pub row : IsRowOutside d.labels d.key pair.row
+  pub over : pos 0 <ℤ pair.over
+  pub other : IsRowOutside d.labels d.key pair.other
+  pub other_over : pos 0 <ℤ pair.other_over
+
+-- the list of `row` times the other's factor, less that of `other` times its own
+abbrev pub pair_gaps : Dictionary → List ℕ → Pair → List ℤ
+pair_gaps d root pair =
+    gaps pair.other_over (list_of d.labels root d.key (table_of d) pair.row) pair.over
+    (list_of d.labels root d.key (table_of d) pair.other)
+
+-- the first of these numbers
+abbrev pub constant_gap : Table → Pair → ℤ
+constant_gap t pair = pair.other_over *ℤ t.constant pair.row -ℤ pair.over *ℤ t.constant pair.other
+
+-- that at row k
+abbrev pub gap_at : List ℕ → Table → Pair → ℕ → ℤ
+gap_at key t pair k = pair.other_over *ℤ listed_at key t pair.row k -ℤ pair.over *ℤ listed_at key t pair.other k
+
+-- the first of the two rows that is outside the root
+pub record IsEndAt (root : List ℕ) (pair : Pair) (end : ℕ) : Type 0 where
+  pub one : (end ≡ pair.row) ⊎ (end ≡ pair.other)
+  pub before : is_before_root root end ≡ true
+  pub row : is_before_root root pair.row ≡ true → pair.row < end → ⊥
+  pub other : is_before_root root pair.other ≡ true → pair.other < end → ⊥
+
+-- neither is outside the root
+pub record HasNoEnd (root : List ℕ) (pair : Pair) : Type 0 where
+  pub row : is_before_root root pair.row ≡ false
+  pub other : is_before_root root pair.other ≡ false
+
+abbrev pub IsEnd : List ℕ → Pair → Option ℕ → Type 0
+IsEnd root pair (Some end) = IsEndAt root pair end
+IsEnd root pair None = HasNoEnd root pair
+
+-- the label is greater than the end
+abbrev pub IsBehind : ℕ → Option ℕ → Type 0
+IsBehind k (Some end) = end < k
+IsBehind k None = ⊥
+
+-- the sign at the end
+abbrev pub end_sign : Pair → Option ℕ → Ordering
+end_sign pair (Some end) = if end == pair.row then Greater else Less
+end_sign pair None = Equal

@@ -1,0 +1,24 @@
+//! The lexicographic pivots of a search, read off a dictionary: the ratio test, the parent, the test of a child.
+#![tactic(auto)]
+
+mod child;
+mod feasible;
+mod orderings;
+mod parents;
+mod ratio;
+mod reading;
+mod relative;
+mod rows;
+mod scan;
+#[cfg(test)]
+mod tests;
+mod ties;
+
+pub use child::{is_child, is_child_by};
+pub use feasible::is_lex_feasible;
+pub use parents::{Pivot, parent, parent_by};
+pub use ratio::{is_candidate, leaving, leaving_by};
+pub use reading::Reading;
+pub use relative::Order;
+pub use rows::{comes_before, is_outside};
+pub use scan::{differs, is_greater, is_less, outside_sign, root_sign};

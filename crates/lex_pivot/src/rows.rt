@@ -1,0 +1,31 @@
+//! Rows outside a cobasis, and rows that come before others.
+ghost use Rattle.std.specs.Prelude.{◌↔◌, IsTrue};
+ghost use Rattle.std.specs.List.{Contains};
+ghost use Rattle.poly_model.specs.LexOrder.{rows_in, IsEarlier};
+ghost use Rattle.poly_model.specs.Tree.{IsRowOutside};
+
+use crate::Order;
+use dictionary::Dict;
+use poly_model::Label;
+
+/// Whether the label is that of a row outside the cobasis.
+pub fn is_outside(dict: &Dict, row: Label) -> bool
+    requires { Contains dict.now.labels row }
+    ensures { IsTrue result ↔ IsRowOutside dict.now.labels dict.now.key row }
+{
+    row.is_row() && !dict.in_cobasis(row)
+}
+
+/// Whether the label is that of a row which comes before another one in the order.
+pub fn comes_before(dict: &Dict, order: &Order, label: Label, row: Label) -> bool
+    requires label { Contains dict.now.labels label }
+    requires row { Contains (rows_in dict.now.labels) row }
+    ensures { IsTrue result ↔ IsEarlier dict.now.labels order.now label row }
+{
+    // the labels ascend
+    let _all = dict.labels();
+    if !label.is_row() {
+        return false;
+    }
+    order.is_earlier(label, row)
+}

@@ -1,0 +1,89 @@
+//! Whether the ray along a column of a cobasis is shown there.
+ghost use Rattle.std.specs.Prelude.{◌≡◌, ◌↔◌, IsTrue};
+ghost use Rattle.std.specs.List.{Contains};
+ghost use Rattle.poly_model.specs.Tree.{ShowsRay};
+ghost use Rattle.dictionary.specs.Views.{table_of};
+ghost use Rattle.lex_pivot.specs.Ratios.{NoneLeaves};
+ghost use Rattle.lexmin_test.specs.Zeros.{AreOthersPositive, IsPositiveOnZeros, IsOtherPositive};
+
+use dictionary::Dict;
+use lex_pivot::{Order, Reading, differs, is_candidate, is_greater, outside_sign, root_sign};
+use poly_model::{Label, Root};
+
+/// Whether the ray along the column of a label of the cobasis is shown there: no row outside the cobasis is negative in
+/// the column, and in the column of each other label, of the rows that are 0 in this one and not 0 there, the greatest
+/// is positive.
+pub fn shows_ray(dict: &Dict, root: &Root, col: Label) -> bool
+    requires { Contains dict.now.key col }
+    ensures { IsTrue result ↔ ShowsRay dict.now.labels root.now.key dict.now.key (table_of dict.now) col }
+{
+    shows_ray_by(dict, &Order::of(root), col)
+}
+
+/// The same by the order relative to the root.
+pub fn shows_ray_by(dict: &Dict, order: &Order, col: Label) -> bool
+    requires { Contains dict.now.key col }
+    ensures { IsTrue result ↔ ShowsRay dict.now.labels order.now dict.now.key (table_of dict.now) col }
+{
+    if !is_nowhere_negative(dict, col) {
+        return false;
+    }
+    are_others_positive(dict, order, col)
+}
+
+// Whether no row outside the cobasis is negative in the column.
+fn is_nowhere_negative(dict: &Dict, col: Label) -> bool
+    requires { Contains dict.now.key col }
+    ensures { IsTrue result ↔ NoneLeaves dict.now col }
+{
+    let labels = dict.labels();
+    'rows: for row in labels {
+        if is_candidate(dict, col, *row) {
+            return false;
+        }
+    }
+    true
+}
+
+// Whether in each other column the greatest row that is 0 in this one, and not 0 there, is positive.
+fn are_others_positive(dict: &Dict, order: &Order, col: Label) -> bool
+    requires { Contains dict.now.key col }
+    ensures { IsTrue result ↔ AreOthersPositive dict.now order.now col }
+{
+    let labels = dict.cobasis();
+    'columns: for other in labels {
+        if !is_other_positive(dict, order, col, *other) {
+            return false;
+        }
+    }
+    true
+}
+
+// The same for one column, where it is another.
+fn is_other_positive(dict: &Dict, order: &Order, col: Label, other: Label) -> bool
+    requires column { Contains dict.now.key col }
+    requires other { Contains dict.now.key other }
+    ensures { IsTrue result ↔ IsOtherPositive dict.now order.now col other }
+{
+    if other.is_same(col) {
+        return true;
+    }
+    is_positive_on_zeros(dict, order, col, other)
+}
+
+// Along the order from its end: the rows of the root, and then those outside it.
+fn is_positive_on_zeros(dict: &Dict, order: &Order, col: Label, other: Label) -> bool
+    requires column { Contains dict.now.key col }
+    requires other { Contains dict.now.key other }
+    ensures { IsTrue result ↔ IsPositiveOnZeros dict.now order.now col other }
+{
+    let reading = Reading::Where {
+        col: other,
+        zero: col,
+    };
+    let inside = root_sign(dict, order, &reading);
+    if differs(inside) {
+        return is_greater(inside);
+    }
+    is_greater(outside_sign(dict, order, &reading))
+}
