@@ -1,6 +1,7 @@
 //! The dictionary of a cobasis in one table by columns.
 ghost use Rattle.std.specs.Prelude.{◌≡◌, ◌≢◌, ◌<◌, ◌<ℤ◌, ◌↔◌, IsTrue, suc, pos, IfOk, length};
 ghost use Rattle.std.specs.List.{Contains};
+ghost use Rattle.poly_model.specs.Keys.{IsAscending};
 ghost use Rattle.poly_model.specs.Dictionaries.{Table};
 ghost use Rattle.dictionary_laws.specs.Keys.{place_in, AreDistinct, HaveSameLabels};
 ghost use Rattle.dictionary.specs.Views.{number, table_of};
@@ -150,7 +151,8 @@ impl Dict {
 
     /// All labels, ascending.
     pub fn labels(&self) -> &[Label]
-        ensures { result.now ≡ self.now.labels }
+        ensures value { result.now ≡ self.now.labels }
+        ensures ascending { IsAscending result.now }
     {
         &self.labels
     }

@@ -1,5 +1,6 @@
 //! Dictionaries worked out by hand.
-ghost use Rattle.std.specs.Prelude.{◌≡◌, ◌<◌, IfOk, length};
+ghost use Rattle.std.specs.Prelude.{◌≡◌, ◌<◌, IfOk, IsTrue, length};
+ghost use Rattle.std.specs.List.{All, Contains};
 ghost use Rattle.poly_model.specs.Labels.{coordinates_from};
 
 use crate::{Dict, Position};
@@ -478,8 +479,19 @@ fn cell(dict: &Dict, i: usize, j: usize) -> Option<i128> {
     }
 }
 
+fn are_labels(dict: &Dict, order: &[Label]) -> bool
+    ensures { IsTrue result → All (λ l. Contains dict.now.labels l) order.now }
+{
+    'order: for label in order {
+        if !dict.has_label(*label) {
+            return false;
+        }
+    }
+    true
+}
+
 fn lead(dict: &Dict, order: [Label; 3], j: usize) -> Option<usize> {
-    if j <= dict.columns().len() && order.iter().all(|label| dict.has_label(*label)) {
+    if j <= dict.columns().len() && are_labels(dict, &order) {
         dict.lead(&order, j)
     } else {
         None
