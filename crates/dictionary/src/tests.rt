@@ -1,6 +1,5 @@
 //! Dictionaries worked out by hand.
-ghost use Rattle.std.specs.Prelude.{◌≡◌, ◌<◌, IfOk, IsTrue, length};
-ghost use Rattle.std.specs.List.{All, Contains};
+ghost use Rattle.std.specs.Prelude.{◌≡◌, ◌<◌, IfOk, length};
 ghost use Rattle.poly_model.specs.Labels.{coordinates_from};
 
 use crate::{Dict, Position};
@@ -460,13 +459,6 @@ fn knows_where_labels_stand(rt: HostRuntime) -> Result<(), Fail> {
     Ok(())
 }
 
-/// Of the column of x1: its cells in two rows, and the last of three labels that is not 0 in it, in four orders.
-#[derive(Clone, Copy, PartialEq, Eq, Debug)]
-struct ColumnSeen {
-    cells: [Option<i128>; 2],
-    leads: [Option<usize>; 4],
-}
-
 fn cell(dict: &Dict, i: usize, j: usize) -> Option<i128> {
     if j > dict.columns().len() {
         return None;
@@ -479,47 +471,18 @@ fn cell(dict: &Dict, i: usize, j: usize) -> Option<i128> {
     }
 }
 
-fn are_labels(dict: &Dict, order: &[Label]) -> bool
-    ensures { IsTrue result → All (λ l. Contains dict.now.labels l) order.now }
-{
-    'order: for label in order {
-        if !dict.has_label(*label) {
-            return false;
-        }
-    }
-    true
-}
-
-fn lead(dict: &Dict, order: [Label; 3], j: usize) -> Option<usize> {
-    if j <= dict.columns().len() && are_labels(dict, &order) {
-        dict.lead(&order, j)
-    } else {
-        None
-    }
-}
-
-fn column_seen(alloc: Global, first: [i128; 3]) -> Result<ColumnSeen, OutOfMemory> {
+/// The cells of the column of x1 in two rows.
+fn cells_of(alloc: Global, first: [i128; 3]) -> Result<[Option<i128>; 2], OutOfMemory> {
     let sys = system(alloc, first, false, [0, 0, 1])?;
     let dict = Dict::new(alloc, &sys, Phase::Prepare)?;
-    Ok(ColumnSeen {
-        cells: [cell(&dict, 0, 1), cell(&dict, 1, 1)],
-        leads: [
-            lead(&dict, [row(2), x(2), row(1)], 1),
-            lead(&dict, [row(1), x(1), row(2)], 1),
-            lead(&dict, [row(1), row(2), x(2)], 1),
-            lead(&dict, [row(2), x(2), row(2)], 1),
-        ],
-    })
+    Ok([cell(&dict, 0, 1), cell(&dict, 1, 1)])
 }
 
 #[test]
-fn reads_a_column_and_its_leads(rt: HostRuntime) -> Result<(), Fail> {
+fn reads_a_column(rt: HostRuntime) -> Result<(), Fail> {
     for entry in [2, 1 << 70] {
-        let want = ColumnSeen {
-            cells: [Some(entry), Some(0)],
-            leads: [Some(2), Some(1), Some(0), None],
-        };
-        assert_eq!(rt; column_seen(rt.alloc(), [1, entry, -3])?, want);
+        let cells = cells_of(rt.alloc(), [1, entry, -3])?;
+        assert_eq!(rt; cells, [Some(entry), Some(0)]);
     }
     Ok(())
 }
