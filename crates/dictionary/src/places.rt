@@ -7,11 +7,10 @@ ghost use Rattle.dictionary_laws.specs.Keys.{place_in};
 use poly_model::{Key, Label, OutOfMemory};
 
 /// How many labels stand before the first that is `label`.
-#[tactic(auto, using(crate::proofs::PlaceLemmas::place_within, crate::proofs::PlaceLemmas::place_has))]
+#[tactic(auto, using(crate::proofs::PlaceLemmas::place_within))]
 pub fn place_of(labels: &[Label], label: Label) -> usize
     ensures value { result ≡ place_in labels.now label }
     ensures within { Contains labels.now label → result < length labels.now }
-    ensures member { result < length labels.now → Contains labels.now label }
 {
     'labels: for (i, l) in labels.iter().enumerate() {
         if l.is_same(label) {
