@@ -6,6 +6,7 @@ use Rattle.std.proofs.lemmas.List.Elements.{Contains-get_or}
 use Rattle.linear_laws.proofs.Members.{Contains-first, Contains-later, Contains-nil}
 use Rattle.dictionary_laws.specs.Keys.{place_in, AreDistinct, HaveSameLabels, Exchanges}
 use Rattle.dictionary_laws.proofs.Members.{contains_cases}
+use Rattle.dictionary.specs.Views.{Dictionary, IsWhole}
 
 place_here : (x : ℕ) (ks : List ℕ) (k : ℕ) → x ≡ k → place_in (x ∷ ks) k ≡ zero
 place_here x ks k e = ap (λ b. cond b zero (suc (place_in ks k))) (eq-eqb x k e)
