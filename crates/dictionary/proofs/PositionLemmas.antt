@@ -11,7 +11,7 @@ use Rattle.columns.specs.Cells.{place as at_row, cell_at}
 use Rattle.dictionary.specs.declared.positions.Position.{Position}
 use Rattle.dictionary.specs.declared.positions.Position.TheVariants.{Row, Column}
 use Rattle.dictionary.specs.Views.{Dictionary, IsWhole, number}
-use Rattle.dictionary.specs.Positions.{label_count, index_of, position_at, IsInRow, IsInColumn, IsPosition, AreApart, AreBelow, ArePositions}
+use Rattle.dictionary.specs.Positions.{label_count, index_of, position_at, StandsInRow, StandsInColumn, IsPosition, StandOnce, AreBelow, ArePositions}
 use Rattle.dictionary.proofs.Numbers.{own_number, other_number, row_number}
 use Rattle.dictionary.proofs.PlaceLemmas.{place_at, place_within, at_place, one_at_place}
 
@@ -46,7 +46,7 @@ module _ (f : ℕ → Position) (ks : List ℕ) (i : ℕ) (now : List Position) 
 
 -- what the positions say of a dictionary
 module _ (d : Dictionary) (whole : IsWhole d) where
-  pub labels_apart : AreBelow d.labels label_count → AreApart d.rows d.columns
+  pub labels_apart : AreBelow d.labels label_count → StandOnce d.rows d.columns
   labels_apart below = record {
     rows_once = whole.distinct_rows;
     columns_once = whole.distinct;
@@ -76,11 +76,11 @@ module _ (d : Dictionary) (whole : IsWhole d) where
         }))
         (contains_or d.columns label)
 
-    pub row_place : (i : ℕ) → IsInRow d label i → i ≡ place_in d.rows label
+    pub row_place : (i : ℕ) → StandsInRow d label i → i ≡ place_in d.rows label
     row_place i h =
         sym (place_at d.rows i 0 whole.distinct_rows h.within) ∙ ap (λ k. place_in d.rows k) h.label_is
 
-    pub column_place : (j : ℕ) → IsInColumn d label j → j ≡ suc (place_in d.columns label)
+    pub column_place : (j : ℕ) → StandsInColumn d label j → j ≡ suc (place_in d.columns label)
     column_place zero h = absurd (omega (arith, h.behind))
     column_place (suc j) h =
         ap suc
@@ -97,7 +97,7 @@ module _ (d : Dictionary) (whole : IsWhole d) where
     column_index (Row i) h c = absurd (h.outside c)
     column_index (Column j) h c = column_place j h
 
-    pub number_in_row : (i j : ℕ) → IsInRow d label i → number d label j ≡ cell_at (length d.rows) d.cells i j
+    pub number_in_row : (i j : ℕ) → StandsInRow d label i → number d label j ≡ cell_at (length d.rows) d.cells i j
     number_in_row i j h =
         row_number d label j (λ m. h.outside (whole.same.back label m))
         ∙ ap (λ a. cell_at (length d.rows) d.cells a j) (sym (row_place i h))
@@ -105,10 +105,10 @@ module _ (d : Dictionary) (whole : IsWhole d) where
     pub row_in_labels : Contains d.labels label → (Contains d.key label → ⊥) → Contains d.rows label
     row_in_labels l n = whole.row_there label l (λ c. n (whole.same.back label c))
 
-    pub number_in_own : (own j : ℕ) → IsInColumn d label own → j ≡ own → number d label j ≡ d.denominator
+    pub number_in_own : (own j : ℕ) → StandsInColumn d label own → j ≡ own → number d label j ≡ d.denominator
     number_in_own own j h e = own_number d label j (whole.same.there label h.inside) (e ∙ column_place own h)
 
-    pub number_in_other : (own j : ℕ) → IsInColumn d label own → j ≢ own → number d label j ≡ pos 0
+    pub number_in_other : (own j : ℕ) → StandsInColumn d label own → j ≢ own → number d label j ≡ pos 0
     number_in_other own j h n =
         other_number d label j (whole.same.there label h.inside) (λ e. n (e ∙ sym (column_place own h)))
 

@@ -9,13 +9,13 @@ use Rattle.dictionary.specs.declared.positions.Position.TheVariants.{Row, Column
 use Rattle.dictionary.specs.Views.{Dictionary, number, column_label}
 
 -- the label is outside the cobasis, and row i of the cells is its
-pub record IsInRow (d : Dictionary) (label i : ℕ) : Type 0 where
+pub record StandsInRow (d : Dictionary) (label i : ℕ) : Type 0 where
   pub within : i < length d.rows
   pub label_is : slice_index_or d.rows i 0 ≡ label
   pub outside : Contains d.key label → ⊥
 
 -- the label is in the cobasis, and column j of the cells is its; column 0 has the constants
-pub record IsInColumn (d : Dictionary) (label j : ℕ) : Type 0 where
+pub record StandsInColumn (d : Dictionary) (label j : ℕ) : Type 0 where
   pub behind : 0 < j
   pub within : j < suc (length d.columns)
   pub label_is : column_label d j ≡ label
@@ -23,8 +23,8 @@ pub record IsInColumn (d : Dictionary) (label j : ℕ) : Type 0 where
 
 -- the label stands there
 abbrev pub IsPosition : Dictionary → ℕ → Position → Type 0
-IsPosition d label (Row i) = IsInRow d label i
-IsPosition d label (Column j) = IsInColumn d label j
+IsPosition d label (Row i) = StandsInRow d label i
+IsPosition d label (Column j) = StandsInColumn d label j
 
 -- which row or which column it is
 abbrev pub index_of : Position → ℕ
@@ -40,7 +40,7 @@ abbrev pub AreBelow : List ℕ → ℕ → Type 0
 AreBelow labels n = (l : ℕ) → Contains labels l → l < n
 
 -- each of these labels of rows and of columns stands once, and has a place in a list by labels
-pub record AreApart (rows columns : List ℕ) : Type 0 where
+pub record StandOnce (rows columns : List ℕ) : Type 0 where
   pub rows_once : AreDistinct rows
   pub columns_once : AreDistinct columns
   pub apart : (l : ℕ) → Contains rows l → Contains columns l → ⊥
@@ -66,7 +66,7 @@ pub record ArePositions (rows columns : List ℕ) (positions : List Position) : 
   pub in_column : HaveColumns columns positions
 
 -- column j: one number for each row, that of the row's label
-pub record IsColumnOf (d : Dictionary) (j : ℕ) (cells : List ℤ) : Type 0 where
+pub record IsCellColumn (d : Dictionary) (j : ℕ) (cells : List ℤ) : Type 0 where
   pub height : length cells ≡ length d.rows
   pub numbers : (i : ℕ) → i < length d.rows →
       slice_index_or cells i (pos 0) ≡ number d (slice_index_or d.rows i 0) j

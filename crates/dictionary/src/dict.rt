@@ -6,7 +6,7 @@ ghost use Rattle.poly_model.specs.Keys.{IsAscending};
 ghost use Rattle.dictionary_laws.specs.Keys.{place_in, AreDistinct, HaveSameLabels};
 ghost use Rattle.dictionary.specs.Units.{HasUnits};
 ghost use Rattle.dictionary.specs.Views.{number, table_of};
-ghost use Rattle.dictionary.specs.Positions.{IsPosition, IsColumnOf};
+ghost use Rattle.dictionary.specs.Positions.{IsPosition, IsCellColumn};
 
 use crate::places::copied;
 use crate::positions::{
@@ -196,7 +196,7 @@ impl Dict {
     /// Column j of the cells, where column 0 has the constants: the numbers of the labels of `rows` in it.
     pub fn column(&self, j: usize) -> Column<'_>
         requires { j < suc (length self.now.columns) }
-        ensures { IsColumnOf self.now j result }
+        ensures { IsCellColumn self.now j result }
     {
         self.cells.column(self.rows.len(), j)
     }

@@ -2,7 +2,7 @@
 ghost use Rattle.std.specs.Prelude.{◌≡◌, ◌≢◌, ◌<◌, ◌↔◌, IsTrue, MatchOption, suc, pos, length};
 ghost use Rattle.std.specs.List.{All, Contains, slice_index_or};
 ghost use Rattle.dictionary.specs.Views.{number};
-ghost use Rattle.dictionary.specs.Positions.{AreZeroFrom, IsColumnOf, IsLead};
+ghost use Rattle.dictionary.specs.Positions.{AreZeroFrom, IsCellColumn, IsLead};
 
 use crate::{Dict, Position};
 use columns::Column;
@@ -28,7 +28,7 @@ impl Dict {
 
     // Whether the number of a label in column j, whose cells these are, is not 0.
     fn is_nonzero(&self, cells: &Column, label: Label, j: usize) -> bool
-        requires cells { IsColumnOf self.now j cells.now }
+        requires cells { IsCellColumn self.now j cells.now }
         requires label { Contains self.now.labels label }
         ensures { IsTrue result ↔ (number self.now label j ≢ pos 0) }
     {

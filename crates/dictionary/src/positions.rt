@@ -3,7 +3,7 @@ ghost use Rattle.std.specs.Prelude.{◌≡◌, ◌<◌, ◌↔◌, ℕ, suc, IsT
 ghost use Rattle.std.specs.List.{Contains, slice_index_or};
 ghost use Rattle.dictionary_laws.specs.Keys.{place_in, AreDistinct};
 ghost use Rattle.dictionary.specs.declared.positions.Position.TheVariants.{Row, Column};
-ghost use Rattle.dictionary.specs.Positions.{index_of, label_count, position_at, AreApart, AreBelow, ArePositions, HaveRows, HaveColumns};
+ghost use Rattle.dictionary.specs.Positions.{index_of, label_count, position_at, StandOnce, AreBelow, ArePositions, HaveRows, HaveColumns};
 
 use poly_model::{Label, MOST_COLUMNS, OutOfMemory};
 use std::alloc::Global;
@@ -41,7 +41,7 @@ pub fn positions_of(
     rows: &[Label],
     columns: &[Label],
 ) -> Result<Vec<Position>, OutOfMemory>
-    requires { AreApart rows.now columns.now }
+    requires { StandOnce rows.now columns.now }
     ensures { IfOk result (λ v. ArePositions rows.now columns.now v.items) }
 {
     let mut positions = Vec::new(alloc);
@@ -53,7 +53,7 @@ pub fn positions_of(
 /// Writes the positions of these labels. What stands at other labels stays.
 pub fn write_positions(positions: &mut [Position], rows: &[Label], columns: &[Label])
     requires room { length positions.old ≡ label_count }
-    requires apart { AreApart rows.now columns.now }
+    requires apart { StandOnce rows.now columns.now }
     ensures { ArePositions rows.now columns.now positions.new }
 {
     write_rows(positions, rows);

@@ -21,7 +21,7 @@ use Rattle.dictionary.specs.Units.{HasUnits}
 use Rattle.dictionary.specs.Views.{Dictionary, table_of}
 use Rattle.dictionary.proofs.PlaceLemmas.{place_within, at_place}
 use Rattle.lex_pivot.specs.Ratios.{NoneLeaves}
-use Rattle.lex_pivot.specs.Above.{HasRows, NoneEnters, EntersAt, LeadsToParent, IsRootExactly, EntersOn, IsLeastOn, NoneOn}
+use Rattle.lex_pivot.specs.Above.{IsOfRows, NoneEnters, EntersAt, LeadsToParent, IsRootExactly, EntersOn, IsLeastOn, NoneOn}
 use Rattle.lex_pivot.specs.declared.parents.Pivot.{Pivot}
 use Rattle.lex_pivot.proofs.EarlierLemmas.{space_of, rows_ascend}
 use Rattle.lex_pivot.proofs.FirstSigns.{not_below}
@@ -50,7 +50,7 @@ module _ (d : Dictionary) (root : List ℕ) (inside : Bool) where
 
 -- ---- the least in the order relative to the root
 module _ (d : Dictionary) (root : List ℕ) (up : IsAscending d.labels) where
-  module _ (h : HasRows d) where
+  module _ (h : IsOfRows d) where
     row : (k : ℕ) → Contains d.key k → Contains (rows_in d.labels) k
     row k c = All-contains (Contains (rows_in d.labels)) d.key k h c
 

@@ -18,7 +18,7 @@ use Rattle.dictionary.specs.Views.{Dictionary, table_of}
 use Rattle.dictionary.proofs.PlaceLemmas.{place_within, at_place}
 use Rattle.tree_laws.proofs.ListSums.{gaps_of_maps}
 use Rattle.lex_pivot.specs.Earlier.{is_before_root}
-use Rattle.lex_pivot.specs.Pairs.{ArePair, pair_gaps, constant_gap, gap_at, IsEnd, IsEndAt, IsBehind, end_sign}
+use Rattle.lex_pivot.specs.Pairs.{ArePair, pair_gaps, constant_gap, gap_at, IsEnd, IsEndAt, IsPastEnd, end_sign}
 use Rattle.lex_pivot.specs.declared.ties.Pair.{Pair}
 use Rattle.lex_pivot.proofs.EarlierLemmas.{before_has, before_only, row_only, outside_ascending}
 use Rattle.lex_pivot.proofs.SignLemmas.{cross_sign, listed_elsewhere, listed_inside}
@@ -101,7 +101,7 @@ module _ (d : Dictionary) (root : List ℕ) (pair : Pair) (two : ArePair d pair)
 
     -- at a label of the cobasis
     pub differs_here : (end : Option ℕ) (k : ℕ) (o : Ordering) → IsEnd root pair end → k ≡ get_or d.key n 0 →
-        (IsBehind k end → ⊥) → Contains (outside d.labels root) k → o ≢ Equal →
+        (IsPastEnd k end → ⊥) → Contains (outside d.labels root) k → o ≢ Equal →
         o ≡ sign_of (gap_at d.key (table_of d) pair k) →
         o ≡ lex_sign_of (map (gap_at d.key (table_of d) pair) (outside d.labels root))
     differs_here end k o is e b c m v =
@@ -110,7 +110,7 @@ module _ (d : Dictionary) (root : List ℕ) (pair : Pair) (two : ArePair d pair)
         (zero_below k (λ l. omega arith) (λ j q l. by end is b j (before_only d.labels root j q).1 l))
         (λ z. m (v ∙ sign_zero (gap_at d.key (table_of d) pair k) z)))
       where
-        by : (end : Option ℕ) → IsEnd root pair end → (IsBehind k end → ⊥) → (j : ℕ) → is_before_root root j ≡ true →
+        by : (end : Option ℕ) → IsEnd root pair end → (IsPastEnd k end → ⊥) → (j : ℕ) → is_before_root root j ≡ true →
             j < k → (j ≢ pair.row) × (j ≢ pair.other)
         by (Some x) is b j t l = (
           (λ e. is.row (subst (λ z. is_before_root root z ≡ true) e t) (nearer x j pair.row l e b)),
@@ -172,7 +172,7 @@ module _ (d : Dictionary) (root : List ℕ) (pair : Pair) (two : ArePair d pair)
         ))
         is.one
 
-    pub at_end : (end : Option ℕ) → IsEnd root pair end → (n < length d.key → IsBehind (get_or d.key n 0) end) →
+    pub at_end : (end : Option ℕ) → IsEnd root pair end → (n < length d.key → IsPastEnd (get_or d.key n 0) end) →
         end_sign pair end ≡ lex_sign_of (map (gap_at d.key (table_of d) pair) (outside d.labels root))
     at_end (Some x) is far =
         let w = end_at x is in

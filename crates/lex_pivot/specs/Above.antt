@@ -10,8 +10,8 @@ use Rattle.dictionary.specs.Views.{Dictionary, table_of}
 use Rattle.lex_pivot.specs.declared.parents.Pivot.{Pivot}
 
 -- the cobasis is one of rows
-abbrev pub HasRows : Dictionary → Type 0
-HasRows d = All (Contains (rows_in d.labels)) d.key
+abbrev pub IsOfRows : Dictionary → Type 0
+IsOfRows d = All (Contains (rows_in d.labels)) d.key
 
 -- no column may enter
 abbrev pub NoneEnters : Dictionary → List ℕ → Type 0
@@ -20,7 +20,7 @@ NoneEnters d root = (s : ℕ) → Contains d.key s → MayEnter d.labels root (t
 -- the column of s may enter, and at a cobasis of rows it enters
 pub record EntersAt (d : Dictionary) (root : List ℕ) (s : ℕ) : Type 0 where
   pub may : MayEnter d.labels root (table_of d) s
-  pub enters : HasRows d → Enters d.labels root d.key (table_of d) s
+  pub enters : IsOfRows d → Enters d.labels root d.key (table_of d) s
 
 -- so does that of s, and row r leaves in it: the neighbour in it is the parent
 pub record LeadsToParent (d : Dictionary) (root : List ℕ) (s r : ℕ) : Type 0 where

@@ -47,9 +47,9 @@ IsEnd root pair (Some end) = IsEndAt root pair end
 IsEnd root pair None = HasNoEnd root pair
 
 -- the label is greater than the end
-abbrev pub IsBehind : ℕ → Option ℕ → Type 0
-IsBehind k (Some end) = end < k
-IsBehind k None = ⊥
+abbrev pub IsPastEnd : ℕ → Option ℕ → Type 0
+IsPastEnd k (Some end) = end < k
+IsPastEnd k None = ⊥
 
 -- the sign at the end
 abbrev pub end_sign : Pair → Option ℕ → Ordering

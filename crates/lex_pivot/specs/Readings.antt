@@ -7,10 +7,10 @@ use Rattle.lex_pivot.specs.declared.reading.Reading.{Reading}
 use Rattle.lex_pivot.specs.declared.reading.Reading.TheVariants.{Entry, Sum, Where}
 
 -- the number of row q
-abbrev pub number_at : Table → Reading → ℕ → ℤ
-number_at t (Entry s) q = t.entry q s
-number_at t (Sum p j f s) q = p *ℤ t.entry q j +ℤ t.entry q s *ℤ f
-number_at t (Where j s) q = if int_eq (t.entry q s) (pos 0) then t.entry q j else pos 0
+abbrev pub reading_at : Table → Reading → ℕ → ℤ
+reading_at t (Entry s) q = t.entry q s
+reading_at t (Sum p j f s) q = p *ℤ t.entry q j +ℤ t.entry q s *ℤ f
+reading_at t (Where j s) q = if int_eq (t.entry q s) (pos 0) then t.entry q j else pos 0
 
 -- it is read in columns of the key, and its factor p is positive
 abbrev pub IsReadable : List ℕ → Reading → Type 0

@@ -10,8 +10,6 @@ mod reading;
 mod relative;
 mod rows;
 mod scan;
-#[cfg(test)]
-mod tests;
 mod ties;
 
 pub use child::{is_child, is_child_by};

@@ -3,7 +3,7 @@ ghost use Rattle.std.specs.Prelude.{◌≡◌, ◌<ℤ◌, ◌↔◌, ◌*ℤ◌
 ghost use Rattle.std.specs.List.{Contains};
 ghost use Rattle.poly_num.specs.Signs.{sign_of};
 ghost use Rattle.dictionary.specs.Views.{table_of};
-ghost use Rattle.lex_pivot.specs.Readings.{number_at, IsReadable};
+ghost use Rattle.lex_pivot.specs.Readings.{reading_at, IsReadable};
 
 use dictionary::Dict;
 use poly_model::Label;
@@ -36,7 +36,7 @@ impl Reading {
     pub fn sign_at(&self, dict: &Dict, row: Label) -> Ordering
         requires row { Contains dict.now.labels row }
         requires columns { IsReadable dict.now.key self.now }
-        ensures { result ≡ sign_of (number_at (table_of dict.now) self.now row) }
+        ensures { result ≡ sign_of (reading_at (table_of dict.now) self.now row) }
     {
         match *self {
             Reading::Entry { col } => sign(dict.entry(row, col)),

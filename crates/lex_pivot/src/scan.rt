@@ -5,7 +5,7 @@ ghost use Rattle.std.specs.List.{Contains};
 ghost use Rattle.poly_num.specs.Signs.{sign_of, lex_sign_of};
 ghost use Rattle.poly_model.specs.LexOrder.{rows_in, within, outside, backwards};
 ghost use Rattle.dictionary.specs.Views.{table_of};
-ghost use Rattle.lex_pivot.specs.Readings.{number_at, IsReadable};
+ghost use Rattle.lex_pivot.specs.Readings.{reading_at, IsReadable};
 
 pub use crate::orderings::{differs, is_greater, is_less};
 use crate::{Order, Reading};
@@ -16,7 +16,7 @@ use std::cmp::Ordering;
 /// The sign of the number of the greatest row of the root at which it is not 0, and else `Equal`.
 pub fn root_sign(dict: &Dict, order: &Order, reading: &Reading) -> Ordering
     requires { IsReadable dict.now.key reading.now }
-    ensures { result ≡ lex_sign_of (map (number_at (table_of dict.now) reading.now) (backwards (within dict.now.labels order.now))) }
+    ensures { result ≡ lex_sign_of (map (reading_at (table_of dict.now) reading.now) (backwards (within dict.now.labels order.now))) }
 {
     // the labels of the dictionary ascend
     let _labels = dict.labels();
@@ -33,7 +33,7 @@ pub fn root_sign(dict: &Dict, order: &Order, reading: &Reading) -> Ordering
 // The sign of the number of a row of the dictionary, and else `Equal`.
 fn row_sign(dict: &Dict, reading: &Reading, row: Label) -> Ordering
     requires { IsReadable dict.now.key reading.now }
-    ensures value { Contains (rows_in dict.now.labels) row → result ≡ sign_of (number_at (table_of dict.now) reading.now row) }
+    ensures value { Contains (rows_in dict.now.labels) row → result ≡ sign_of (reading_at (table_of dict.now) reading.now row) }
     ensures row { result ≢ Equal → Contains (rows_in dict.now.labels) row }
 {
     if row.is_row() && dict.has_label(row) {
@@ -46,7 +46,7 @@ fn row_sign(dict: &Dict, reading: &Reading, row: Label) -> Ordering
 /// The same of the greatest row outside the root.
 pub fn outside_sign(dict: &Dict, order: &Order, reading: &Reading) -> Ordering
     requires { IsReadable dict.now.key reading.now }
-    ensures { result ≡ lex_sign_of (map (number_at (table_of dict.now) reading.now) (backwards (outside dict.now.labels order.now))) }
+    ensures { result ≡ lex_sign_of (map (reading_at (table_of dict.now) reading.now) (backwards (outside dict.now.labels order.now))) }
 {
     let labels = dict.labels();
     'rows: for n in (0..labels.len()).rev() {
@@ -62,7 +62,7 @@ pub fn outside_sign(dict: &Dict, order: &Order, reading: &Reading) -> Ordering
 fn sign_before_root(dict: &Dict, order: &Order, reading: &Reading, row: Label) -> Ordering
     requires row { Contains dict.now.labels row }
     requires columns { IsReadable dict.now.key reading.now }
-    ensures value { Contains (outside dict.now.labels order.now) row → result ≡ sign_of (number_at (table_of dict.now) reading.now row) }
+    ensures value { Contains (outside dict.now.labels order.now) row → result ≡ sign_of (reading_at (table_of dict.now) reading.now row) }
     ensures outside { result ≢ Equal → Contains (outside dict.now.labels order.now) row }
 {
     if order.is_before_root(row) {

@@ -6,7 +6,7 @@ ghost use Rattle.std.specs.List.{Contains};
 ghost use Rattle.poly_num.specs.Signs.{sign_of, lex_sign_of};
 ghost use Rattle.poly_model.specs.LexOrder.{outside};
 ghost use Rattle.dictionary.specs.Views.{table_of};
-ghost use Rattle.lex_pivot.specs.Pairs.{pair_gaps, gap_at, constant_gap, ArePair, IsEnd, IsBehind, end_sign};
+ghost use Rattle.lex_pivot.specs.Pairs.{pair_gaps, gap_at, constant_gap, ArePair, IsEnd, IsPastEnd, end_sign};
 
 use crate::Order;
 use crate::orderings::differs;
@@ -93,7 +93,7 @@ fn end_of(order: &Order, pair: &Pair) -> Option<Label>
 
 // Whether there is an end, and the label is greater.
 fn is_behind(label: Label, end: &Option<Label>) -> bool
-    ensures { IsTrue result ↔ IsBehind label end.now }
+    ensures { IsTrue result ↔ IsPastEnd label end.now }
 {
     match *end {
         Some(row) => row.number() < label.number(),

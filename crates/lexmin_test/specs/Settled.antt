@@ -15,6 +15,6 @@ abbrev pub IsZeroBefore : Dictionary → List ℕ → ℕ → Type 0
 IsZeroBefore d root i = (k : ℕ) → Contains d.key k → IsZeroIfEarlier d root i k
 
 -- so it is where row i is outside the cobasis and its constant is 0
-abbrev pub IsSettled : Dictionary → List ℕ → ℕ → Type 0
-IsSettled d root i =
+abbrev pub RowShowsPoint : Dictionary → List ℕ → ℕ → Type 0
+RowShowsPoint d root i =
     IsRowOutside d.labels d.key i → Table.constant (table_of d) i ≡ pos 0 → IsZeroBefore d root i

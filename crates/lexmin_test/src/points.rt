@@ -3,7 +3,7 @@ ghost use Rattle.std.specs.Prelude.{◌≡◌, ◌↔◌, pos, IsTrue};
 ghost use Rattle.std.specs.List.{Contains};
 ghost use Rattle.poly_model.specs.Tree.{IsRowOutside, ShowsPoint};
 ghost use Rattle.dictionary.specs.Views.{table_of};
-ghost use Rattle.lexmin_test.specs.Settled.{IsSettled, IsZeroBefore, IsZeroIfEarlier};
+ghost use Rattle.lexmin_test.specs.Settled.{RowShowsPoint, IsZeroBefore, IsZeroIfEarlier};
 
 use dictionary::Dict;
 use lex_pivot::{Order, comes_before, is_outside};
@@ -34,7 +34,7 @@ pub fn shows_point_by(dict: &Dict, order: &Order) -> bool
 // Whether the label asks nothing of the cobasis, or has what is asked.
 fn is_settled(dict: &Dict, order: &Order, row: Label) -> bool
     requires { Contains dict.now.labels row }
-    ensures { IsTrue result ↔ IsSettled dict.now order.now row }
+    ensures { IsTrue result ↔ RowShowsPoint dict.now order.now row }
 {
     if !is_outside(dict, row) {
         return true;

@@ -1,14 +1,20 @@
-//! What is shown at cobases, worked out by hand.
+//! The trees of the square and of the pyramid, and what is shown at their cobases and at those of unbounded polyhedra,
+//! worked out by hand.
+ghost use Rattle.std.specs.Prelude.{◌≡◌, ◌<◌};
+
 use crate::{shows_point, shows_ray};
-use dictionary::Dict;
+use dictionary::{Dict, Steps};
+use lex_pivot::{is_child, is_lex_feasible, leaving, parent};
 use poly_model::{
     Key, Kind, Label, MOST_COLUMNS, MOST_CONE_ROWS, OutOfMemory, Phase, Root, RowKind, System,
 };
 use poly_num::Num;
 use std::alloc::Global;
+use std::marker::Brand;
+use std::sync::ledger::{Blank, Ledger};
 use std::test::Fail;
 
-/// The rows of an H file and the row at infinity, the root, a cobasis, and what is shown there.
+/// The rows of an H file and the row at infinity, the root, a cobasis, and what is read off its dictionary.
 #[derive(Clone, Copy)]
 struct Case {
     name: &'static str,
@@ -19,17 +25,47 @@ struct Case {
     want: Answer,
 }
 
-/// Whether the point is shown, and the rays along the columns of the first two labels.
+/// Whether the cobasis is lexicographically feasible, whether its point is shown, the row and the column of the pivot to
+/// its parent, and the columns of its first two labels.
 #[derive(Clone, Copy, PartialEq, Eq, Debug)]
 struct Answer {
+    feasible: bool,
     point: bool,
-    first: bool,
-    second: bool,
+    parent: Option<(u16, u16)>,
+    first: Down,
+    second: Down,
 }
+
+/// What is along a column: the row that leaves, with the neighbour a child or not; or else a ray, shown or not. That a row
+/// leaves where the ray is shown cannot be.
+#[derive(Clone, Copy, PartialEq, Eq, Debug)]
+enum Down {
+    Child(u16),
+    Other(u16),
+    Shown,
+    Hidden,
+    Both,
+}
+
+/// `x >= 0`, `y >= 0`, `x <= 1`, `y <= 1`, at the root.
+const SQUARE: Case = Case {
+    name: "the square at its root",
+    n: 3,
+    entries: &[0, 1, 0, 0, 0, 1, 1, -1, 0, 1, 0, -1, 1, 0, 0],
+    root: &[1, 2],
+    key: &[1, 2],
+    want: Answer {
+        feasible: true,
+        point: true,
+        parent: None,
+        first: Down::Child(3),
+        second: Down::Child(4),
+    },
+};
 
 /// A square base, and an apex at which four rows meet.
 const PYRAMID: Case = Case {
-    name: "the pyramid: its point at the root",
+    name: "the pyramid at its root: rows 3 and 5 tie in the column of row 1",
     n: 4,
     entries: &[
         0, 0, 0, 1, 1, -1, 0, -1, 1, 1, 0, -1, 1, 0, -1, -1, 1, 0, 1, -1, 1, 0, 0, 0,
@@ -37,9 +73,11 @@ const PYRAMID: Case = Case {
     root: &[1, 2, 4],
     key: &[1, 2, 4],
     want: Answer {
+        feasible: true,
         point: true,
-        first: false,
-        second: false,
+        parent: None,
+        first: Down::Child(5),
+        second: Down::Child(3),
     },
 };
 
@@ -51,54 +89,119 @@ const HALF_STRIP: Case = Case {
     root: &[1, 2],
     key: &[1, 2],
     want: Answer {
+        feasible: true,
         point: true,
-        first: true,
-        second: false,
+        parent: None,
+        first: Down::Shown,
+        second: Down::Child(3),
     },
 };
 
-const CASES: [Case; 6] = [
+const CASES: [Case; 11] = [
+    SQUARE,
+    Case {
+        name: "the square beside its root",
+        key: &[1, 4],
+        want: Answer {
+            feasible: true,
+            point: true,
+            parent: Some((2, 4)),
+            first: Down::Child(3),
+            second: Down::Other(2),
+        },
+        ..SQUARE
+    },
+    Case {
+        name: "the square on the other side: the neighbour opposite is no child",
+        key: &[2, 3],
+        want: Answer {
+            feasible: true,
+            point: true,
+            parent: Some((1, 3)),
+            first: Down::Other(4),
+            second: Down::Other(1),
+        },
+        ..SQUARE
+    },
+    Case {
+        name: "the square opposite: the least of two columns enters",
+        key: &[3, 4],
+        want: Answer {
+            feasible: true,
+            point: true,
+            parent: Some((1, 3)),
+            first: Down::Other(1),
+            second: Down::Other(2),
+        },
+        ..SQUARE
+    },
     PYRAMID,
     Case {
-        name: "the apex where it is shown",
+        name: "the apex below the root, where it is shown",
         key: &[2, 4, 5],
+        want: Answer {
+            feasible: true,
+            point: true,
+            parent: Some((1, 5)),
+            first: Down::Child(3),
+            second: Down::Other(1),
+        },
         ..PYRAMID
     },
     Case {
-        name: "the apex where it is not",
+        name: "the apex again, where it is not",
         key: &[3, 4, 5],
         want: Answer {
+            feasible: true,
             point: false,
-            first: false,
-            second: false,
+            parent: Some((2, 3)),
+            first: Down::Other(2),
+            second: Down::Other(1),
         },
         ..PYRAMID
     },
     Case {
-        name: "the quadrant: both rays, each with a row that is 0 along it",
-        entries: &[0, 1, 0, 0, 0, 1, 1, 0, 0],
+        name: "the apex, with a list that is negative",
+        key: &[2, 3, 4],
         want: Answer {
-            point: true,
-            first: true,
-            second: true,
+            feasible: false,
+            point: false,
+            parent: Some((1, 3)),
+            first: Down::Other(1),
+            second: Down::Other(1),
         },
-        ..HALF_STRIP
+        ..PYRAMID
     },
     HALF_STRIP,
     Case {
         name: "the half strip at its other point: the ray is not shown again",
         key: &[1, 3],
         want: Answer {
+            feasible: true,
             point: true,
-            first: false,
-            second: false,
+            parent: Some((2, 3)),
+            first: Down::Hidden,
+            second: Down::Other(2),
         },
+        ..HALF_STRIP
+    },
+    Case {
+        name: "the quadrant: both rays, each with a row that is 0 along it",
+        key: &[1, 2],
+        want: Answer {
+            feasible: true,
+            point: true,
+            parent: None,
+            first: Down::Shown,
+            second: Down::Shown,
+        },
+        entries: &[0, 1, 0, 0, 0, 1, 1, 0, 0],
         ..HALF_STRIP
     },
 ];
 
 #[test]
-fn shows_what_is_worked_out_by_hand(rt: HostRuntime) -> Result<(), Fail> {
+fn trees_worked_out_by_hand(rt: HostRuntime) -> Result<(), Fail> {
     let alloc = rt.alloc();
     for case in CASES {
         assert_eq!(rt; answer_to(alloc, case)?, case.want, "{}", case.name);
@@ -112,14 +215,28 @@ fn answer_to(alloc: Global, case: Case) -> Result<Answer, Fail> {
     let root = Root::new(key_of(alloc, case.root)?);
     let labels = labels_of(alloc, case.key)?;
     Ok(Answer {
+        feasible: is_lex_feasible(&dict, &root),
         point: shows_point(&dict, &root),
-        first: ray(&dict, &root, label_at(&labels, 0)),
-        second: ray(&dict, &root, label_at(&labels, 1)),
+        parent: match parent(&dict, &root) {
+            Some(pivot) => Some((pivot.row.number(), pivot.col.number())),
+            None => None,
+        },
+        first: down(&dict, &root, label_at(&labels, 0)),
+        second: down(&dict, &root, label_at(&labels, 1)),
     })
 }
 
-fn ray(dict: &Dict, root: &Root, col: Label) -> bool {
-    dict.in_cobasis(col) && shows_ray(dict, root, col)
+fn down(dict: &Dict, root: &Root, col: Label) -> Down {
+    if !dict.in_cobasis(col) {
+        return Down::Both;
+    }
+    match (leaving(dict, root, col), shows_ray(dict, root, col)) {
+        (Some(row), false) if is_child(dict, root, col, row) => Down::Child(row.number()),
+        (Some(row), false) => Down::Other(row.number()),
+        (Some(_), true) => Down::Both,
+        (None, true) => Down::Shown,
+        (None, false) => Down::Hidden,
+    }
 }
 
 /// The cone of these cells, n to a row.
@@ -155,13 +272,31 @@ fn dictionary_at(alloc: Global, sys: &System, n: u32, key: &[u32]) -> Result<Dic
 fn enter(dict: &mut Dict, n: u32, row: Label) -> Result<(), Fail> {
     for j in 1..n {
         if j < 8192 && dict.can_pivot(row, Label::coordinate(j)) {
-            return match dict.pivot(row, Label::coordinate(j)) {
-                Ok(()) => Ok(()),
-                Err(_) => Err("an overflow")?,
-            };
+            return exchange(dict, row, Label::coordinate(j));
         }
     }
     Err("a row that is not new")?
+}
+
+fn exchange(dict: &mut Dict, row: Label, col: Label) -> Result<(), Fail> {
+    exchange_counted::<Brand>(dict, row, col, Blank::new(1))
+}
+
+fn exchange_counted<L: Ledger>(
+    dict: &mut Dict,
+    row: Label,
+    col: Label,
+    blank: Blank,
+) -> Result<(), Fail>
+    requires blank { (blank.name ≡ L.name) × (blank.parts ≡ L.parts) × (0 < blank.parts) }
+{
+    if !dict.can_pivot(row, col) {
+        return Err("no pivot")?;
+    }
+    match dict.pivot(row, col, &mut Steps::<L>::new(blank)) {
+        Ok(()) => Ok(()),
+        Err(_) => Err("an overflow")?,
+    }
 }
 
 fn label(i: u32) -> Label {

@@ -3,7 +3,7 @@ use Rattle.std.specs.List.{Contains}
 use Rattle.poly_model.specs.Keys.{IsAscending}
 use Rattle.poly_model.specs.LexOrder.{outside}
 use Rattle.dictionary.specs.Views.{table_of}
-use Rattle.lex_pivot.specs.Readings.{number_at}
+use Rattle.lex_pivot.specs.Readings.{reading_at}
 use Rattle.lex_pivot.proofs.EarlierLemmas.{before_only, outside_ascending}
 use Rattle.lex_pivot.proofs.FirstSigns.{found_down, none_down}
 use Rattle.lex_pivot.proofs.scan.outside_sign.Goals.{After-labels-labels}
@@ -23,7 +23,7 @@ returns-then-differs c =
     let a = (goal.at.returns-then-differs c).After-labels-labels in
     let d = c.if-differs.ensures.yes refl in
     let m = c.sign_before_root-here.ensures.outside d in
-    found_down (number_at (table_of c.args.dict.now) c.args.reading.now) c.labels-labels.result.now
+    found_down (reading_at (table_of c.args.dict.now) c.args.reading.now) c.labels-labels.result.now
     (outside c.args.dict.now.labels c.args.order.now) c.labels-labels.ensures.ascending
     (outside_ascending c.args.dict.now.labels c.args.order.now (up a)) (inside a)
     (c.rows.n - 1) c.index-labels-n.result (let t = c.rows-test.true in let b = c.rows.auto.n in omega arith)
@@ -32,7 +32,7 @@ returns-then-differs c =
 pub returns : goal.returns
 returns c =
     let a = (goal.at.returns c).After-labels-labels in
-    none_down (number_at (table_of c.args.dict.now) c.args.reading.now) c.labels-labels.result.now
+    none_down (reading_at (table_of c.args.dict.now) c.args.reading.now) c.labels-labels.result.now
     (outside c.args.dict.now.labels c.args.order.now) c.labels-labels.ensures.ascending
     (outside_ascending c.args.dict.now.labels c.args.order.now (up a)) (inside a)
     (λ j l m. c.rows.invariant j (let t = c.rows-test.false in omega arith) m)

@@ -1,9 +1,9 @@
 use Rattle.poly_model.specs.LexOrder.{outside}
 use Rattle.dictionary.specs.Views.{table_of}
-use Rattle.lex_pivot.specs.Readings.{number_at}
+use Rattle.lex_pivot.specs.Readings.{reading_at}
 use Rattle.lex_pivot.proofs.FirstSigns.{IsZeroFrom}
 use Rattle.lex_pivot.proofs.scan.outside_sign.Given as goal
 
 abbrev pub invariant-rows : goal.invariant-rows
 invariant-rows l =
-    IsZeroFrom (number_at (table_of l.dict) l.reading) l.labels (outside l.dict.labels l.order) l.n
+    IsZeroFrom (reading_at (table_of l.dict) l.reading) l.labels (outside l.dict.labels l.order) l.n

@@ -3,7 +3,7 @@ use Rattle.std.specs.List.{Contains}
 use Rattle.poly_model.specs.Keys.{IsAscending}
 use Rattle.poly_model.specs.LexOrder.{rows_in, within}
 use Rattle.dictionary.specs.Views.{table_of}
-use Rattle.lex_pivot.specs.Readings.{number_at}
+use Rattle.lex_pivot.specs.Readings.{reading_at}
 use Rattle.lex_pivot.proofs.EarlierLemmas.{within_row, within_member, within_ascending}
 use Rattle.lex_pivot.proofs.FirstSigns.{found_down, kept_down, none_down}
 use Rattle.lex_pivot.proofs.scan.root_sign.Goals.{After-root_labels-labels}
@@ -34,7 +34,7 @@ returns-then-differs c =
     let m = c.row_sign-here.ensures.row d in
     let l : c.rows.n - 1 < length c.root_labels-labels.result.now =
     (let t = c.rows-test.true in let b = c.rows.auto.n in omega arith) in
-    found_down (number_at (table_of c.args.dict.now) c.args.reading.now) c.root_labels-labels.result.now
+    found_down (reading_at (table_of c.args.dict.now) c.args.reading.now) c.root_labels-labels.result.now
     (within c.args.dict.now.labels c.args.order.now) c.root_labels-labels.ensures.ascending
     (ascends a) (inside a) (c.rows.n - 1) c.index-labels-n.result l c.index-labels-n.is c.row_sign-here.result c.rows.n
     (let t = c.rows-test.true in omega arith) c.rows.invariant d
@@ -43,7 +43,7 @@ returns-then-differs c =
 pub rows-preserved : goal.rows-preserved
 rows-preserved c =
     let a = (goal.at.rows-preserved c).After-root_labels-labels in
-    kept_down (number_at (table_of c.args.dict.now) c.args.reading.now) c.root_labels-labels.result.now
+    kept_down (reading_at (table_of c.args.dict.now) c.args.reading.now) c.root_labels-labels.result.now
     (within c.args.dict.now.labels c.args.order.now) c.root_labels-labels.ensures.ascending
     (ascends a) (inside a) (c.rows.n - 1) c.index-labels-n.result
     (let t = c.rows-test.true in let b = c.rows.auto.n in omega arith) c.index-labels-n.is c.row_sign-here.result
@@ -54,6 +54,6 @@ rows-preserved c =
 pub returns : goal.returns
 returns c =
     let a = (goal.at.returns c).After-root_labels-labels in
-    none_down (number_at (table_of c.args.dict.now) c.args.reading.now) c.root_labels-labels.result.now
+    none_down (reading_at (table_of c.args.dict.now) c.args.reading.now) c.root_labels-labels.result.now
     (within c.args.dict.now.labels c.args.order.now) c.root_labels-labels.ensures.ascending (ascends a) (inside a)
     (λ j l m. c.rows.invariant j (let t = c.rows-test.false in omega arith) m)

@@ -3,7 +3,7 @@ use Rattle.std.proofs.lemmas.List.{get_or_default}
 use Rattle.poly_model.specs.Keys.{IsAscending}
 use Rattle.poly_model.specs.LexOrder.{outside}
 use Rattle.dictionary.specs.Views.{table_of}
-use Rattle.lex_pivot.specs.Pairs.{gap_at, IsBehind}
+use Rattle.lex_pivot.specs.Pairs.{gap_at, IsPastEnd}
 use Rattle.lex_pivot.proofs.FirstSigns.{IsZeroBelow, kept_up}
 use Rattle.lex_pivot.proofs.PairLemmas.{at_end, differs_here, gaps_behind}
 use Rattle.lex_pivot.proofs.ties.compare_behind.Goals.{At-labels}
@@ -39,7 +39,7 @@ returns-then-is_behind c differ zero =
     c.end_sign.ensures
     ∙ at_end c.args.dict.now c.args.order.now c.args.pair.now c.requires differ (up a) (key_up a) (positive a)
     c.labels.k-index (so_far a) c.end_of-end.result c.end_of-end.ensures
-    (λ m. subst (λ (q : ℕ). IsBehind q c.end_of-end.result) (item a c.k-item.result c.k-item.is l)
+    (λ m. subst (λ (q : ℕ). IsPastEnd q c.end_of-end.result) (item a c.k-item.result c.k-item.is l)
     (c.if-is_behind.ensures.0 refl))
     ∙ gaps_behind c.args.dict.now c.args.order.now c.args.pair.now zero
 

@@ -1,0 +1,4 @@
+use Rattle.lexmin_test.proofs.tests.exchange.Given as goal
+
+abbrev pub ghosts-exchange_counted : goal.ghosts-exchange_counted
+ghosts-exchange_counted a = record { name = a.blank.name; parts = a.blank.parts }
