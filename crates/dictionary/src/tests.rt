@@ -527,3 +527,27 @@ fn reads_a_column(rt: HostRuntime) -> Result<(), Fail> {
     }
     Ok(())
 }
+
+/// The last of all labels, ascending, whose number in column j is not 0.
+fn lead(dict: &Dict, j: usize) -> Option<usize> {
+    if j <= dict.columns().len() {
+        dict.lead(dict.labels(), j)
+    } else {
+        None
+    }
+}
+
+fn leads_of(alloc: Global, first: [i128; 3]) -> Result<[Option<usize>; 3], OutOfMemory> {
+    let sys = system(alloc, first, false, [0, 0, 1])?;
+    let dict = Dict::new(alloc, &sys, Phase::Prepare)?;
+    Ok([lead(&dict, 0), lead(&dict, 1), lead(&dict, 2)])
+}
+
+#[test]
+fn names_the_last_label_that_is_not_0(rt: HostRuntime) -> Result<(), Fail> {
+    for (first, constant) in [([1, 2, -3], Some(0)), ([0, 1 << 70, 1], None)] {
+        let leads = leads_of(rt.alloc(), first)?;
+        assert_eq!(rt; leads, [constant, Some(2), Some(3)]);
+    }
+    Ok(())
+}
