@@ -1,5 +1,5 @@
 -- Positions of labels: what writing them gives, and what they say of a dictionary.
-use Rattle.std.proofs.Common.{◌≡◌, ◌≢◌, ℕ, zero, suc, ◌+◌, ◌<◌, List, length, get_or, set, pos, arith, refl, sym, ap, subst, ◌∙◌, ⊎_elim}
+use Rattle.std.proofs.Common.{◌≡◌, ◌≢◌, ℕ, zero, suc, ◌+◌, ◌<◌, ◌≤◌, List, length, get_or, set, pos, arith, refl, sym, ap, subst, ◌∙◌, ⊎_elim}
 use Rattle.std.specs.List.{Contains}
 use Rattle.std.proofs.lemmas.Bool.{cases_eq}
 use Rattle.std.proofs.lemmas.Nat.{mul-add-lt}
@@ -14,6 +14,10 @@ use Rattle.dictionary.specs.Views.{Dictionary, IsWhole, number}
 use Rattle.dictionary.specs.Positions.{label_count, index_of, position_at, StandsInRow, StandsInColumn, IsPosition, StandOnce, AreBelow, ArePositions}
 use Rattle.dictionary.proofs.Numbers.{own_number, other_number, row_number}
 use Rattle.dictionary.proofs.PlaceLemmas.{place_at, place_within, at_place, one_at_place}
+
+-- a number as large as all their bound is none of these labels
+pub not_below : (labels : List ℕ) (n l : ℕ) → AreBelow labels n → n ≤ l → Contains labels l → ⊥
+not_below labels n l below le m = let lt = below l m in omega (arith, lt, le)
 
 -- where the positions of the first labels are written, and that of one more
 module _ (f : ℕ → Position) (ks : List ℕ) (i : ℕ) (now : List Position) (once : AreDistinct ks) (lt : i < length ks)

@@ -52,6 +52,10 @@ module _ (labels : List ℕ) where
         let r = row_only k f.0 in
         (r.0, ap (λ b. cond b (not (is_member k root)) false) r.1 ∙ f.1)
 
+    -- so it is one of a list that is equal to the labels
+    pub outside_in : (equal : List ℕ) → equal ≡ labels → (k : ℕ) → Contains (outside labels root) k → Contains equal k
+    outside_in equal e k c = subst (λ (ks : List ℕ). Contains ks k) (sym e) (before_only k c).0
+
     pub within_row : (k : ℕ) → Contains (within labels root) k → Contains (rows_in labels) k × Contains root k
     within_row k c =
         let f = filter_only (λ k. is_member k root) (rows_in labels) k c in (f.0, member_only k root f.1)

@@ -47,6 +47,15 @@ enum Down {
     Both,
 }
 
+/// What is read off at a root whose point has no other cobasis before it.
+const AT_A_ROOT: Answer = Answer {
+    feasible: true,
+    point: true,
+    parent: None,
+    first: Down::Hidden,
+    second: Down::Hidden,
+};
+
 /// `x >= 0`, `y >= 0`, `x <= 1`, `y <= 1`, at the root.
 const SQUARE: Case = Case {
     name: "the square at its root",
@@ -55,11 +64,9 @@ const SQUARE: Case = Case {
     root: &[1, 2],
     key: &[1, 2],
     want: Answer {
-        feasible: true,
-        point: true,
-        parent: None,
         first: Down::Child(3),
         second: Down::Child(4),
+        ..AT_A_ROOT
     },
 };
 
@@ -73,11 +80,9 @@ const PYRAMID: Case = Case {
     root: &[1, 2, 4],
     key: &[1, 2, 4],
     want: Answer {
-        feasible: true,
-        point: true,
-        parent: None,
         first: Down::Child(5),
         second: Down::Child(3),
+        ..AT_A_ROOT
     },
 };
 
@@ -89,11 +94,9 @@ const HALF_STRIP: Case = Case {
     root: &[1, 2],
     key: &[1, 2],
     want: Answer {
-        feasible: true,
-        point: true,
-        parent: None,
         first: Down::Shown,
         second: Down::Child(3),
+        ..AT_A_ROOT
     },
 };
 
@@ -221,12 +224,12 @@ fn answer_to(alloc: Global, case: Case) -> Result<Answer, Fail> {
             Some(pivot) => Some((pivot.row.number(), pivot.col.number())),
             None => None,
         },
-        first: down(&dict, &root, label_at(&labels, 0)),
-        second: down(&dict, &root, label_at(&labels, 1)),
+        first: along(&dict, &root, label_at(&labels, 0)),
+        second: along(&dict, &root, label_at(&labels, 1)),
     })
 }
 
-fn down(dict: &Dict, root: &Root, col: Label) -> Down {
+fn along(dict: &Dict, root: &Root, col: Label) -> Down {
     if !dict.in_cobasis(col) {
         return Down::Both;
     }

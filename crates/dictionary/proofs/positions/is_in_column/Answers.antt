@@ -5,15 +5,15 @@ use Rattle.std.proofs.lemmas.List.Elements.{Contains-get_or}
 use Rattle.dictionary_laws.specs.Keys.{place_in}
 use Rattle.dictionary.specs.Positions.{index_of}
 use Rattle.dictionary.proofs.PlaceLemmas.{place_within, at_place}
+use Rattle.dictionary.proofs.PositionLemmas.{not_below}
 use Rattle.dictionary.proofs.positions.is_in_column.Goals as goal
 
 pub returns-then-number-positions : goal.returns-then-number-positions
 returns-then-number-positions c = (
   λ t. absurd (false≢true t),
   λ m.
-      let l = c.requires.below c.args.label m in
-      let n = c.if-number-positions.true in
-      absurd (omega (arith, l, n, c.number.ensures)),
+      let many = c.if-number-positions.true in
+      absurd (not_below c.args.columns.now _ c.args.label c.requires.below (omega (arith, many, c.number.ensures)) m),
 )
 
 pub returns-then-j-gt0 : goal.returns-then-j-gt0

@@ -5,7 +5,7 @@ use Rattle.poly_model.specs.Dictionaries.{Table}
 use Rattle.poly_model.specs.Keys.{IsAscending}
 use Rattle.poly_model.specs.LexOrder.{outside, listed_at}
 use Rattle.dictionary.specs.Views.{table_of}
-use Rattle.lex_pivot.proofs.EarlierLemmas.{before_only, outside_ascending}
+use Rattle.lex_pivot.proofs.EarlierLemmas.{outside_in, outside_ascending}
 use Rattle.lex_pivot.proofs.FirstSigns.{found_up, none_up, zero_first, zero_sign}
 use Rattle.lex_pivot.proofs.feasible.list_sign.Goals.{After-labels-labels}
 use Rattle.lex_pivot.proofs.feasible.list_sign.Goals as goal
@@ -20,9 +20,8 @@ up c = subst IsAscending c.labels-labels.ensures.value c.labels-labels.ensures.a
 
 inside : (c : After-labels-labels) (k : ℕ) →
     Contains (outside c.args.dict.now.labels c.args.order.now) k → Contains c.labels-labels.result.now k
-inside c k m =
-    subst (λ (ks : List ℕ). Contains ks k) (sym c.labels-labels.ensures.value)
-    (before_only c.args.dict.now.labels c.args.order.now k m).0
+inside c =
+    outside_in c.args.dict.now.labels c.args.order.now c.labels-labels.result.now c.labels-labels.ensures.value
 
 pub returns-then-differs-2 : goal.returns-then-differs-2
 returns-then-differs-2 c =

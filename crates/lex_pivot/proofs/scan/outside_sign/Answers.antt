@@ -4,19 +4,18 @@ use Rattle.poly_model.specs.Keys.{IsAscending}
 use Rattle.poly_model.specs.LexOrder.{outside}
 use Rattle.dictionary.specs.Views.{table_of}
 use Rattle.lex_pivot.specs.Readings.{reading_at}
-use Rattle.lex_pivot.proofs.EarlierLemmas.{before_only, outside_ascending}
+use Rattle.lex_pivot.proofs.EarlierLemmas.{outside_in, outside_ascending}
 use Rattle.lex_pivot.proofs.FirstSigns.{found_down, none_down}
 use Rattle.lex_pivot.proofs.scan.outside_sign.Goals.{After-labels-labels}
 use Rattle.lex_pivot.proofs.scan.outside_sign.Goals as goal
 
-up : (c : After-labels-labels) → IsAscending c.args.dict.now.labels
-up c = subst IsAscending c.labels-labels.ensures.value c.labels-labels.ensures.ascending
-
 inside : (c : After-labels-labels) (k : ℕ) →
     Contains (outside c.args.dict.now.labels c.args.order.now) k → Contains c.labels-labels.result.now k
-inside c k m =
-    subst (λ (ks : List ℕ). Contains ks k) (sym c.labels-labels.ensures.value)
-    (before_only c.args.dict.now.labels c.args.order.now k m).0
+inside c =
+    outside_in c.args.dict.now.labels c.args.order.now c.labels-labels.result.now c.labels-labels.ensures.value
+
+up : (c : After-labels-labels) → IsAscending c.args.dict.now.labels
+up c = subst IsAscending c.labels-labels.ensures.value c.labels-labels.ensures.ascending
 
 pub returns-then-differs : goal.returns-then-differs
 returns-then-differs c =

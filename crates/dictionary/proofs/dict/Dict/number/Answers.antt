@@ -19,11 +19,11 @@ returns-in-Row c =
 -- a label of the cobasis
 pub returns-in-Column : goal.returns-in-Column
 returns-in-Column c =
-    let now = c.args.self.now in
-    let whole = subst (λ (d : Dictionary). IsWhole d) c.self.view_is c.self.invariant.2 in
-    let label = c.args.label in
-    let own = c.in-Column.own in
     let j = c.args.column in
+    let own = c.in-Column.own in
+    let now = c.args.self.now in
+    let label = c.args.label in
+    let whole = subst (λ (d : Dictionary). IsWhole d) c.self.view_is c.self.invariant.2 in
     let at = subst (λ (p : Position). IsPosition now label p) c.in-Column.is c.position.ensures in
     ⊎_elim
     (λ (e : j ≡ own). c.own_number.ensures.own e ∙ sym (number_in_own now whole label own j at e))

@@ -14,9 +14,6 @@ value c =
     c.index.ensures
     ∙ row_index c.args.self.now (whole c) c.args.row c.position.result c.position.ensures c.requires.outside
 
-pub returns-clause-value : goal.returns-clause-value
-returns-clause-value c = value (goal.at.returns-clause-value c).After-index
-
 pub returns-clause-within : goal.returns-clause-within
 returns-clause-within c =
     let all = (goal.at.returns-clause-within c).After-index in
@@ -25,3 +22,6 @@ returns-clause-within c =
     (λ m. c.requires.outside ((whole all).same.back c.args.row m)) in
     let l = place_within c.args.self.now.rows c.args.row there in
     omega (arith, here, l)
+
+pub returns-clause-value : goal.returns-clause-value
+returns-clause-value c = value (goal.at.returns-clause-value c).After-index
