@@ -58,6 +58,6 @@ pub record CellPasses (x : Exchange) (cells : List ℤ) (i j : ℕ) : Type 0 whe
   pub leaving : j ≢ x.column → i ≡ x.row → ¬ (IsNum (x.denominator *ℤ cell_at x.height cells x.row j))
 
 -- what the exchange takes at a passing place passes; for the new denominator that is the pivot's cell times the old one
-abbrev pub Passes : Exchange → List ℤ → Passing → Type 0
-Passes x cells Denominator = ¬ (IsNum (pivot_of x cells *ℤ x.denominator))
-Passes x cells (Cell s) = CellPasses x cells s.row s.column
+abbrev pub ExchangePasses : Exchange → List ℤ → Passing → Type 0
+ExchangePasses x cells Denominator = ¬ (IsNum (pivot_of x cells *ℤ x.denominator))
+ExchangePasses x cells (Cell s) = CellPasses x cells s.row s.column

@@ -1,3 +1,4 @@
 pub mod Cells
 pub mod HalfCells
 pub mod Steps
+pub mod Slices

@@ -1,9 +1,11 @@
 //! Cells that are words while all of them fit, and wide numbers else.
-ghost use Rattle.std.specs.Prelude.{◌≡◌, ◌<◌, IfOk, IsTrue, length};
+ghost use Rattle.std.specs.Prelude.{◌≡◌, ◌<◌, ◌≤◌, ℕ, pos, IfOk, IsTrue, length};
+ghost use Rattle.std.specs.List.{slice_index_or};
 ghost use Rattle.columns.specs.Cells.{cell_at, place};
 ghost use Rattle.columns.specs.HalfCells.{AreHalvesTo};
 
 use crate::exchange::{at_place, number_at};
+use crate::slices::{Column, Slice};
 use poly_num::Num;
 use std::alloc::AllocError;
 use std::marker::Model;
@@ -97,6 +99,21 @@ impl Cells {
         } else {
             at_place(&self.words, j * height + i).wide()
         }
+    }
+
+    /// The cells of column j, of columns of this height.
+    #[inline(always)]
+    pub fn column(&self, height: usize, j: usize) -> Column<'_>
+        requires { place height height j ≤ length self.now }
+        ensures height { length result ≡ height }
+        ensures cells { (i : ℕ) → i < height → slice_index_or result i (pos 0) ≡ cell_at height self.now i j }
+    {
+        let cells = if self.is_wide {
+            Slice::Wide(&self.wide[j * height..j * height + height])
+        } else {
+            Slice::Words(&self.words[j * height..j * height + height])
+        };
+        Column { cells }
     }
 
     // Back to words, where all cells are.

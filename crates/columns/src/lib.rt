@@ -9,6 +9,7 @@ mod into;
 mod kernels;
 mod parts;
 mod rescale;
+mod slices;
 mod table;
 #[cfg(test)]
 mod tests;
@@ -17,4 +18,5 @@ mod wide_column;
 
 pub use cells::Cells;
 pub use exchange::{Exchange, Passing, Spot};
+pub use slices::Column;
 pub use table::exchange_cells;

@@ -1,7 +1,7 @@
 //! The exchange of a row and a column in words where all of it fits, and in wide numbers else.
 ghost use Rattle.std.specs.Option.{IfSome};
 ghost use Rattle.std.specs.Prelude.{◌≡◌, ◌*◌, IfOk, IfErr, IsTrue, length};
-ghost use Rattle.columns.specs.Cells.{AllowsExchange, IsTableAfter, Passes};
+ghost use Rattle.columns.specs.Cells.{AllowsExchange, IsTableAfter, ExchangePasses};
 ghost use Rattle.poly_num.specs.Halves.{IsHalf};
 ghost use Rattle.columns.specs.Steps.{AreFactors, AreWordParts};
 
@@ -26,7 +26,7 @@ pub fn exchange_cells(
     requires room { length new.old ≡ x.now.width * x.now.height }
     requires own { length own.old ≡ x.now.height }
     ensures exchanged { IfOk result (λ d. IsTableAfter x.now old.now d new.new) }
-    ensures passes { IfErr result (λ p. Passes x.now old.now p) }
+    ensures passes { IfErr result (λ p. ExchangePasses x.now old.now p) }
     ensures room { length new.new ≡ length new.old }
     ensures own { length own.new ≡ length own.old }
 {
@@ -116,7 +116,7 @@ impl Cells {
         requires room { length new.old ≡ x.now.width * x.now.height }
         requires own { length own.old ≡ x.now.height }
         ensures exchanged { IfOk result (λ d. IsTableAfter x.now self.now d new.new) }
-        ensures passes { IfErr result (λ p. Passes x.now self.now p) }
+        ensures passes { IfErr result (λ p. ExchangePasses x.now self.now p) }
         ensures room { length new.new ≡ length new.old }
         ensures own { length own.new ≡ length own.old }
     {

@@ -353,3 +353,46 @@ fn copies_words_and_wide_numbers(rt: HostRuntime) -> Result<(), Fail> {
     }
     Ok(())
 }
+
+/// The second column of a table: its form, its cells, and which of them are not 0 and which are negative.
+#[derive(Clone, Copy, PartialEq, Eq, Debug)]
+struct Read {
+    form: Form,
+    cells: [i128; 3],
+    nonzero: [bool; 3],
+    negative: [bool; 3],
+}
+
+fn second_of(alloc: Global, cells: [i128; 6]) -> Result<Read, AllocError> {
+    let table = table(alloc, cells)?;
+    let column = table.column(3, 1);
+    Ok(Read {
+        form: form_of(&table),
+        cells: [column.at(0).get(), column.at(1).get(), column.at(2).get()],
+        nonzero: [
+            column.is_nonzero(0),
+            column.is_nonzero(1),
+            column.is_nonzero(2),
+        ],
+        negative: [
+            column.is_negative(0),
+            column.is_negative(1),
+            column.is_negative(2),
+        ],
+    })
+}
+
+#[test]
+fn reads_a_column_in_words_and_in_wide_numbers(rt: HostRuntime) -> Result<(), Fail> {
+    let (words, wide) = ([1, 2, 3, -4, 0, 6], [1, 2, 1 << 100, -4, 0, 6]);
+    for (cells, form) in [(words, Form::Halves), (wide, Form::Wide)] {
+        let want = Read {
+            form,
+            cells: [-4, 0, 6],
+            nonzero: [true, false, true],
+            negative: [true, false, false],
+        };
+        assert_eq!(rt; second_of(rt.alloc(), cells)?, want);
+    }
+    Ok(())
+}

@@ -1,7 +1,7 @@
 //! The exchange of a row and a column in numbers of 127 bits, into another table.
 ghost use Rattle.std.specs.Prelude.{◌≡◌, ◌≢◌, ◌<◌, ◌≤◌, ◌+◌, ◌*◌, ◌*ℤ◌, ◌<ℤ◌, IfOk, IfErr, MatchResult, pos, length, unsigned_abs};
 ghost use Prim.Native.Nat.{◌∣◌};
-ghost use Rattle.columns.specs.Cells.{CellPasses, IsTableAfter, Passes};
+ghost use Rattle.columns.specs.Cells.{CellPasses, IsTableAfter, ExchangePasses};
 ghost use Rattle.columns.specs.Steps.{AreWideParts, IsScale, IsColumnDone, IsScaled, IsRescaled, PassesScaled, PassesRescaled, IsReached};
 
 use crate::cells::Cells;
@@ -116,7 +116,7 @@ pub(crate) fn wide_into(old: &Cells, parts: &Parts<Num>, new: &mut [Num]) -> Res
     requires parts { AreWideParts old.now parts.now }
     requires room { length new.old ≡ parts.now.x.now.width * parts.now.x.now.height }
     ensures exchanged { IfOk result (λ d. IsTableAfter parts.now.x.now old.now d new.new) }
-    ensures passes { IfErr result (λ p. Passes parts.now.x.now old.now p) }
+    ensures passes { IfErr result (λ p. ExchangePasses parts.now.x.now old.now p) }
 {
     let mut scale = WideScale {
         divisor: parts.x.denominator,

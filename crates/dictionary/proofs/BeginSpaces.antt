@@ -1,5 +1,5 @@
 -- The table of the coordinates is their dictionary in the spaces of the first two phases.
-use Rattle.std.proofs.Common.{◌≡◌, ℕ, suc, ◌-◌, ◌<◌, ◌≤◌, ◌++◌, Bool, true, false, ℤ, pos, cond, List, [], ◌⊎◌, ⊎_elim, length, arith, refl, sym, ap, subst, ◌∙◌}
+use Rattle.std.proofs.Common.{◌≡◌, ℕ, ◌-◌, ◌<◌, ◌≤◌, ◌++◌, Bool, true, false, ℤ, pos, cond, List, [], ◌⊎◌, ⊎_elim, length, arith, refl, sym, ap, subst, ◌∙◌}
 use Rattle.std.specs.List.{range_with_len}
 use Rattle.std.proofs.lemmas.List.{length-append}
 use Rattle.std.proofs.lemmas.Bool.{lt-ltb}

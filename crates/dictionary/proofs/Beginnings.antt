@@ -1,5 +1,5 @@
 -- The table of the coordinates is whole, and is the dictionary of the coordinates in its spaces.
-use Rattle.std.proofs.Common.{◌≡◌, ◌≢◌, ℕ, zero, suc, ◌+◌, ◌-◌, ◌*◌, ◌<◌, ◌≤◌, ◌++◌, Bool, true, false, ℤ, pos, cond, List, [], ◌∷◌, map, length, get_or, arith, refl, sym, ap, subst, ◌∙◌, ⊎_elim}
+use Rattle.std.proofs.Common.{◌≡◌, ◌≢◌, ℕ, zero, suc, ◌+◌, ◌-◌, ◌*◌, ◌<◌, ◌≤◌, ◌++◌, Bool, true, false, pos, cond, List, map, length, arith, refl, sym, ap, subst, ◌∙◌, ⊎_elim}
 use Rattle.std.specs.Prelude.{◌==◌, if◌then◌else◌}
 use Rattle.std.specs.List.{Contains, range_with_len}
 use Rattle.std.proofs.lemmas.Bool.{cases_eq, eq-eqb, ne_eqb}
@@ -10,7 +10,7 @@ use Rattle.linear_laws.proofs.Members.{Contains-nil}
 use Rattle.poly_model.specs.Limits.{most_columns, most_cone_rows}
 use Rattle.poly_model.specs.declared.overflow.Phase.{Phase}
 use Rattle.poly_model.specs.Keys.{IsKey}
-use Rattle.poly_model.specs.Systems.{Row, row_of}
+use Rattle.poly_model.specs.Systems.{Row}
 use Rattle.poly_model.specs.Cones.{at, coordinate}
 use Rattle.poly_model.specs.Spaces.{Space}
 use Rattle.poly_model.specs.Labels.{coordinate_label}
@@ -23,6 +23,7 @@ use Rattle.dictionary_laws.proofs.Filters.{range_only, ascending_range}
 use Rattle.dictionary_laws.proofs.KeyExchange.{ascending_distinct}
 use Rattle.dictionary_laws.proofs.Members.{contains_cases}
 use Rattle.dictionary_laws.proofs.SameLabels.{agreeing_dictionary}
+use Rattle.dictionary.specs.Positions.{label_count, AreBelow}
 use Rattle.dictionary.specs.Views.{Dictionary, number, table_of, IsDictionaryIn, IsWhole}
 use Rattle.dictionary.specs.New.{first_label, first_width, first_number}
 use Rattle.dictionary.proofs.Joined.{joined_cases, ascending_joined}
@@ -70,6 +71,16 @@ coordinates_are_key j n h = record {
   room = let l = length-map-range_with_len coordinate_label j (n - j) in omega (arith, l);
   ascending = (coordinate_keys j n).ascending;
 }
+
+-- each label of rows and coordinates has its place among all that there can be
+pub first_below : (b : Bool) (n m : ℕ) → 0 < n → n ≤ most_columns → m ≤ most_cone_rows →
+    AreBelow (range_with_len 1 m ++ coordinate_key (first_label b) n) label_count
+first_below b n m some narrow few k c =
+    ⊎_elim
+    (λ (h : Contains (range_with_len 1 m) k). let l = (range_only 1 m k h).1 in omega (arith, l, few))
+    (λ (h : Contains (coordinate_key (first_label b) n) k).
+    let l = upper_of_key b n k some h in omega (arith, l, narrow))
+    (joined_cases (range_with_len 1 m) (coordinate_key (first_label b) n) k c)
 
 module _ (phase : Phase) (rows : List Row) (b : Bool) (n m : ℕ) (some : 0 < n) (narrow : n ≤ most_columns) (few : m ≤ most_cone_rows) where
   abbrev pub columns : List ℕ

@@ -1,6 +1,5 @@
 -- The numbers of some rows, one column after the other: how many there are, and which stands where.
 use Rattle.std.proofs.Common.{◌≡◌, ℕ, zero, suc, ◌+◌, ◌-◌, ◌*◌, ◌<◌, ℤ, pos, List, [], ◌∷◌, map, length, get_or, arith, ap, ◌∙◌, length-append}
-use Rattle.std.specs.List.{flat_map}
 use Rattle.std.proofs.lemmas.List.{length-map, get_or-map, get_or_append_left, get_or-append_right}
 use Rattle.columns.specs.Cells.{cell_at}
 use Rattle.dictionary.specs.Views.{by_columns}

@@ -1,5 +1,5 @@
 -- What the fields of a `Dict` hold after a pivot is the pivot of what they held.
-use Rattle.std.proofs.Common.{◌≡◌, ℕ, suc, ◌-◌, ◌<◌, ℤ, List, length, set, remove, arith, ap, subst, ◌∙◌, sym}
+use Rattle.std.proofs.Common.{◌≡◌, ℕ, suc, ◌-◌, ◌<◌, ℤ, List, length, set, remove, arith, ap, subst, ◌∙◌}
 use Rattle.std.specs.List.{Contains}
 use Rattle.poly_model.specs.declared.overflow.Phase.{Phase}
 use Rattle.poly_model.specs.Keys.{with_label}
@@ -7,7 +7,7 @@ use Rattle.dictionary_laws.specs.Keys.{place_in}
 use Rattle.dictionary_laws.specs.Laws.{IsExchangedKey}
 use Rattle.dictionary_laws.proofs.KeyExchange.{exchanged_key}
 use Rattle.columns.specs.declared.exchange.Exchange.{Exchange}
-use Rattle.columns.specs.Cells.{pivot_of, AllowsExchange, IsTableAfter}
+use Rattle.columns.specs.Cells.{AllowsExchange, IsTableAfter}
 use Rattle.dictionary.specs.Views.{Dictionary, exchange_at, CanPivot, IsPivot, IsWhole}
 use Rattle.dictionary.proofs.Numbers.{row_number}
 use Rattle.dictionary.proofs.PlaceLemmas.{place_within, at_place}

@@ -1,6 +1,6 @@
 -- What stays of a dictionary of the file's rows, without its common divisor, is the dictionary of the
 -- main space.
-use Rattle.std.proofs.Common.{◌≡◌, ℕ, suc, ◌-◌, ◌<◌, ◌≤◌, true, false, List, [], ◌∷◌, ℤ, pos, length, arith, refl, sym, ap, subst, ◌∙◌, inl, ⊎_elim, length-append}
+use Rattle.std.proofs.Common.{◌≡◌, ℕ, suc, ◌<◌, ◌≤◌, true, false, List, [], ◌∷◌, ℤ, pos, length, arith, refl, sym, ap, subst, ◌∙◌, inl, ⊎_elim, length-append}
 use Prim.Native.Nat.{◌∣◌}
 use Rattle.std.specs.Prelude.{not, unsigned_abs}
 use Rattle.std.specs.List.{Contains, filter}

@@ -1,11 +1,10 @@
 -- The numbers of the table of the coordinates: its rows have the first labels, its columns those of the coordinates.
-use Rattle.std.proofs.Common.{◌≡◌, ◌≢◌, ℕ, zero, suc, ◌+◌, ◌*◌, ◌-◌, ◌<◌, ◌≤◌, ℤ, pos, List, [], ◌∷◌, length, get_or, arith, sym, ap, ◌∙◌, ⊎_elim}
-use Rattle.std.specs.List.{Contains, range_with_len}
+use Rattle.std.proofs.Common.{◌≡◌, ◌≢◌, ℕ, zero, suc, ◌+◌, ◌*◌, ◌-◌, ◌<◌, ◌≤◌, ℤ, List, length, get_or, arith, ap, ◌∙◌, ⊎_elim}
+use Rattle.std.specs.List.{range_with_len}
 use Rattle.std.proofs.lemmas.Bool.{cases_eq}
 use Rattle.std.proofs.lemmas.List.FromFn.{length-range_with_len}
 use Rattle.dictionary_laws.specs.Keys.{place_in}
 use Rattle.dictionary_laws.proofs.CoordinateDictionary.{place_first, place_later}
-use Rattle.dictionary_laws.proofs.Filters.{range_has}
 use Rattle.columns.specs.Cells.{cell_at}
 use Rattle.dictionary.specs.Views.{by_columns}
 use Rattle.dictionary.proofs.ByColumns.{length_by_columns, cell_by_columns}

@@ -1,10 +1,10 @@
 -- Two lists of labels, one behind the other.
-use Rattle.std.proofs.Common.{◌≡◌, ◌⊎◌, ℕ, suc, ◌+◌, ◌<◌, List, [], ◌∷◌, ◌++◌, length, arith, refl, sym, ap, subst, ◌∙◌, inl, inr, ⊎_elim}
+use Rattle.std.proofs.Common.{◌≡◌, ◌⊎◌, ℕ, ◌<◌, List, [], ◌∷◌, ◌++◌, sym, subst, inl, inr, ⊎_elim}
 use Rattle.std.specs.List.{Contains}
 use Rattle.linear_laws.proofs.Members.{Contains-first, Contains-later, all_at}
 use Rattle.poly_model.specs.Keys.{IsAscending}
-use Rattle.dictionary_laws.specs.Keys.{place_in, AreDistinct}
-use Rattle.dictionary_laws.proofs.Members.{contains_cases, contains_other, all_from}
+use Rattle.dictionary_laws.specs.Keys.{AreDistinct}
+use Rattle.dictionary_laws.proofs.Members.{contains_cases, all_from}
 
 pub joined_cases : (ks ls : List ℕ) (k : ℕ) → Contains (ks ++ ls) k → Contains ks k ⊎ Contains ls k
 joined_cases [] ls k c = inr c

@@ -1,6 +1,6 @@
 -- The labels of a key that pass a test.
-use Rattle.std.proofs.Common.{◌≡◌, ℕ, suc, ◌≤◌, Bool, List, [], ◌∷◌, length, arith}
-use Rattle.std.specs.List.{Contains, filter}
+use Rattle.std.proofs.Common.{ℕ, suc, ◌≤◌, Bool, List, [], ◌∷◌, length, arith}
+use Rattle.std.specs.List.{filter}
 use Rattle.std.proofs.lemmas.Bool.{cond_both}
 use Rattle.poly_model.specs.Keys.{IsKey}
 use Rattle.dictionary_laws.specs.Keys.{HaveSameLabels}

@@ -1,5 +1,5 @@
 -- What stays of a dictionary has its old numbers, by labels, and is whole again.
-use Rattle.std.proofs.Common.{◌≡◌, ◌≢◌, ◌⊎◌, ℕ, zero, suc, ◌*◌, ◌<◌, Bool, true, false, List, ◌++◌, ◌∷◌, ℤ, pos, map, length, get_or, arith, refl, sym, ap, subst, ◌∙◌, inl, inr, ⊎_elim}
+use Rattle.std.proofs.Common.{◌≡◌, ◌≢◌, ℕ, suc, ◌*◌, ◌<◌, Bool, true, false, List, length, get_or, arith, refl, sym, ap, ◌∙◌, ⊎_elim}
 use Rattle.std.specs.Prelude.{not, ◌&&◌}
 use Rattle.std.specs.List.{All, Contains, filter}
 use Rattle.std.proofs.lemmas.Bool.{cases_eq}
@@ -8,8 +8,7 @@ use Rattle.std.proofs.lemmas.List.Elements.{Contains-get_or, Contains-append_lef
 use Rattle.dictionary_laws.specs.Keys.{place_in, AreDistinct}
 use Rattle.dictionary_laws.proofs.Filters.{filter_only, filter_kept, distinct_filter, ascending_filter}
 use Rattle.dictionary_laws.proofs.Members.{contains_or}
-use Rattle.columns.specs.Cells.{cell_at}
-use Rattle.dictionary.specs.Views.{Dictionary, number, by_columns, IsWhole}
+use Rattle.dictionary.specs.Views.{Dictionary, number, IsWhole}
 use Rattle.dictionary.specs.MainPhase.{kept_rows, kept_columns, kept}
 use Rattle.dictionary.proofs.ByColumns.{length_by_columns, cell_by_columns}
 use Rattle.dictionary.proofs.Joined.{joined_cases, distinct_joined}

@@ -15,3 +15,7 @@ pub mod FirstNumbers
 pub mod Beginnings
 pub mod BeginSpaces
 pub mod Counts
+pub mod PositionLemmas
+pub mod PositionsAfter
+pub mod ColumnNumbers
+pub mod CobasisLemmas

@@ -6,7 +6,6 @@ use Rattle.std.proofs.lemmas.List.Elements.{Contains-get_or}
 use Rattle.linear_laws.proofs.Members.{Contains-first, Contains-later, Contains-nil}
 use Rattle.dictionary_laws.specs.Keys.{place_in, AreDistinct, HaveSameLabels, Exchanges}
 use Rattle.dictionary_laws.proofs.Members.{contains_cases}
-use Rattle.dictionary.specs.Views.{Dictionary, IsWhole}
 
 place_here : (x : ℕ) (ks : List ℕ) (k : ℕ) → x ≡ k → place_in (x ∷ ks) k ≡ zero
 place_here x ks k e = ap (λ b. cond b zero (suc (place_in ks k))) (eq-eqb x k e)
@@ -25,16 +24,6 @@ place_within (x ∷ ks) k c =
     ⊎_elim
     (λ (e : x ≡ k). rw (place_here x ks k e) (omega arith))
     (λ (n : x ≢ k). rw (place_later x ks k n) (let l = place_within ks k (later_member x ks k n c) in omega arith))
-    (cases_eq x k)
-
-pub place_has : (ks : List ℕ) (k : ℕ) → place_in ks k < length ks → Contains ks k
-place_has [] k l = absurd (omega arith)
-place_has (x ∷ ks) k l =
-    ⊎_elim
-    (λ (e : x ≡ k). subst (λ (i : ℕ). Contains (x ∷ ks) i) e (Contains-first x ks))
-    (λ (n : x ≢ k).
-    let h = place_later x ks k n in
-    Contains-later k x ks (place_has ks k (omega (arith, h))))
     (cases_eq x k)
 
 pub at_place : (ks : List ℕ) (k z : ℕ) → Contains ks k → get_or ks (place_in ks k) z ≡ k
@@ -173,14 +162,3 @@ module _ (r s : ℕ) where
         (λ (p : Contains columns k × (k ≢ s)). x.kept k (same.back k p.0) p.1)
         (set_members columns d c k h);
   }
-
--- a label of the key of what is seen has a column within
-pub has_column : (d now : Dictionary) (columns : List ℕ) (col : ℕ) → IsWhole d → d ≡ now → columns ≡ d.columns →
-    Contains now.key col → Contains columns col
-has_column d now columns col whole e f c =
-    subst (λ (ks : List ℕ). Contains ks col) (sym f)
-    (whole.same.there col (subst (λ (v : Dictionary). Contains v.key col) (sym e) c))
-
--- a label of the key is one of all labels
-pub key_label : (d : Dictionary) (k : ℕ) → IsWhole d → Contains d.key k → Contains d.labels k
-key_label d k whole c = whole.inside k (whole.same.there k c)

@@ -1,4 +1,5 @@
 pub mod MainPhase
 pub mod Views
 pub mod New
-pub mod Units
+pub mod Cobases
+pub mod Positions

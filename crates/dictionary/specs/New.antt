@@ -1,5 +1,5 @@
 -- The dictionary with which a phase begins.
-use Rattle.std.specs.Prelude.{◌≡◌, ℕ, ◌-◌, ◌<◌, ◌≤◌, ◌==◌, Bool, true, false, if◌then◌else◌, pos, ◌+◌, ℤ, List, length, ◌++◌}
+use Rattle.std.specs.Prelude.{◌≡◌, ℕ, ◌-◌, Bool, true, false, if◌then◌else◌, pos, ◌+◌, ℤ, List, length, ◌++◌}
 use Rattle.std.specs.List.{range_with_len, slice_index_or}
 use Rattle.poly_num.specs.Vectors.{Vector}
 use Rattle.poly_model.specs.declared.kind.Kind.{Kind}

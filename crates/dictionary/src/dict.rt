@@ -3,12 +3,16 @@ ghost use Rattle.std.specs.Prelude.{◌≡◌, ◌≢◌, ◌<◌, ◌<ℤ◌, �
 ghost use Rattle.std.specs.List.{Contains};
 ghost use Rattle.poly_model.specs.Dictionaries.{Table};
 ghost use Rattle.poly_model.specs.Keys.{IsAscending};
-ghost use Rattle.dictionary_laws.specs.Keys.{place_in};
-ghost use Rattle.dictionary.specs.Units.{HasUnits};
+ghost use Rattle.dictionary_laws.specs.Keys.{place_in, AreDistinct, HaveSameLabels};
+ghost use Rattle.dictionary.specs.Cobases.{HasUnits, AreOutside};
 ghost use Rattle.dictionary.specs.Views.{number, table_of};
+ghost use Rattle.dictionary.specs.Positions.{IsPosition, IsColumnOf};
 
-use crate::places::{has, place_of};
-use columns::Cells;
+use crate::places::copied;
+use crate::positions::{
+    Position, is_in_column, is_in_row, position_at, positions_of, write_positions,
+};
+use columns::{Cells, Column};
 use poly_model::{Key, Label, OutOfMemory, Phase};
 use poly_num::Num;
 use std::marker::Model;
@@ -35,17 +39,20 @@ pub struct Dict {
     // room for the cells after the next pivot, and for one column
     pub(crate) spare: Cells,
     pub(crate) own: Cells,
+    // where each label stands, by its number; what stands at the numbers of no labels is of no account
+    pub(crate) positions: Vec<Position>,
 }
 
 impl Model for Dict {
     ghost use Rattle.std.specs.Prelude.{◌≡◌, length};
     ghost use Rattle.dictionary.specs.Views.{Dictionary, IsWhole};
+    ghost use Rattle.dictionary.specs.Positions.{label_count, AreBelow, ArePositions};
 
     ghost Value = { Dictionary };
 
     ghost view = { λ d. record { phase = d.phase; labels = d.labels.items; key = d.key; columns = d.columns.items; rows = d.rows.items; denominator = d.denominator; cells = d.cells } };
 
-    ghost invariant = { λ d. (length d.spare ≡ length d.cells) × (length d.own ≡ length d.rows.items) × IsWhole (record { phase = d.phase; labels = d.labels.items; key = d.key; columns = d.columns.items; rows = d.rows.items; denominator = d.denominator; cells = d.cells }) };
+    ghost invariant = { λ d. (length d.spare ≡ length d.cells) × (length d.own ≡ length d.rows.items) × IsWhole (record { phase = d.phase; labels = d.labels.items; key = d.key; columns = d.columns.items; rows = d.rows.items; denominator = d.denominator; cells = d.cells }) × AreBelow d.labels.items label_count × ArePositions d.rows.items d.columns.items d.positions.items };
 }
 
 impl Dict {
@@ -94,14 +101,15 @@ impl Dict {
     pub fn has_label(&self, label: Label) -> bool
         ensures { IsTrue result ↔ Contains self.now.labels label }
     {
-        has(&self.labels, label)
+        let _ = &self.phase;
+        self.in_cobasis(label) || self.has_row(label)
     }
 
     /// Whether this label is in the cobasis.
     pub fn in_cobasis(&self, label: Label) -> bool
         ensures { IsTrue result ↔ Contains self.now.key label }
     {
-        has(self.key.labels(), label)
+        is_in_column(&self.positions, &self.columns, label)
     }
 
     /// The constant of a label.
@@ -129,16 +137,19 @@ impl Dict {
     pub fn copy(&self) -> Result<Dict, OutOfMemory>
         ensures { IfOk result (λ d. d ≡ self.now) }
     {
+        let alloc = *self.rows.allocator();
+        let positions = positions_of(alloc, &self.rows, &self.columns)?;
         Ok(Dict {
             phase: self.phase,
             key: self.key,
-            labels: self.labels.clone()?,
-            columns: self.columns.clone()?,
-            rows: self.rows.clone()?,
+            labels: copied(&self.labels)?,
+            columns: copied(&self.columns)?,
+            rows: copied(&self.rows)?,
             denominator: self.denominator,
             cells: self.cells.copy()?,
             spare: self.spare.copy()?,
             own: self.own.copy()?,
+            positions,
         })
     }
 
@@ -155,42 +166,83 @@ impl Dict {
         to.rows.copy_from_slice(&self.rows);
         to.denominator = self.denominator;
         self.cells.copy_into(&mut to.cells);
+        write_positions(&mut to.positions, &self.rows, &self.columns);
     }
 
-    // The number of a label in a column of cells.
-    pub(crate) fn number(&self, label: Label, column: usize) -> Num
+    /// The labels outside the cobasis, as their rows of cells stand.
+    pub fn rows(&self) -> &[Label]
+        ensures value { result.now ≡ self.now.rows }
+        ensures once { AreDistinct result.now }
+        ensures outside { AreOutside self.now result.now }
+    {
+        &self.rows
+    }
+
+    /// The labels of the cobasis, as their columns of cells stand behind that of the constants.
+    pub fn columns(&self) -> &[Label]
+        ensures value { result.now ≡ self.now.columns }
+        ensures key { HaveSameLabels self.now.key result.now }
+        ensures once { AreDistinct result.now }
+    {
+        &self.columns
+    }
+
+    /// Where a label stands.
+    pub fn position(&self, label: Label) -> Position
+        requires { Contains self.now.labels label }
+        ensures { IsPosition self.now label result }
+    {
+        position_at(&self.positions, label)
+    }
+
+    /// Column j of the cells, where column 0 has the constants: the numbers of the labels of `rows` in it.
+    pub fn column(&self, j: usize) -> Column<'_>
+        requires { j < suc (length self.now.columns) }
+        ensures { IsColumnOf self.now j result }
+    {
+        self.cells.column(self.rows.len(), j)
+    }
+
+    /// The number of a label in column j of the cells, where column 0 has the constants. That of a label of the cobasis is
+    /// the denominator in its own column, and 0 in the others.
+    pub fn number(&self, label: Label, column: usize) -> Num
         requires label { Contains self.now.labels label }
         requires column { column < suc (length self.now.columns) }
         ensures { result ≡ number self.now label column }
     {
-        let place = place_of(&self.columns, label);
-        if place < self.columns.len() {
-            return self.own_number(place, column);
+        match self.position(label) {
+            Position::Row(i) => self.cells.at(self.rows.len(), i, column),
+            Position::Column(own) => self.own_number(own, column),
         }
-        let i = place_of(&self.rows, label);
-        self.cells.at(self.rows.len(), i, column)
     }
 
-    // What the label of a column behind the constants is in a column.
-    fn own_number(&self, place: usize, column: usize) -> Num
-        requires { place < length self.now.columns }
-        ensures own { column ≡ suc place → result ≡ self.now.denominator }
-        ensures other { column ≢ suc place → result ≡ pos 0 }
+    // Whether this label has a row of cells.
+    fn has_row(&self, label: Label) -> bool
+        ensures { IsTrue result ↔ Contains self.now.rows label }
     {
-        if column > 0 && column - 1 == place {
+        is_in_row(&self.positions, &self.rows, label)
+    }
+
+    // What the label of a column is in a column.
+    fn own_number(&self, own: usize, column: usize) -> Num
+        ensures own { column ≡ own → result ≡ self.now.denominator }
+        ensures other { column ≢ own → result ≡ pos 0 }
+    {
+        if column == own {
             self.denominator
         } else {
             Num::ZERO
         }
     }
 
-    // The column of cells of a label of the cobasis.
-    pub(crate) fn column_of(&self, col: Label) -> usize
+    /// The column of cells of a label of the cobasis.
+    pub fn column_of(&self, col: Label) -> usize
         requires { Contains self.now.key col }
         ensures value { result ≡ suc (place_in self.now.columns col) }
         ensures within { result < suc (length self.now.columns) }
     {
-        place_of(&self.columns, col) + 1
+        let _ = &self.phase;
+        self.position(col).index()
     }
 
     // The row of cells of a label outside the cobasis.
@@ -200,6 +252,7 @@ impl Dict {
         ensures value { result ≡ place_in self.now.rows row }
         ensures within { result < length self.now.rows }
     {
-        place_of(&self.rows, row)
+        let _ = &self.phase;
+        self.position(row).index()
     }
 }

@@ -8,6 +8,7 @@ ghost use Rattle.dictionary.specs.MainPhase.{stays_in, kept_rows, kept_columns, 
 
 use crate::Dict;
 use crate::places::key_of;
+use crate::positions::positions_of;
 use crate::rooms::rooms_of;
 use poly_model::{FreeColumns, Label, OutOfMemory, Phase, System};
 use poly_num::{Num, primitive};
@@ -164,6 +165,7 @@ impl Dict {
         let mut kept = self.kept_cells(&rows, &columns)?;
         let denominator = divide_out(&mut kept, self.denominator)?;
         let rooms = rooms_of(kept, rows.len())?;
+        let positions = positions_of(alloc, &rows, &columns)?;
         Ok(Dict {
             phase: Phase::Main,
             key,
@@ -174,6 +176,7 @@ impl Dict {
             cells: rooms.cells,
             spare: rooms.spare,
             own: rooms.own,
+            positions,
         })
     }
 }

@@ -10,6 +10,7 @@ ghost use Rattle.dictionary.specs.New.{first_label, has_constants, row_count, ro
 
 use crate::Dict;
 use crate::places::key_of;
+use crate::positions::positions_of;
 use crate::rooms::rooms_of;
 use poly_model::{Kind, Label, OutOfMemory, Phase, System};
 use poly_num::Num;
@@ -32,6 +33,7 @@ impl Dict {
         let key = key_of(&columns);
         let cells = all_cells(alloc, sys, constants, count, columns.len() + 1)?;
         let rooms = rooms_of(cells, rows.len())?;
+        let positions = positions_of(alloc, &rows, &columns)?;
         Ok(Dict {
             phase,
             key,
@@ -42,6 +44,7 @@ impl Dict {
             cells: rooms.cells,
             spare: rooms.spare,
             own: rooms.own,
+            positions,
         })
     }
 }

@@ -5,7 +5,7 @@ ghost use Rattle.poly_num.specs.Numbers.{IsNum, Crosses};
 ghost use Rattle.poly_model.specs.Dictionaries.{Table};
 ghost use Rattle.poly_model.specs.Overflows.{IsPlace};
 ghost use Rattle.dictionary_laws.specs.Keys.{place_in};
-ghost use Rattle.columns.specs.Cells.{CellPasses, Passes};
+ghost use Rattle.columns.specs.Cells.{CellPasses, ExchangePasses};
 ghost use Rattle.dictionary.specs.Views.{exchange_at, column_label, number, table_of, CanPivot, IsOverflow};
 
 use crate::Dict;
@@ -22,7 +22,7 @@ impl Dict {
     // The overflow of a pivot where its exchange of cells passes.
     pub(crate) fn overflow_at(&self, row: Label, col: Label, passing: Passing) -> Overflow
         requires can { CanPivot self.now row col }
-        requires passes { Passes (exchange_at self.now row col) self.now.cells passing }
+        requires passes { ExchangePasses (exchange_at self.now row col) self.now.cells passing }
         ensures { IsOverflow self.now row col result }
     {
         let _ = &self.phase;

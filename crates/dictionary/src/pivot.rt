@@ -5,6 +5,7 @@ ghost use Rattle.dictionary.specs.Views.{exchange_at, CanPivot, IsPivot, IsOverf
 
 use crate::Dict;
 use crate::places::place_of;
+use crate::positions::{exchange_positions, write_positions};
 use columns::{Exchange, exchange_cells};
 use poly_model::{Label, Overflow};
 use poly_num::Num;
@@ -42,6 +43,7 @@ impl Dict {
                 self.key.exchange_at(at, row);
                 self.columns[x.column - 1] = row;
                 self.rows[x.row] = col;
+                exchange_positions(&mut self.positions, col, x.row, row, x.column);
                 Ok(())
             }
             Err(passing) => Err(self.overflow_at(row, col, passing)),
@@ -72,6 +74,7 @@ impl Dict {
                 to.columns[x.column - 1] = row;
                 to.rows.copy_from_slice(&self.rows);
                 to.rows[x.row] = col;
+                write_positions(&mut to.positions, &to.rows, &to.columns);
                 Ok(())
             }
             Err(passing) => Err(self.overflow_at(row, col, passing)),

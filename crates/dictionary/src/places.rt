@@ -1,17 +1,16 @@
 //! Places of labels in lists of labels.
-ghost use Rattle.std.specs.Prelude.{◌≡◌, ◌<◌, ◌↔◌, IsTrue, length};
+ghost use Rattle.std.specs.Prelude.{◌≡◌, ◌<◌, IfOk, length};
 ghost use Rattle.std.specs.List.{Contains};
 ghost use Rattle.poly_model.specs.Keys.{IsKey};
 ghost use Rattle.dictionary_laws.specs.Keys.{place_in};
 
-use poly_model::{Key, Label};
+use poly_model::{Key, Label, OutOfMemory};
 
 /// How many labels stand before the first that is `label`.
-#[tactic(auto, using(crate::proofs::PlaceLemmas::place_within, crate::proofs::PlaceLemmas::place_has))]
+#[tactic(auto, using(crate::proofs::PlaceLemmas::place_within))]
 pub fn place_of(labels: &[Label], label: Label) -> usize
     ensures value { result ≡ place_in labels.now label }
     ensures within { Contains labels.now label → result < length labels.now }
-    ensures member { result < length labels.now → Contains labels.now label }
 {
     'labels: for (i, l) in labels.iter().enumerate() {
         if l.is_same(label) {
@@ -21,11 +20,11 @@ pub fn place_of(labels: &[Label], label: Label) -> usize
     labels.len()
 }
 
-/// Whether `label` is one of them.
-pub fn has(labels: &[Label], label: Label) -> bool
-    ensures { IsTrue result ↔ Contains labels.now label }
+/// The same labels, in memory of their own.
+pub fn copied(labels: &Vec<Label>) -> Result<Vec<Label>, OutOfMemory>
+    ensures { IfOk result (λ v. v.items ≡ labels.now.items) }
 {
-    place_of(labels, label) < labels.len()
+    Ok(labels.clone()?)
 }
 
 /// The key of ascending labels.

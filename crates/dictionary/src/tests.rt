@@ -2,7 +2,7 @@
 ghost use Rattle.std.specs.Prelude.{◌≡◌, ◌<◌, IfOk, length};
 ghost use Rattle.poly_model.specs.Labels.{coordinates_from};
 
-use crate::Dict;
+use crate::{Dict, Position};
 use poly_model::{
     FreeColumns, Key, Kind, Label, MOST_COLUMNS, OutOfMemory, Overflow, Phase, Place, RowKind,
     System,
@@ -380,5 +380,134 @@ fn copied(alloc: Global) -> Result<(usize, Vec<Option<i128>>, Vec<Option<i128>>)
 fn copies_a_hundred_columns(rt: HostRuntime) -> Result<(), Fail> {
     let (labels, here, there) = copied(rt.alloc())?;
     assert_eq!(rt; (labels, here.len(), here == there), (99, 100, true));
+    Ok(())
+}
+
+/// Where rows 1 and 2 and x1 and x2 stand.
+type Standing = [Option<Position>; 4];
+
+fn position(dict: &Dict, label: Label) -> Option<Position> {
+    if dict.has_label(label) {
+        Some(dict.position(label))
+    } else {
+        None
+    }
+}
+
+fn standing(dict: &Dict) -> Standing {
+    [
+        position(dict, row(1)),
+        position(dict, row(2)),
+        position(dict, x(1)),
+        position(dict, x(2)),
+    ]
+}
+
+/// The positions in the dictionary of the coordinates, after a pivot, after the same pivot into a dictionary that stood
+/// elsewhere, and of the phase `Main` without row 1, which is linear.
+#[derive(Clone, Copy, PartialEq, Eq, Debug)]
+struct Standings {
+    first: Standing,
+    elsewhere: Standing,
+    into: Standing,
+    pivoted: Standing,
+    main: Standing,
+}
+
+fn pivot_over(dict: &Dict, to: &mut Dict, row: Label, col: Label) {
+    let same = dict.labels().len() == to.labels().len()
+        && dict.columns().len() == to.columns().len();
+    if same && dict.can_pivot(row, col) {
+        let _ = dict.pivot_into(to, row, col);
+    }
+}
+
+fn standings_of(alloc: Global) -> Result<Standings, OutOfMemory> {
+    let sys = system(alloc, [0, 1, -1], true, [3, 2, 1])?;
+    let mut dict = Dict::new(alloc, &sys, Phase::Prepare)?;
+    let first = standing(&dict);
+    let mut other = dict.copy()?;
+    let _ = pivot(&mut other, row(2), x(1));
+    let elsewhere = standing(&other);
+    pivot_over(&dict, &mut other, row(1), x(1));
+    let into = standing(&other);
+    let _ = pivot(&mut dict, row(1), x(1));
+    let pivoted = standing(&dict);
+    let main = dict.to_main(&sys, &FreeColumns::from_vec(Vec::new(alloc)))?;
+    Ok(Standings {
+        first,
+        elsewhere,
+        into,
+        pivoted,
+        main: standing(&main),
+    })
+}
+
+#[test]
+fn knows_where_labels_stand(rt: HostRuntime) -> Result<(), Fail> {
+    let at_row = |i: usize| Some(Position::Row(i));
+    let at_column = |j: usize| Some(Position::Column(j));
+    let pivoted = [at_column(1), at_row(1), at_row(0), at_column(2)];
+    let want = Standings {
+        first: [at_row(0), at_row(1), at_column(1), at_column(2)],
+        elsewhere: [at_row(0), at_column(1), at_row(1), at_column(2)],
+        into: pivoted,
+        pivoted,
+        main: [None, at_row(1), at_row(0), at_column(1)],
+    };
+    assert_eq!(rt; standings_of(rt.alloc())?, want);
+    Ok(())
+}
+
+/// Of the column of x1: its cells in two rows, and the last of three labels that is not 0 in it, in four orders.
+#[derive(Clone, Copy, PartialEq, Eq, Debug)]
+struct ColumnSeen {
+    cells: [Option<i128>; 2],
+    leads: [Option<usize>; 4],
+}
+
+fn cell(dict: &Dict, i: usize, j: usize) -> Option<i128> {
+    if j > dict.columns().len() {
+        return None;
+    }
+    let column = dict.column(j);
+    if i < column.len() {
+        Some(column.at(i).get())
+    } else {
+        None
+    }
+}
+
+fn lead(dict: &Dict, order: [Label; 3], j: usize) -> Option<usize> {
+    if j <= dict.columns().len() && order.iter().all(|label| dict.has_label(*label)) {
+        dict.lead(&order, j)
+    } else {
+        None
+    }
+}
+
+fn column_seen(alloc: Global, first: [i128; 3]) -> Result<ColumnSeen, OutOfMemory> {
+    let sys = system(alloc, first, false, [0, 0, 1])?;
+    let dict = Dict::new(alloc, &sys, Phase::Prepare)?;
+    Ok(ColumnSeen {
+        cells: [cell(&dict, 0, 1), cell(&dict, 1, 1)],
+        leads: [
+            lead(&dict, [row(2), x(2), row(1)], 1),
+            lead(&dict, [row(1), x(1), row(2)], 1),
+            lead(&dict, [row(1), row(2), x(2)], 1),
+            lead(&dict, [row(2), x(2), row(2)], 1),
+        ],
+    })
+}
+
+#[test]
+fn reads_a_column_and_its_leads(rt: HostRuntime) -> Result<(), Fail> {
+    for entry in [2, 1 << 70] {
+        let want = ColumnSeen {
+            cells: [Some(entry), Some(0)],
+            leads: [Some(2), Some(1), Some(0), None],
+        };
+        assert_eq!(rt; column_seen(rt.alloc(), [1, entry, -3])?, want);
+    }
     Ok(())
 }

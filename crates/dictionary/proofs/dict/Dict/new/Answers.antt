@@ -1,10 +1,11 @@
-use Rattle.std.proofs.Common.{◌≡◌, ◌≤◌, ◌<◌, ◌+◌, ◌++◌, ℕ, ℤ, Bool, List, pos, suc, length, arith, ap, sym, subst, ◌∙◌}
+use Rattle.std.proofs.Common.{◌≡◌, ◌+◌, ◌++◌, pos, length, arith, ap, sym, subst, ◌∙◌}
 use Rattle.std.specs.List.{range_with_len}
-use Rattle.std.proofs.lemmas.List.FromFn.{length-range_with_len}
 use Rattle.dictionary_laws.specs.Coordinates.{coordinate_key}
 use Rattle.dictionary.specs.Views.{Dictionary, IsWhole, by_columns}
 use Rattle.dictionary.specs.New.{first_label, first_width, first_number, row_count, has_constants, IsCoordinateDictionary}
-use Rattle.dictionary.proofs.Beginnings.{width_of_columns}
+use Rattle.dictionary.specs.Positions.{label_count, AreBelow}
+use Rattle.dictionary.proofs.Beginnings.{width_of_columns, first_below}
+use Rattle.dictionary.proofs.PositionLemmas.{labels_apart}
 use Rattle.dictionary.proofs.BeginSpaces.{same_view, new_whole, new_is}
 use Rattle.dictionary.proofs.dict.Dict.new.Goals as goal
 use Rattle.dictionary.proofs.dict.Dict.new.Goals.{After-len, In_ok-rooms}
@@ -35,7 +36,7 @@ fields c = record {
 }
 
 made : (c : In_ok-rooms) → c.len.result + 1 ≡ first_width c.has_constants-constants.result c.args.sys.now.n →
-    IsWhole (fields c) × IsCoordinateDictionary c.args.sys.now c.args.phase (fields c)
+    IsWhole (fields c) × IsCoordinateDictionary c.args.sys.now c.args.phase (fields c) × AreBelow (fields c).labels label_count
 made c wide =
     let sys = c.args.sys.now in
     let phase = c.args.phase in
@@ -58,7 +59,16 @@ made c wide =
       subst (λ (d : Dictionary). IsWhole d) same (new_whole sys phase c.requires m em few limits.some limits.narrow),
       subst (λ (d : Dictionary). IsCoordinateDictionary sys phase d) same
           (new_is sys phase c.requires m em few limits.some limits.narrow),
+      rw (labels ∙ ap (λ ks. ks ++ c.in_ok-columns.columns.items) c.in_ok-rows.ensures
+          ∙ ap (λ ks. range_with_len 1 m ++ ks) columns)
+          (first_below (has_constants phase sys.kind) sys.n m limits.some limits.narrow few),
     )
+
+pub positions_of-requires : goal.positions_of-requires
+positions_of-requires c =
+    let all = (goal.at.positions_of-requires c).In_ok-rooms in
+    let is = made all (width (goal.at.positions_of-requires c).After-len) in
+    rw (c.deref-3.ensures.value, c.deref-4.ensures.value) (labels_apart (fields all) is.0 is.2)
 
 pub invariant_of-result-2 : goal.invariant_of-result-2
 invariant_of-result-2 c =
@@ -68,6 +78,8 @@ invariant_of-result-2 c =
       rooms.spare ∙ ap length (sym rooms.cells),
       rooms.own ∙ c.len-2.ensures ∙ c.in_ok-rows.rows.ok.0,
       (made all wide).0,
+      (made all wide).2,
+      rw (sym c.deref-3.ensures.value, sym c.deref-4.ensures.value) c.in_ok-positions.ensures,
     )
 
 pub returns : goal.returns

@@ -1,6 +1,6 @@
-use Rattle.std.proofs.Common.{◌≡◌, subst}
+use Rattle.std.proofs.Common.{subst}
 use Rattle.columns.specs.declared.exchange.Passing.{Passing}
-use Rattle.columns.specs.Cells.{Passes}
+use Rattle.columns.specs.Cells.{ExchangePasses}
 use Rattle.dictionary.specs.Views.{Dictionary, IsWhole, exchange_at}
 use Rattle.dictionary.proofs.OverflowLemmas.{denominator_passes}
 use Rattle.dictionary.proofs.dict.Dict.overflow_at.Goals as goal
@@ -9,7 +9,7 @@ pub product_overflow-requires-clause-passes : goal.product_overflow-requires-cla
 product_overflow-requires-clause-passes c =
     denominator_passes c.args.self.now c.args.row c.args.col
     (subst (λ (d : Dictionary). IsWhole d) c.self.view_is c.self.invariant.2) c.requires.can
-    (subst (λ (p : Passing). Passes (exchange_at c.args.self.now c.args.row c.args.col) c.args.self.now.cells p)
+    (subst (λ (p : Passing). ExchangePasses (exchange_at c.args.self.now c.args.row c.args.col) c.args.self.now.cells p)
     c.in-Denominator.is c.requires.passes)
 
 pub returns-in-Denominator : goal.returns-in-Denominator

@@ -1,4 +1,4 @@
-use Rattle.std.proofs.Common.{◌≡◌, ◌≢◌, ℕ, subst, sym, ap, ◌∙◌}
+use Rattle.std.proofs.Common.{subst, sym, ◌∙◌}
 use Rattle.dictionary.specs.Views.{Dictionary, IsWhole}
 use Rattle.dictionary.proofs.OverflowLemmas.{PassesAtLabel, passes_at_label}
 use Rattle.dictionary.proofs.dict.Dict.overflow_in.Goals.{After-column_of}

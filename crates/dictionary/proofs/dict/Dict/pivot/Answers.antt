@@ -1,4 +1,4 @@
-use Rattle.std.proofs.Common.{◌≡◌, ℕ, ℤ, List, ◌-◌, length, set, remove, refl, sym, ap, subst, ◌∙◌}
+use Rattle.std.proofs.Common.{◌≡◌, ℤ, List, ◌-◌, length, set, remove, arith, sym, ap, subst, ◌∙◌}
 use Rattle.std.proofs.lemmas.List.{length-set}
 use Rattle.poly_model.specs.Keys.{with_label}
 use Rattle.dictionary_laws.specs.Keys.{place_in}
@@ -6,6 +6,10 @@ use Rattle.columns.specs.Cells.{AllowsExchange}
 use Rattle.dictionary.specs.Views.{Dictionary, IsPivot, IsWhole}
 use Rattle.dictionary.proofs.CarriedOut.{allows_exchange, column_bound, row_bound, carried_out}
 use Rattle.dictionary.proofs.dict.Dict.pivot.Goals.{After-index_mut-in-Ok}
+use Rattle.std.proofs.lemmas.List.{with_items_is}
+use Rattle.dictionary.specs.declared.positions.Position.TheVariants.{Row, Column}
+use Rattle.dictionary.specs.Positions.{label_count, AreBelow, ArePositions}
+use Rattle.dictionary.proofs.PositionsAfter.{positions_after}
 use Rattle.dictionary.proofs.dict.Dict.pivot.Goals as goal
 
 pub exchange_cells-requires-clause-can : goal.exchange_cells-requires-clause-can
@@ -58,14 +62,40 @@ pivoted c =
     (ap (λ (d : Dictionary). set d.columns (x.column - 1) row) view)
     (ap (λ (d : Dictionary). set d.rows x.row col) view) c.swap.ensures.x_after
 
+pub exchange_positions-requires-clause-entering : goal.exchange_positions-requires-clause-entering
+exchange_positions-requires-clause-entering c =
+    let below = subst (λ (d : Dictionary). AreBelow d.labels label_count) c.self.view_is c.self.invariant.3 in
+    let l = below c.args.row c.requires.label in
+    let room = ap length c.deref_mut.ensures.value ∙ c.self.invariant.4.room in
+    omega (arith, l, room)
+
 pub invariant_of-self : goal.invariant_of-self
 invariant_of-self c =
-    let all = (goal.at.invariant_of-self c).After-index_mut-in-Ok in (
+    let all = (goal.at.invariant_of-self c).After-index_mut-in-Ok in
+    let row = c.args.row in
+    let col = c.args.col in
+    let v = c.self.inside in
+    let x = c.exchange_of-x.result in
+    let view = c.self.view_is in
+    let positions = v.positions.items in
+    let after = set (set positions col (Row x.row)) row (Column x.column) in
+    let new : c.exchange_positions.new.positions ≡ after =
+    c.exchange_positions.ensures ∙ ap (λ ps. set (set ps col (Row x.row)) row (Column x.column)) c.deref_mut.ensures.value in
+    let written = with_items_is v.positions c.exchange_positions.new.positions
+    (ap length new ∙ length-set (set positions col (Row x.row)) row (Column x.column)
+    ∙ length-set positions col (Row x.row) ∙ sym v.positions.ok.0) in
+    let are = positions_after c.args.self.now row col (subst (λ (d : Dictionary). IsWhole d) view c.self.invariant.2)
+    c.requires positions
+    (subst (λ (d : Dictionary). ArePositions d.rows d.columns positions) view c.self.invariant.4)
+    (subst (λ (d : Dictionary). AreBelow d.labels label_count) view c.self.invariant.3) x c.exchange_of-x.ensures in (
       ap length c.swap.ensures.y_after ∙ sym c.self.invariant.0 ∙ sym c.exchange_cells.ensures.room
           ∙ ap length (sym c.swap.ensures.x_after),
-      c.exchange_cells.ensures.own ∙ c.self.invariant.1
-          ∙ sym (length-set c.self.inside.rows.items c.exchange_of-x.result.row c.args.col),
+      c.exchange_cells.ensures.own ∙ c.self.invariant.1 ∙ sym (length-set v.rows.items x.row col),
       (pivoted all).1,
+      c.self.invariant.3,
+      rw (written, new)
+          (subst (λ (d : Dictionary). ArePositions (set d.rows x.row col) (set d.columns (x.column - 1) row) after)
+          (sym view) are),
     )
 
 pub returns-in-Ok-clause-pivoted : goal.returns-in-Ok-clause-pivoted

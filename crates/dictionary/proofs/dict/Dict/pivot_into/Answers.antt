@@ -1,4 +1,4 @@
-use Rattle.std.proofs.Common.{◌≡◌, ℕ, ℤ, List, suc, ◌-◌, ◌*◌, length, set, remove, arith, refl, sym, ap, subst, ◌∙◌}
+use Rattle.std.proofs.Common.{ℕ, ℤ, List, ◌-◌, ◌*◌, length, set, remove, sym, ap, subst, ◌∙◌}
 use Rattle.std.proofs.lemmas.List.{length-set}
 use Rattle.poly_model.specs.Keys.{with_label}
 use Rattle.dictionary_laws.specs.Keys.{place_in}
@@ -7,6 +7,9 @@ use Rattle.columns.specs.Cells.{AllowsExchange}
 use Rattle.dictionary.specs.Views.{Dictionary, IsPivot, IsWhole}
 use Rattle.dictionary.proofs.CarriedOut.{allows_exchange, column_bound, row_bound, carried_out}
 use Rattle.dictionary.proofs.Counts.{same_rows, same_cells}
+use Rattle.std.proofs.lemmas.List.{with_items_is}
+use Rattle.dictionary.specs.Positions.{label_count, AreBelow, ArePositions}
+use Rattle.dictionary.proofs.PositionLemmas.{labels_apart}
 use Rattle.dictionary.proofs.dict.Dict.pivot_into.Goals.{After-to, After-index_mut-in-Ok}
 use Rattle.dictionary.proofs.dict.Dict.pivot_into.Goals as goal
 
@@ -87,11 +90,22 @@ pivoted c =
     (c.copy_from_slice-in-Ok-2.ensures.items ∙ c.deref-in-Ok-2.ensures.value ∙ ap (λ (d : Dictionary). d.rows) view))
     c.swap.ensures.x_after
 
+below : (c : After-index_mut-in-Ok) → AreBelow (after c).labels label_count
+below c = rw (c.copy_from_slice.ensures.items, c.deref.ensures.value) c.self.invariant.3
+
+pub write_positions-requires-clause-apart : goal.write_positions-requires-clause-apart
+write_positions-requires-clause-apart c =
+    let all = (goal.at.write_positions-requires-clause-apart c).After-index_mut-in-Ok in
+    rw (c.deref-in-Ok-3.ensures.value, c.deref-in-Ok-4.ensures.value)
+    (labels_apart (after all) (pivoted all).1 (below all))
+
 pub invariant_of-to : goal.invariant_of-to
 invariant_of-to c =
     let all = (goal.at.invariant_of-to c).After-index_mut-in-Ok in
     let to = (goal.at.invariant_of-to c).After-to in
-    let rows = c.copy_from_slice-in-Ok-2.new.self.items in (
+    let rows = c.copy_from_slice-in-Ok-2.new.self.items in
+    let written = with_items_is c.to.inside.positions c.write_positions.new.positions
+    (c.write_positions.ensures.room ∙ sym c.to.invariant.4.room ∙ sym c.to.inside.positions.ok.0) in (
       ap length c.swap.ensures.y_after ∙ sym c.to.invariant.0 ∙ sym c.exchange_cells.ensures.room
           ∙ ap length (sym c.swap.ensures.x_after),
       c.exchange_cells.ensures.own ∙ c.to.invariant.1 ∙ ap (λ (d : Dictionary). length d.rows) c.to.view_is
@@ -100,6 +114,12 @@ invariant_of-to c =
           ∙ ap length (sym (c.copy_from_slice-in-Ok-2.ensures.items ∙ c.deref-in-Ok-2.ensures.value))
           ∙ sym (length-set rows c.exchange_of-x.result.row c.args.col),
       (pivoted all).1,
+      below all,
+      rw (written)
+          (subst (λ (ks : List ℕ). ArePositions ks (after all).columns c.write_positions.new.positions)
+          c.deref-in-Ok-3.ensures.value
+          (subst (λ (ks : List ℕ). ArePositions c.deref-in-Ok-3.result.now ks c.write_positions.new.positions)
+          c.deref-in-Ok-4.ensures.value c.write_positions.ensures)),
     )
 
 pub returns-in-Ok-clause-pivoted : goal.returns-in-Ok-clause-pivoted

@@ -1,4 +1,4 @@
-use Rattle.std.proofs.Common.{◌≡◌, refl, ap, subst}
+use Rattle.std.proofs.Common.{ap, subst}
 use Rattle.poly_model.specs.declared.overflow.Overflow.{Overflow}
 use Rattle.dictionary.specs.Views.{Dictionary, IsWhole}
 use Rattle.dictionary.proofs.OverflowLemmas.{outer, same_place}

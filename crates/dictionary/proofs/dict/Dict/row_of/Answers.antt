@@ -1,13 +1,27 @@
-use Rattle.std.proofs.Common.{ℕ, List, length, arith, ap, sym, subst, ◌∙◌}
-use Rattle.std.specs.List.{Contains}
+use Rattle.std.proofs.Common.{◌≡◌, ◌∙◌, arith, subst}
+use Rattle.dictionary_laws.specs.Keys.{place_in}
 use Rattle.dictionary.specs.Views.{Dictionary, IsWhole}
+use Rattle.dictionary.proofs.PlaceLemmas.{place_within}
+use Rattle.dictionary.proofs.PositionLemmas.{row_index}
+use Rattle.dictionary.proofs.dict.Dict.row_of.Goals.{After-index}
 use Rattle.dictionary.proofs.dict.Dict.row_of.Goals as goal
+
+whole : (c : After-index) → IsWhole c.args.self.now
+whole c = subst (λ (d : Dictionary). IsWhole d) c.self.view_is c.self.invariant.2
+
+value : (c : After-index) → c.index.result ≡ place_in c.args.self.now.rows c.args.row
+value c =
+    c.index.ensures
+    ∙ row_index c.args.self.now (whole c) c.args.row c.position.result c.position.ensures c.requires.outside
+
+pub returns-clause-value : goal.returns-clause-value
+returns-clause-value c = value (goal.at.returns-clause-value c).After-index
 
 pub returns-clause-within : goal.returns-clause-within
 returns-clause-within c =
-    let now = c.args.self.now in
-    let whole = subst (λ (d : Dictionary). IsWhole d) c.self.view_is c.self.invariant.2 in
-    let same = c.deref.ensures.value ∙ ap (λ (d : Dictionary). d.rows) c.self.view_is in
-    let member = whole.row_there c.args.row c.requires.label (λ m. c.requires.outside (whole.same.back c.args.row m)) in
-    let l = c.place_of.ensures.within (subst (λ (ks : List ℕ). Contains ks c.args.row) (sym same) member) in
-    omega (arith, ap length same)
+    let all = (goal.at.returns-clause-within c).After-index in
+    let here = value all in
+    let there = (whole all).row_there c.args.row c.requires.label
+    (λ m. c.requires.outside ((whole all).same.back c.args.row m)) in
+    let l = place_within c.args.self.now.rows c.args.row there in
+    omega (arith, here, l)

@@ -1,10 +1,13 @@
-use Rattle.std.proofs.Common.{◌≡◌, ◌≤◌, ◌+◌, List, ℕ, ℤ, [], suc, length, arith, sym, ap, subst, ◌∙◌}
+use Rattle.std.proofs.Common.{◌≡◌, List, ℕ, ℤ, [], length, sym, ap, subst, ◌∙◌}
 use Rattle.std.specs.List.{All, Contains, filter}
 use Rattle.poly_model.specs.Keys.{IsKey}
 use Rattle.poly_model.specs.declared.overflow.Phase.TheVariants.{Main}
 use Rattle.dictionary.specs.Views.{Dictionary, IsWhole, number, by_columns}
 use Rattle.dictionary.specs.MainPhase.{stays_in, kept_rows, kept_columns, IsDividedOut, EntersMainPhase}
+use Rattle.dictionary_laws.proofs.Filters.{filter_only}
+use Rattle.dictionary.specs.Positions.{label_count, AreBelow}
 use Rattle.dictionary.proofs.KeptLabels.{key_filter}
+use Rattle.dictionary.proofs.PositionLemmas.{labels_apart}
 use Rattle.dictionary.proofs.KeptNumbers.{rows_are_labels, staying_in_key}
 use Rattle.dictionary.proofs.EnteringMain.{made_main}
 use Rattle.dictionary.proofs.dict.Dict.to_main.Goals as goal
@@ -61,6 +64,18 @@ made c =
     (subst (λ (cells : List ℤ). IsDividedOut c.in_ok-kept.kept.items c.self.inside.denominator cells c.in_ok-denominator.denominator)
     (sym c.in_ok-rooms.ensures.cells) c.in_ok-denominator.ensures)
 
+-- the labels that are left are some of the old ones
+below : (c : In_ok-rooms) → AreBelow c.in_ok-labels.labels.items label_count
+below c k m =
+    let there = subst (λ (ks : List ℕ). Contains ks k) (c.in_ok-labels.ensures) m in
+    let old = (filter_only (stays_in c.args.sys.now.rows c.from_vec-none.result) c.deref.result.now k there).0 in
+    c.self.invariant.3 k (subst (λ (ks : List ℕ). Contains ks k) c.deref.ensures.value old)
+
+pub positions_of-requires : goal.positions_of-requires
+positions_of-requires c =
+    let all = (goal.at.positions_of-requires c).In_ok-rooms in
+    rw (c.deref-6.ensures.value, c.deref-7.ensures.value) (labels_apart _ (made all).0 (below all))
+
 pub invariant_of-result : goal.invariant_of-result
 invariant_of-result c =
     let all = (goal.at.invariant_of-result c).In_ok-rooms in
@@ -68,6 +83,8 @@ invariant_of-result c =
       rooms.spare ∙ ap length (sym rooms.cells),
       rooms.own ∙ c.len.ensures ∙ c.in_ok-rows.rows.ok.0,
       (made all).0,
+      below all,
+      rw (sym c.deref-6.ensures.value, sym c.deref-7.ensures.value) c.in_ok-positions.ensures,
     )
 
 pub returns : goal.returns
