@@ -19,10 +19,16 @@ use std::cmp::Ordering;
 pub fn is_lex_feasible(dict: &Dict, root: &Root) -> bool
     ensures { IsTrue result ↔ AreListsPositive dict.now root.now.key }
 {
-    let order = Order::of(root);
+    is_lex_feasible_by(dict, &Order::of(root))
+}
+
+/// The same by the order relative to the root.
+pub fn is_lex_feasible_by(dict: &Dict, order: &Order) -> bool
+    ensures { IsTrue result ↔ AreListsPositive dict.now order.now }
+{
     let labels = dict.labels();
     'rows: for row in labels {
-        if !is_list_positive(dict, &order, *row) {
+        if !is_list_positive(dict, order, *row) {
             return false;
         }
     }

@@ -15,7 +15,7 @@ mod tests;
 mod ties;
 
 pub use child::{is_child, is_child_by};
-pub use feasible::is_lex_feasible;
+pub use feasible::{is_lex_feasible, is_lex_feasible_by};
 pub use parents::{Pivot, parent, parent_by};
 pub use ratio::{is_candidate, leaving, leaving_by};
 pub use reading::Reading;
