@@ -1,6 +1,5 @@
-use Rattle.std.proofs.Common.{◌≡◌, ◌∙◌, sym, subst, refl, arith, true≢false, ap, ◌<◌, ◌<ℤ◌, ◌+◌, length, take, get_or, ℕ, ℤ, pos, List, Option}
+use Rattle.std.proofs.Common.{◌≡◌, ◌∙◌, sym, subst, refl, arith, true≢false, ◌<◌, ◌<ℤ◌, ◌+◌, length, take, get_or, ℕ, ℤ, pos, List, Option}
 use Rattle.std.proofs.lemmas.List.{get_or_default, take_all}
-use Rattle.dictionary.specs.Cobases.{AreOutside}
 use Rattle.lex_pivot.specs.Ratios.{IsCandidate, IsBest}
 use Rattle.lex_pivot.proofs.RatioLemmas.{taken_other, one_more, best_kept, best_leaves, cell_is_entry}
 use Rattle.lex_pivot.proofs.ratio.leaving_by.Goals.{then-is_negative, else-is_negative}
