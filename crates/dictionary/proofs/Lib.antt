@@ -18,3 +18,4 @@ pub mod Counts
 pub mod PositionLemmas
 pub mod PositionsAfter
 pub mod ColumnNumbers
+pub mod CobasisLemmas

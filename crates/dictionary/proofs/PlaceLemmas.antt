@@ -6,7 +6,6 @@ use Rattle.std.proofs.lemmas.List.Elements.{Contains-get_or}
 use Rattle.linear_laws.proofs.Members.{Contains-first, Contains-later, Contains-nil}
 use Rattle.dictionary_laws.specs.Keys.{place_in, AreDistinct, HaveSameLabels, Exchanges}
 use Rattle.dictionary_laws.proofs.Members.{contains_cases}
-use Rattle.dictionary.specs.Views.{Dictionary, IsWhole}
 
 place_here : (x : ℕ) (ks : List ℕ) (k : ℕ) → x ≡ k → place_in (x ∷ ks) k ≡ zero
 place_here x ks k e = ap (λ b. cond b zero (suc (place_in ks k))) (eq-eqb x k e)
@@ -163,7 +162,3 @@ module _ (r s : ℕ) where
         (λ (p : Contains columns k × (k ≢ s)). x.kept k (same.back k p.0) p.1)
         (set_members columns d c k h);
   }
-
--- a label of the key is one of all labels
-pub key_label : (d : Dictionary) (k : ℕ) → IsWhole d → Contains d.key k → Contains d.labels k
-key_label d k whole c = whole.inside k (whole.same.there k c)

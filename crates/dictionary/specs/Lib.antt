@@ -1,5 +1,5 @@
 pub mod MainPhase
 pub mod Views
 pub mod New
+pub mod Cobases
 pub mod Positions
-pub mod Units

@@ -4,7 +4,7 @@ ghost use Rattle.std.specs.List.{Contains};
 ghost use Rattle.poly_model.specs.Dictionaries.{Table};
 ghost use Rattle.poly_model.specs.Keys.{IsAscending};
 ghost use Rattle.dictionary_laws.specs.Keys.{place_in, AreDistinct, HaveSameLabels};
-ghost use Rattle.dictionary.specs.Units.{HasUnits};
+ghost use Rattle.dictionary.specs.Cobases.{HasUnits, AreOutside};
 ghost use Rattle.dictionary.specs.Views.{number, table_of};
 ghost use Rattle.dictionary.specs.Positions.{IsPosition, IsCellColumn};
 
@@ -171,7 +171,9 @@ impl Dict {
 
     /// The labels outside the cobasis, as their rows of cells stand.
     pub fn rows(&self) -> &[Label]
-        ensures { result.now ≡ self.now.rows }
+        ensures value { result.now ≡ self.now.rows }
+        ensures once { AreDistinct result.now }
+        ensures outside { AreOutside self.now result.now }
     {
         &self.rows
     }

@@ -17,7 +17,7 @@ use Rattle.tree_laws.specs.Parents.{IsRootOrChild}
 use Rattle.tree_laws.proofs.LexLemmas.{positive_value}
 use Rattle.tree_laws.proofs.OrderLemmas.{outside_has, within_has, outside_is_earlier, smaller_outside, smaller_within, backwards_within_only}
 use Rattle.tree_laws.proofs.Parents.{root_or_child}
-use Rattle.dictionary.specs.Units.{HasUnits}
+use Rattle.dictionary.specs.Cobases.{HasUnits}
 use Rattle.dictionary.specs.Views.{Dictionary, table_of}
 use Rattle.dictionary.proofs.PlaceLemmas.{place_within, at_place}
 use Rattle.lex_pivot.specs.Ratios.{NoneLeaves}

@@ -1,5 +1,5 @@
 -- The least row so far, and the row that leaves.
-use Rattle.std.proofs.Common.{◌≡◌, ◌≢◌, ◌⊎◌, inl, inr, ⊎_elim, ℕ, zero, suc, ◌+◌, ◌<◌, pos, neg_ℤ, ◌<ℤ◌, List, [], ◌∷◌, ◌++◌, map, length, take, get_or, sym, subst, arith, add-one, Option, Some, None}
+use Rattle.std.proofs.Common.{◌≡◌, ◌≢◌, ◌⊎◌, inl, inr, ⊎_elim, ℕ, zero, suc, ◌+◌, ◌<◌, ℤ, pos, neg_ℤ, ◌<ℤ◌, List, [], ◌∷◌, ◌++◌, map, length, take, get_or, sym, ap, subst, ◌∙◌, arith, add-one, Option, Some, None}
 use Rattle.std.specs.Prelude.{IfSome}
 use Rattle.std.specs.List.{Contains}
 use Rattle.std.specs.Option.{MatchOption}
@@ -10,33 +10,31 @@ use Rattle.std.proofs.lemmas.List.Elements.{Contains-append_left, Contains-appen
 use Rattle.poly_num.proofs.Ring.{lin}
 use Rattle.poly_num.specs.Signs.{lex_sign_of}
 use Rattle.poly_model.specs.Dictionaries.{Table}
-use Rattle.poly_model.specs.Keys.{IsAscending}
 use Rattle.poly_model.specs.LexOrder.{IsNonnegative, list_of}
 use Rattle.poly_model.specs.Tree.{ratio_gaps, Leaves}
-use Rattle.linear_laws.proofs.Members.{Contains-nil, Contains-first, Contains-cons_cases, all_at}
+use Rattle.linear_laws.proofs.Members.{Contains-nil, Contains-first, Contains-cons_cases}
 use Rattle.tree_laws.proofs.LexLemmas.{zero_is_nonnegative, positive_is_nonnegative}
 use Rattle.tree_laws.proofs.GapLemmas.{gaps_turned, gaps_of_itself}
 use Rattle.tree_laws.proofs.Least.{at_most_transitive, length_lists}
-use Rattle.dictionary.specs.Views.{Dictionary, table_of}
+use Rattle.dictionary_laws.specs.Keys.{AreDistinct, place_in}
+use Rattle.dictionary.specs.Cobases.{AreOutside}
+use Rattle.dictionary.specs.Positions.{IsColumnOf}
+use Rattle.dictionary.specs.Views.{Dictionary, number, table_of}
 use Rattle.lex_pivot.specs.Ratios.{NoneLeaves, IsCandidate, IsLeastOf, IsBest}
 use Rattle.lex_pivot.proofs.EarlierLemmas.{space_of, row_only}
 use Rattle.lex_pivot.proofs.FirstSigns.{less, not_less}
 
 -- ---- the rows so far
--- those in front of a label of an ascending list are less
-pub taken_less : (xs : List ℕ) → IsAscending xs → (n k : ℕ) → n < length xs → Contains (take n xs) k → k < get_or xs n 0
-taken_less [] a n k l c = absurd (omega arith)
-taken_less (x ∷ xs) a zero k l c = absurd (Contains-nil k c)
-taken_less (x ∷ xs) a (suc n) k l c =
-    ⊎_elim
-    (λ (e : x ≡ k). subst (λ z. z < get_or xs n 0) e
-    (all_at (λ y. x < y) xs a.0 (get_or xs n 0) (Contains-get_or xs n 0 (omega arith))))
-    (λ (m : Contains (take n xs) k). taken_less xs a.1 n k (omega arith) m)
-    (Contains-cons_cases k x (take n xs) c)
-
-pub taken_other : (xs : List ℕ) → IsAscending xs → (n q : ℕ) → n < length xs → q ≡ get_or xs n 0 → (k : ℕ) →
+-- those in front of a label of distinct ones are others
+pub taken_other : (xs : List ℕ) → AreDistinct xs → (n q : ℕ) → n < length xs → q ≡ get_or xs n 0 → (k : ℕ) →
     Contains (take n xs) k → k ≢ q
-taken_other xs a n q l e k c f = let b = taken_less xs a n k l c in omega arith
+taken_other [] d n q l e k c = absurd (omega arith)
+taken_other (x ∷ xs) d zero q l e k c = absurd (Contains-nil k c)
+taken_other (x ∷ xs) d (suc n) q l e k c =
+    ⊎_elim
+    (λ (f : x ≡ k). λ (g : k ≡ q). d.0 (subst (Contains xs) (sym (f ∙ g ∙ e)) (Contains-get_or xs n 0 (omega arith))))
+    (λ (m : Contains (take n xs) k). taken_other xs d.1 n q (omega arith) e k m)
+    (Contains-cons_cases k x (take n xs) c)
 
 pub one_more : (xs : List ℕ) (n q : ℕ) → n < length xs → q ≡ get_or xs n 0 → take n xs ++ q ∷ [] ≡ take (n + 1) xs
 one_more xs n q l e =
@@ -125,13 +123,19 @@ module _ (d : Dictionary) (root : List ℕ) (s : ℕ) where
   best_is_candidate rows (Some r) h = h.candidate
 
   -- ---- all rows
-  pub best_leaves : (best : Option ℕ) → IsBest d root s d.labels best →
+  pub best_leaves : (rows : List ℕ) (best : Option ℕ) → AreOutside d rows → IsBest d root s rows best →
       MatchOption best (NoneLeaves d s) (λ r. Leaves d.labels root d.key (table_of d) s r)
-  best_leaves None h = λ i o.
+  best_leaves rows None all h = λ i o.
       by_lt_z (Table.entry (table_of d) i s) (pos 0)
-      (λ n. absurd (h i (row_only d.labels i o.row).0 (record { row = o; negative = n }))) (λ m. m)
-  best_leaves (Some r) h = record {
+      (λ n. absurd (h i (all.there i (row_only d.labels i o.row).0 o.outside) (record { row = o; negative = n })))
+      (λ m. m)
+  best_leaves rows (Some r) all h = record {
     row = h.candidate.row;
     negative = h.candidate.negative;
-    least = λ i o n. h.least i (row_only d.labels i o.row).0 (record { row = o; negative = n });
+    least = λ i o n. h.least i (all.there i (row_only d.labels i o.row).0 o.outside) (record { row = o; negative = n });
   }
+
+-- the cell of a row in the column is its entry
+pub cell_is_entry : (d : Dictionary) (s j i : ℕ) (cells : List ℤ) → IsColumnOf d j cells → j ≡ suc (place_in d.columns s) →
+    i < length d.rows → get_or cells i (pos 0) ≡ Table.entry (table_of d) (get_or d.rows i 0) s
+cell_is_entry d s j i cells h e l = h.numbers i l ∙ ap (λ n. number d (get_or d.rows i 0) n) e

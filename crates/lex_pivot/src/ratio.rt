@@ -32,10 +32,13 @@ pub fn leaving_by(dict: &Dict, order: &Order, col: Label) -> Option<Label>
     ensures { MatchOption result (NoneLeaves dict.now col)
         (λ r. Leaves dict.now.labels order.now dict.now.key (table_of dict.now) col r) }
 {
-    let labels = dict.labels();
+    let column = dict.column(dict.column_of(col));
+    let rows = dict.rows();
     let mut best: Option<Label> = None;
-    'rows: for row in labels {
-        best = better(dict, order, col, best, *row);
+    'rows: for i in 0..rows.len() {
+        if column.is_negative(i) {
+            best = better(dict, order, col, best, rows[i]);
+        }
     }
     best
 }

@@ -2,7 +2,7 @@ use Rattle.std.proofs.Common.{ℕ, List, ap, refl, subst, ◌∙◌}
 use Rattle.std.specs.List.{Contains}
 use Rattle.dictionary.specs.Views.{Dictionary, IsWhole}
 use Rattle.dictionary.proofs.Numbers.{own_entry, other_entry}
-use Rattle.dictionary.proofs.PlaceLemmas.{key_label}
+use Rattle.dictionary.proofs.CobasisLemmas.{key_label}
 use Rattle.dictionary.proofs.dict.Dict.cobasis.Goals as goal
 
 pub returns-clause-labels : goal.returns-clause-labels
