@@ -18,7 +18,7 @@ use Rattle.tree_laws.proofs.GapLemmas.{gaps_turned, gaps_of_itself}
 use Rattle.tree_laws.proofs.Least.{at_most_transitive, length_lists}
 use Rattle.dictionary_laws.specs.Keys.{AreDistinct, place_in}
 use Rattle.dictionary.specs.Cobases.{AreOutside}
-use Rattle.dictionary.specs.Positions.{IsColumnOf}
+use Rattle.dictionary.specs.Positions.{IsCellColumn}
 use Rattle.dictionary.specs.Views.{Dictionary, number, table_of}
 use Rattle.lex_pivot.specs.Ratios.{NoneLeaves, IsCandidate, IsLeastOf, IsBest}
 use Rattle.lex_pivot.proofs.EarlierLemmas.{space_of, row_only}
@@ -136,6 +136,6 @@ module _ (d : Dictionary) (root : List ℕ) (s : ℕ) where
   }
 
 -- the cell of a row in the column is its entry
-pub cell_is_entry : (d : Dictionary) (s j i : ℕ) (cells : List ℤ) → IsColumnOf d j cells → j ≡ suc (place_in d.columns s) →
+pub cell_is_entry : (d : Dictionary) (s j i : ℕ) (cells : List ℤ) → IsCellColumn d j cells → j ≡ suc (place_in d.columns s) →
     i < length d.rows → get_or cells i (pos 0) ≡ Table.entry (table_of d) (get_or d.rows i 0) s
 cell_is_entry d s j i cells h e l = h.numbers i l ∙ ap (λ n. number d (get_or d.rows i 0) n) e
