@@ -165,13 +165,13 @@ fn cases() -> [Case; 6] {
             form_again: Form::Halves,
         },
         Case {
-            name: "the divisor shrinks, and the signs are turned",
+            name: "the divisor shrinks, the signs are turned, and halves are found again",
             cells: [5, -4, 3, 7, 1, 2],
             denominator: 6,
             new: [-30, -36, -18, 33, 6, 11],
             next: 24,
-            form: Form::Words,
-            form_again: Form::Words,
+            form: Form::Halves,
+            form_again: Form::Halves,
         },
         Case {
             name: "words",
