@@ -187,7 +187,7 @@ impl Dict {
         &self.columns
     }
 
-    /// Where a label stands.
+    /// Where a label stands: outside the cobasis in a row of cells, inside in a column. Nothing is searched.
     pub fn position(&self, label: Label) -> Position
         requires { Contains self.now.labels label }
         ensures { IsPosition self.now label result }

@@ -50,7 +50,7 @@ pub fn positions_of(
     Ok(positions)
 }
 
-/// Writes the positions of these labels. What stands at other labels stays.
+/// Writes the positions of these labels. What then stands at other labels says nothing.
 pub fn write_positions(positions: &mut [Position], rows: &[Label], columns: &[Label])
     requires room { length positions.old ≡ label_count }
     requires apart { StandOnce rows.now columns.now }

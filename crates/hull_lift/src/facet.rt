@@ -6,7 +6,7 @@ ghost use Rattle.poly_model.specs.Limits.{most_columns};
 ghost use Rattle.poly_model.specs.declared.kind.Kind.TheVariants.{V};
 ghost use Rattle.poly_model.specs.Systems.{row_of};
 ghost use Rattle.dictionary.specs.Views.{number};
-ghost use Rattle.hull_lift.specs.Facets.{IsColumn, IsPlaceOf, number_in, infinity_in, coordinate_in, column_of, primitive_column, HasPointRows, IsShownAs, IsShownColumn};
+ghost use Rattle.hull_lift.specs.Facets.{IsColumn, IsPlaceOf, infinity_in, coordinate_in, column_of, primitive_column, HasPointRows, IsShownAs, IsShownColumn};
 
 use dictionary::Dict;
 use poly_model::{Kind, Label, System};
@@ -60,20 +60,10 @@ fn coordinate_in(dict: &Dict, col: Label, column: usize, j: u32) -> Num
 {
     let label = Label::coordinate(j);
     if dict.has_label(label) {
-        number_in(dict, col, column, label)
+        dict.number(label, column)
     } else {
         infinity_in(dict, col)
     }
-}
-
-// The number of a label in a column, which has this place: its constant, or its entry there.
-fn number_in(dict: &Dict, col: Label, column: usize, label: Label) -> Num
-    requires column { IsPlaceOf dict.now col column }
-    requires label { Contains dict.now.labels label }
-    ensures { result ≡ number_in dict.now col label }
-{
-    let _ = col;
-    dict.number(label, column)
 }
 
 // The number at infinity in a column.
