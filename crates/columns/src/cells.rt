@@ -14,12 +14,23 @@ use words::Word;
 /// So many cells, which contracts see as a list of whole numbers. There is room for all of them as words and as wide
 /// numbers from the start, and one of the two has them. `halves` is whether the words are known to fit half a machine
 /// word: false says nothing.
-#[derive(Drop)]
 pub struct Cells {
     pub(crate) words: Vec<Word>,
     pub(crate) wide: Vec<Num>,
     pub(crate) is_wide: bool,
     pub(crate) halves: bool,
+}
+
+// Written out, so that to let one go is one step in the proofs of those who hold it.
+impl Drop for Cells {
+    fn drop(self) {
+        let Self {
+            words: _,
+            wide: _,
+            is_wide: _,
+            halves: _,
+        } = self;
+    }
 }
 
 impl Model for Cells {

@@ -24,7 +24,6 @@ use std::marker::Model;
 ///
 /// (V. Chvatal, "Linear Programming", 1983). The denominator is the least positive one. There are cells for the labels
 /// outside the cobasis alone: a label inside is the denominator in its own column, and 0 in the others.
-#[derive(Drop)]
 pub struct Dict {
     pub(crate) phase: Phase,
     pub(crate) key: Key,
@@ -41,6 +40,24 @@ pub struct Dict {
     pub(crate) own: Cells,
     // where each label stands, by its number; what stands at the numbers of no labels is of no account
     pub(crate) positions: Vec<Position>,
+}
+
+// Written out, so that to let one go is one step in the proofs of those who hold it.
+impl Drop for Dict {
+    fn drop(self) {
+        let Self {
+            phase: _,
+            key: _,
+            labels: _,
+            columns: _,
+            rows: _,
+            denominator: _,
+            cells: _,
+            spare: _,
+            own: _,
+            positions: _,
+        } = self;
+    }
 }
 
 impl Model for Dict {

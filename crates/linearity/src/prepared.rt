@@ -7,11 +7,21 @@ use std::marker::Model;
 
 /// The lines of a cone, its free columns, and the dictionary of the start cobasis in the phase `Main`: of what
 /// is left of the system where the equations hold and the free coordinates are 0.
-#[derive(Drop)]
 pub struct Prepared {
     pub(crate) lines: Lines,
     pub(crate) free: FreeColumns,
     pub(crate) dict: Dict,
+}
+
+// Written out, so that to let one go is one step in the proofs of those who hold it.
+impl Drop for Prepared {
+    fn drop(self) {
+        let Self {
+            lines: _,
+            free: _,
+            dict: _,
+        } = self;
+    }
 }
 
 impl Model for Prepared {

@@ -19,11 +19,21 @@ pub struct Spot {
 }
 
 /// A dictionary of rows at random, the same as a plain table, and spots at which both can pivot.
-#[derive(Drop)]
 pub struct Prepared {
     pub dict: Dict,
     pub table: Table,
     pub spots: Vec<Spot>,
+}
+
+// Written out, so that to let one go is one step in the proofs of those who hold it.
+impl Drop for Prepared {
+    fn drop(self) {
+        let Self {
+            dict: _,
+            table: _,
+            spots: _,
+        } = self;
+    }
 }
 
 impl Prepared {

@@ -11,13 +11,25 @@ use std::marker::Model;
 
 /// The polyhedron of a file: rows of n whole numbers without common divisor, some of them linear, and
 /// the bytes that it was read from.
-#[derive(Drop)]
 pub struct Poly {
     kind: Kind,
     n: u32,
     cells: Vec<Num>,
     linear: Vec<bool>,
     text: Vec<u8>,
+}
+
+// Written out, so that to let one go is one step in the proofs of those who hold it.
+impl Drop for Poly {
+    fn drop(self) {
+        let Self {
+            kind: _,
+            n: _,
+            cells: _,
+            linear: _,
+            text: _,
+        } = self;
+    }
 }
 
 impl Model for Poly {

@@ -11,13 +11,25 @@ use std::marker::Model;
 
 /// The rows of the cone of a polyhedron: those of the file, and behind them the row at infinity of an
 /// H file, or the origin of a V file without a point. Some are linear, and some of a V file points.
-#[derive(Drop)]
 pub struct System {
     kind: Kind,
     n: u32,
     cells: Vec<Num>,
     linear: Vec<bool>,
     kinds: Vec<RowKind>,
+}
+
+// Written out, so that to let one go is one step in the proofs of those who hold it.
+impl Drop for System {
+    fn drop(self) {
+        let Self {
+            kind: _,
+            n: _,
+            cells: _,
+            linear: _,
+            kinds: _,
+        } = self;
+    }
 }
 
 impl Model for System {
