@@ -5,3 +5,4 @@ pub mod Exchange
 pub mod Coordinates
 pub mod MainSpace
 pub mod Laws
+pub mod WithT

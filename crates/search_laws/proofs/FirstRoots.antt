@@ -15,7 +15,8 @@ use Rattle.linear_laws.proofs.Signs.{nonnegative_zero}
 use Rattle.dictionary_laws.specs.Keys.{Exchanges}
 use Rattle.dictionary_laws.proofs.Members.{contains_or, contains_cases}
 use Rattle.poly_model.specs.PhaseOne.{IsWorst}
-use Rattle.search_laws.specs.PhaseOne.{HasNoRowZero, with_t, GivesRoot}
+use Rattle.dictionary_laws.specs.WithT.{with_t}
+use Rattle.search_laws.specs.PhaseOne.{HasNoRowZero, GivesRoot}
 use Rattle.tree_laws.proofs.OrderLemmas.{row_only}
 use Rattle.tree_laws.proofs.ExchangedKeys.{exchanges}
 use Rattle.tree_laws.proofs.Exchange.{exchanged_dictionary}

@@ -15,7 +15,8 @@ use Rattle.linear_laws.proofs.Members.{all_at, Contains-first, Contains-later}
 use Rattle.dictionary_laws.proofs.Members.{all_from, contains_cases, sum_same, sum_zero}
 use Rattle.dictionary_laws.proofs.Directions.{times_zero, zero_times}
 use Rattle.dictionary_laws.proofs.Values.{terms}
-use Rattle.search_laws.specs.PhaseOne.{HasNoRowZero, with_t}
+use Rattle.dictionary_laws.specs.WithT.{with_t}
+use Rattle.search_laws.specs.PhaseOne.{HasNoRowZero}
 use Rattle.tree_laws.proofs.Numbers.{key_label, key_row}
 use Rattle.search_laws.proofs.LiftedForms.{first, not_zero, inside_front, inside_rest, same_infinity, direction_front, direction_rest, along_t, along_t_direction, t_is_not_zero, value_of_t, value_of, value_without, value_inside}
 

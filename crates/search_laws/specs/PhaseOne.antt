@@ -1,12 +1,13 @@
 -- Phase one: a feasible root from any cobasis of rows, in the space with one unknown more, t, which is row 0.
-use Rattle.std.specs.Prelude.{ℕ, ◌==◌, if◌then◌else◌, pos, ◌*ℤ◌, ◌<ℤ◌, ◌≤ℤ◌, List, ◌∷◌}
+use Rattle.std.specs.Prelude.{ℕ, pos, ◌<ℤ◌, ◌≤ℤ◌, List, ◌∷◌}
 use Rattle.std.specs.List.{Contains}
 use Rattle.poly_num.specs.Vectors.{Vector, ◌·◌}
-use Rattle.poly_model.specs.Spaces.{Space, IsInside, lift_of, lifted}
+use Rattle.poly_model.specs.Spaces.{Space, IsInside, lifted}
 use Rattle.poly_model.specs.Dictionaries.{Table}
 use Rattle.poly_model.specs.LexOrder.{rows_in}
 use Rattle.poly_model.specs.PhaseOne.{IsWorst}
 use Rattle.poly_model.specs.Tree.{IsRowDictionary, IsFeasibleRoot, exchanged_key}
+use Rattle.dictionary_laws.specs.WithT.{with_t}
 
 -- the number 0 is left to t
 abbrev pub HasNoRowZero : Space → Type 0
@@ -20,17 +21,6 @@ pub record MeetsRows (space : Space) : Type 0 where
   pub rows : (i : ℕ) → Contains (rows_in space.labels) i → pos 0 ≤ℤ (space.form i · vector)
 
 -- ---- the beginning
--- the numbers of a start cobasis, with a row and a column for t
-abbrev pub with_t : List ℕ → Table → Table
-with_t start t = record {
-  denominator = t.denominator;
-  constant = λ i. if i == 0 then pos 0 else t.constant i;
-  entry = λ i k.
-      if k == 0
-      then (if i == 0 then t.denominator else t.denominator *ℤ lift_of start i)
-      else (if i == 0 then pos 0 else t.entry i k);
-}
-
 -- t and the start cobasis are a cobasis of the lifted space, with these numbers
 abbrev pub StartWithT : Type 0
 StartWithT =
