@@ -93,6 +93,8 @@ is_prepared p sys d new lines free file ascending ended columns vectors main =
     let entered = main.enters p file is (subst (λ js. CanEnterMain p js d.key (table_of d)) (sym columns) can) in
     let same = vectors ∙ ap (λ (s : System). coordinate_vectors d s.n) file in
     record {
+      few = ended.of.few;
+      narrow = ended.of.narrow;
       consistent = ended.consistent;
       columns = subst (AreFreeColumns (cone_of p)) (sym columns) leaves.free;
       are_lines = subst (λ js. AreLinesOf (cone_of p) js lines) (sym columns)

@@ -269,19 +269,22 @@ fn answer_to(alloc: Global, case: Case) -> Result<Answer, Fail> {
     let poly = poly_of(alloc, case.kind, case.n, case.entries, case.linear)?;
     let cone = system_of(alloc, &poly)?;
     match prepare(alloc, &cone) {
-        Ok(prepared) => Ok(answer_of(alloc, &prepared)?),
+        Ok(prepared) => Ok(answer_of(alloc, prepared)?),
         Err(PrepareStop::Inconsistent) => Ok(stopped(alloc, End::Inconsistent)),
         Err(PrepareStop::Overflow(_)) => Ok(stopped(alloc, End::Overflow)),
         Err(PrepareStop::Memory) => Err("memory")?,
     }
 }
 
-fn answer_of(alloc: Global, prepared: &Prepared) -> Result<Answer, OutOfMemory> {
+fn answer_of(alloc: Global, prepared: Prepared) -> Result<Answer, OutOfMemory> {
+    let start = numbers_of(alloc, prepared.start())?;
+    let free = Vec::from_slice(alloc, prepared.free().as_slice())?;
+    let (lines, _, _) = prepared.into_parts();
     Ok(Answer {
         end: End::Prepared,
-        start: numbers_of(alloc, prepared.start())?,
-        free: Vec::from_slice(alloc, prepared.free().as_slice())?,
-        lines: entries_of(alloc, prepared.lines())?,
+        start,
+        free,
+        lines: entries_of(alloc, &lines)?,
     })
 }
 

@@ -60,4 +60,14 @@ impl Prepared {
     {
         self.dict.key()
     }
+
+    /// Its parts, by value: the lines, the free columns, the dictionary of the start cobasis in the phase `Main`.
+    pub fn into_parts(self) -> (Lines, FreeColumns, Dict)
+        ensures lines { result.0 ≡ self.lines }
+        ensures free { result.1 ≡ self.free }
+        ensures dict { result.2 ≡ self.dictionary }
+    {
+        let Self { lines, free, dict } = self;
+        (lines, free, dict)
+    }
 }
