@@ -1,6 +1,6 @@
--- The descent in the lists of given rows ends. So the chain of parents from each lexicographically feasible cobasis
--- ends, at the root, and always at one depth.
-use Rattle.std.proofs.Common.{◌≡◌, ◌⊎◌, inl, inr, ℕ, zero, suc, List, refl, sym, ap, subst}
+-- The descent in the lists of given rows ends, and has no more steps than there are sets of rows. So the chain of
+-- parents from each lexicographically feasible cobasis ends, at the root, and always at one depth.
+use Rattle.std.proofs.Common.{◌≡◌, ◌⊎◌, inl, inr, ℕ, zero, suc, ◌^◌, List, length, refl, sym, ap, subst}
 use Rattle.std.specs.List.{Contains}
 use Rattle.poly_model.specs.Spaces.{Space}
 use Rattle.poly_model.specs.Dictionaries.{Table, IsDictionary}
@@ -9,8 +9,8 @@ use Rattle.poly_model.specs.Tree.{IsRowDictionary, IsFeasibleRoot, IsLexFeasible
 use Rattle.dictionary_laws.specs.Keys.{AreDistinct}
 use Rattle.tree_laws.specs.Parents.{IsRootOrChild}
 use Rattle.tree_laws.proofs.Numbers.{key_row}
-use Rattle.tree_laws.proofs.Sublists.{ascending_parts, contains_ascending}
-use Rattle.tree_laws.proofs.Descents.{by_descent}
+use Rattle.tree_laws.proofs.Sublists.{ascending_parts, contains_ascending, length-ascending_parts}
+use Rattle.tree_laws.proofs.Descents.{by_descent_within}
 use Rattle.tree_laws.proofs.OrderLemmas.{backwards_within_only}
 use Rattle.tree_laws.proofs.Neighbours.{neighbour_dictionary, neighbour_feasible}
 use Rattle.tree_laws.proofs.AnyTable.{parent_too}
@@ -29,12 +29,14 @@ module _ (space : Space) (root qs : List ℕ) where
   abbrev pub IsLower : State space root → State space root → Type 0
   IsLower e d = IsPositive (level_gaps space root d.key d.table e.key e.table qs)
 
-  -- what holds of a cobasis, or follows for it from one below it, holds of all
-  pub by_falls : ((q : ℕ) → Contains qs q → Contains (rows_in space.labels) q) → (P : State space root → Type 0) →
-      ((d : State space root) → P d ⊎ ((e : State space root) × IsLower e d × (P e → P d))) →
-      (d : State space root) → P d
-  by_falls rows =
-      by_descent (State space root) (List ℕ) (λ d. d.key) IsLower
+  -- what holds of a cobasis within a number of steps, or follows for it from one below it within one step less, holds of
+  -- all within as many steps as there are sets of rows
+  pub by_falls_within : ((q : ℕ) → Contains qs q → Contains (rows_in space.labels) q) →
+      (P : ℕ → State space root → Type 0) →
+      ((m : ℕ) (d : State space root) → P (suc m) d ⊎ ((e : State space root) × IsLower e d × (P m e → P (suc m) d))) →
+      (d : State space root) → P (2 ^ length (rows_in space.labels)) d
+  by_falls_within rows P step =
+      by_descent_within (State space root) (List ℕ) (λ d. d.key) IsLower
       (λ e f g. falls_twice space root g.key f.key e.key g.table f.table e.table g.feasible.dictionary
       f.feasible.dictionary e.feasible.dictionary qs)
       (λ e f. falls_elsewhere space root f.key e.key f.table e.table f.feasible.dictionary e.feasible.dictionary
@@ -42,6 +44,13 @@ module _ (space : Space) (root qs : List ℕ) where
       (ascending_parts (rows_in space.labels))
       (λ d. contains_ascending (rows_in space.labels) d.key d.feasible.dictionary.ascending
       (key_row space d.key d.table d.feasible.dictionary))
+      P step (2 ^ length (rows_in space.labels)) (length-ascending_parts (rows_in space.labels))
+
+  -- what holds of a cobasis, or follows for it from one below it, holds of all
+  pub by_falls : ((q : ℕ) → Contains qs q → Contains (rows_in space.labels) q) → (P : State space root → Type 0) →
+      ((d : State space root) → P d ⊎ ((e : State space root) × IsLower e d × (P e → P d))) →
+      (d : State space root) → P d
+  by_falls rows P step = by_falls_within rows (λ n d. P d) (λ m d. step d)
 
 -- ---- parents
 module _ (space : Space) (root : List ℕ) (home : Table) (h : IsRowDictionary space root home) where

@@ -1,5 +1,5 @@
--- A descent in a strict order ends, where the keys of all states stand in one list.
-use Rattle.std.proofs.Common.{◌≡◌, ◌≢◌, ◌⊎◌, inl, inr, ⊎_elim, ℕ, zero, suc, ◌<◌, List, [], ◌∷◌, length, refl, sym, subst, ◌∙◌, arith}
+-- A descent in a strict order ends, where the keys of all states stand in one list, and has no more steps than keys.
+use Rattle.std.proofs.Common.{◌≡◌, ◌≢◌, ◌⊎◌, inl, inr, ⊎_elim, ℕ, zero, suc, ◌<◌, ◌≤◌, List, [], ◌∷◌, length, refl, sym, subst, ◌∙◌, arith}
 use Rattle.std.specs.List.{Contains}
 use Rattle.linear_laws.proofs.Members.{Contains-nil, Contains-first, Contains-later, Contains-cons_cases}
 
@@ -40,18 +40,22 @@ Chain S Step (suc n) d e = (m : S) × Step d m × Chain S Step n m e
 module _ (S K : Type 0) (key : S → K) (Before : S → S → Type 0)
     (transitive : (e f g : S) → Before e f → Before f g → Before e g)
     (apart : (e f : S) → Before e f → key e ≢ key f) where
-  -- what holds of a state, or follows for it from a state below it, holds of all
-  by_descent_in : (P : S → Type 0) → ((d : S) → P d ⊎ ((e : S) × Before e d × (P e → P d))) → (n : ℕ) (ks : List K) →
-      length ks < n → (d : S) → Contains ks (key d) → ((e : S) → Before e d → Contains ks (key e)) → P d
-  by_descent_in P step zero ks l d here below = absurd (omega arith)
-  by_descent_in P step (suc n) ks l d here below =
+  -- what holds of a state within a number of steps, or follows for it from a state below it within one step less, holds
+  -- of all within as many steps as the list has keys
+  by_descent_in : (P : ℕ → S → Type 0) →
+      ((m : ℕ) (d : S) → P (suc m) d ⊎ ((e : S) × Before e d × (P m e → P (suc m) d))) → (n : ℕ) (ks : List K) →
+      length ks ≤ n → (d : S) → Contains ks (key d) → ((e : S) → Before e d → Contains ks (key e)) → P n d
+  by_descent_in P step zero ks l d here below =
+      let t = take_out ks (key d) here in absurd (omega (arith, t.shorter))
+  by_descent_in P step (suc m) ks l d here below =
       let t = take_out ks (key d) here in
       ⊎_elim
-      (λ (p : P d). p)
-      (λ (w : (e : S) × Before e d × (P e → P d)). w.2 (by_descent_in P step n t.rest (omega (arith, t.shorter)) w.0
+      (λ (p : P (suc m) d). p)
+      (λ (w : (e : S) × Before e d × (P m e → P (suc m) d)).
+      w.2 (by_descent_in P step m t.rest (omega (arith, t.shorter)) w.0
       (t.others (key w.0) (below w.0 w.1) (apart w.0 d w.1))
       (λ f b. let c = transitive f w.0 d b w.1 in t.others (key f) (below f c) (apart f d c))))
-      (step d)
+      (step m d)
 
   -- what holds of a state where it holds of all states below it, holds of all
   by_all_below_in : (P : S → Type 0) → ((d : S) → ((e : S) → Before e d → P e) → P d) → (n : ℕ) (ks : List K) →
@@ -67,9 +71,14 @@ module _ (S K : Type 0) (key : S → K) (Before : S → S → Type 0)
     pub by_all_below : (P : S → Type 0) → ((d : S) → ((e : S) → Before e d → P e) → P d) → (d : S) → P d
     by_all_below P step d = by_all_below_in P step (suc (length ks)) ks (omega arith) d (all d) (λ e b. all e)
 
+    pub by_descent_within : (P : ℕ → S → Type 0) →
+        ((m : ℕ) (d : S) → P (suc m) d ⊎ ((e : S) × Before e d × (P m e → P (suc m) d))) → (n : ℕ) → length ks ≤ n →
+        (d : S) → P n d
+    by_descent_within P step n l d = by_descent_in P step n ks l d (all d) (λ e b. all e)
+
+    -- what holds of a state, or follows for it from a state below it, holds of all
     pub by_descent : (P : S → Type 0) → ((d : S) → P d ⊎ ((e : S) × Before e d × (P e → P d))) → (d : S) → P d
-    by_descent P step d =
-        by_descent_in P step (suc (length ks)) ks (omega arith) d (all d) (λ e b. all e)
+    by_descent P step = by_descent_within (λ n d. P d) (λ m d. step d) (length ks) (omega arith)
 
     -- from each state one that is done is reached
     pub descend : (Done : S → Type 0) → ((d : S) → Done d ⊎ ((e : S) × Before e d)) → S → (e : S) × Done e

@@ -1,8 +1,11 @@
--- The parts of an ascending list: each ascending list of some of its members is one.
-use Rattle.std.proofs.Common.{◌≡◌, ◌⊎◌, inl, inr, ⊎_elim, ℕ, Bool, true, false, cond, List, [], ◌∷◌, ◌++◌, map, refl, sym, subst, ◌∙◌, arith}
+-- The parts of an ascending list: each ascending list of some of its members is one, and how many there are.
+use Rattle.std.proofs.Common.{◌≡◌, ◌⊎◌, inl, inr, ⊎_elim, ℕ, suc, ◌+◌, ◌*◌, ◌^◌, ◌≤◌, Bool, true, false, cond, List, [], ◌∷◌, ◌++◌, map, length, length-append, refl, sym, subst, ◌∙◌, arith}
 use Rattle.std.specs.Prelude.{◌==◌, nat_lt}
 use Rattle.std.specs.List.{Contains}
 use Rattle.std.proofs.lemmas.Bool.{eqb-true}
+use Rattle.std.proofs.Math.Nat.{pow-suc}
+use Rattle.std.proofs.Math.Pow.{pow_mono}
+use Rattle.std.proofs.lemmas.List.{length-map}
 use Rattle.std.proofs.lemmas.List.Elements.{Contains-append_left, Contains-append_right}
 use Rattle.poly_model.specs.Keys.{IsAscending, with_label}
 use Rattle.poly_model.proofs.KeyLemmas.{ascending_with}
@@ -12,6 +15,17 @@ use Rattle.dictionary_laws.proofs.Members.{contains_cases, contains_other}
 abbrev pub sublists : List ℕ → List (List ℕ)
 sublists [] = [] ∷ []
 sublists (x ∷ xs) = map (λ part. x ∷ part) (sublists xs) ++ sublists xs
+
+length-sublists : (xs : List ℕ) → length (sublists xs) ≡ 2 ^ length xs
+length-sublists [] = refl
+length-sublists (x ∷ xs) =
+    length-append (map (λ part. x ∷ part) (sublists xs)) (sublists xs)
+    ∙ twice (length (map (λ part. x ∷ part) (sublists xs))) (length (sublists xs)) (2 ^ length xs)
+    (length-map (sublists xs) (λ part. x ∷ part)) (length-sublists xs)
+    ∙ sym (pow-suc 2 (length xs))
+  where
+    twice : (a b p : ℕ) → a ≡ b → b ≡ p → a + b ≡ p * 2
+    twice a b p e f = omega (arith, e, f)
 
 contains_longer : (x : ℕ) (parts : List (List ℕ)) (part : List ℕ) → Contains parts part →
     Contains (map (λ part. x ∷ part) parts) (x ∷ part)
@@ -79,6 +93,20 @@ with_has label (x ∷ ks) k h = by (nat_lt label x) (label == x) refl (with_has 
         (λ (d : Contains ks k). Contains-later k x (with_label label ks) (rest (inr d)))
         (contains_cases x ks k c)) h
 
+with_length : (label : ℕ) (ks : List ℕ) → length (with_label label ks) ≤ suc (length ks)
+with_length label [] = omega arith
+with_length label (x ∷ xs) = by (nat_lt label x) (label == x) (with_length label xs)
+  where
+    by : (l e : Bool) → length (with_label label xs) ≤ suc (length xs) →
+        length (cond l (label ∷ x ∷ xs) (cond e (x ∷ xs) (x ∷ with_label label xs))) ≤ suc (suc (length xs))
+    by true e h = omega arith
+    by false true h = omega arith
+    by false false h = omega (arith, h)
+
+ordered_length : (xs : List ℕ) → length (ordered xs) ≤ length xs
+ordered_length [] = omega arith
+ordered_length (x ∷ xs) = omega (arith, with_length x (ordered xs), ordered_length xs)
+
 ordered_has : (xs : List ℕ) (k : ℕ) → Contains xs k → Contains (ordered xs) k
 ordered_has [] k c = c
 ordered_has (x ∷ xs) k c =
@@ -93,3 +121,8 @@ pub contains_ascending : (xs ks : List ℕ) → IsAscending ks → ((k : ℕ) �
     Contains (ascending_parts xs) ks
 contains_ascending xs ks a h =
     contains_part (ordered xs) ks (ordered_ascending xs) a (λ k c. ordered_has xs k (h k c))
+
+-- there are no more than subsets
+pub length-ascending_parts : (xs : List ℕ) → length (ascending_parts xs) ≤ 2 ^ length xs
+length-ascending_parts xs =
+    subst (λ n. n ≤ 2 ^ length xs) (sym (length-sublists (ordered xs))) (pow_mono (ordered_length xs))
