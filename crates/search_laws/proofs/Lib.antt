@@ -4,6 +4,7 @@ pub mod KeyPoints
 pub mod FirstRoots
 pub mod Lowered
 pub mod LoweredEnds
+pub mod StepBounds
 pub mod PhaseEnds
 pub mod WithoutT
 pub mod GivenRoots

@@ -1,5 +1,5 @@
--- Steps that lower a row end, at one cobasis and after one number of steps.
-use Rattle.std.proofs.Common.{◌≡◌, inl, inr, ⊎_elim, ℕ, zero, suc, List, [], ◌∷◌, refl, sym, ap, subst, ◌∙◌}
+-- Steps that lower a row end, at one cobasis and after one number of steps, no more than there are sets of rows.
+use Rattle.std.proofs.Common.{◌≡◌, inl, inr, ⊎_elim, ℕ, zero, suc, List, [], ◌∷◌, refl, sym, ap, subst, ◌∙◌, arith}
 use Rattle.std.specs.List.{Contains}
 use Rattle.poly_model.specs.Spaces.{Space}
 use Rattle.poly_model.specs.Dictionaries.{Table, IsDictionary}
@@ -7,9 +7,9 @@ use Rattle.poly_model.specs.LexOrder.{rows_in}
 use Rattle.poly_model.specs.Tree.{IsRowDictionary, IsLexFeasible}
 use Rattle.dictionary_laws.specs.Keys.{AreDistinct}
 use Rattle.poly_model.specs.Lowering.{IsLoweringStep, IsLowest, IsDescent}
-use Rattle.search_laws.specs.Lowering.{HasEnd}
+use Rattle.search_laws.specs.Lowering.{EndsWithin, HasEnd}
 use Rattle.tree_laws.proofs.Neighbours.{neighbour_dictionary, neighbour_feasible}
-use Rattle.tree_laws.proofs.Chains.{State, by_falls, other_table}
+use Rattle.tree_laws.proofs.Chains.{State, by_falls_within, other_table}
 use Rattle.search_laws.proofs.Lowered.{only_row, row_falls, some_step, lowest_too, step_too, no_step, one_step}
 
 module _ (space : Space) (root : List ℕ) (home : Table) (h : IsRowDictionary space root home) (q : ℕ)
@@ -23,10 +23,11 @@ module _ (space : Space) (root : List ℕ) (home : Table) (h : IsRowDictionary s
 
   pub steps_end : (d : State space root) → HasEnd space root q d.key
   steps_end =
-      by_falls space root (q ∷ []) (only_row space q l) (λ d. HasEnd space root q d.key)
-      (λ d. ⊎_elim
+      by_falls_within space root (q ∷ []) (only_row space q l) (λ n d. EndsWithin space root q n d.key)
+      (λ m d. ⊎_elim
       (λ (lowest : IsLowest d.key d.table q). inl (record {
         steps = zero;
+        few = omega arith;
         end = d.key;
         table = d.table;
         feasible = d.feasible;
@@ -41,6 +42,7 @@ module _ (space : Space) (root : List ℕ) (home : Table) (h : IsRowDictionary s
             u.0 w.1.neighbour u.1,
         λ r. record {
           steps = suc r.steps;
+          few = omega (arith, r.few);
           end = r.end;
           table = r.table;
           feasible = r.feasible;

@@ -1,5 +1,5 @@
 -- What steps that lower a row come to: the row falls, and the steps end at one cobasis.
-use Rattle.std.specs.Prelude.{◌≡◌, ◌⊎◌, ℕ, pos, ◌<ℤ◌, List}
+use Rattle.std.specs.Prelude.{◌≡◌, ◌⊎◌, ℕ, ◌^◌, ◌≤◌, pos, ◌<ℤ◌, List, length}
 use Rattle.std.specs.List.{Contains}
 use Rattle.poly_model.specs.Spaces.{Space}
 use Rattle.poly_model.specs.Dictionaries.{Table, IsDictionary}
@@ -35,14 +35,19 @@ StepOrLowest =
     Contains (rows_in space.labels) q →
     IsLowest key t q ⊎ ((new : List ℕ) × IsLoweringStep space.labels root q key t new)
 
--- the steps end, at a feasible cobasis
-pub record HasEnd (space : Space) (root : List ℕ) (q : ℕ) (key : List ℕ) : Type 0 where
+-- the steps end, at a feasible cobasis, and are no more than `most`
+pub record EndsWithin (space : Space) (root : List ℕ) (q most : ℕ) (key : List ℕ) : Type 0 where
   pub steps : ℕ
+  pub few : steps ≤ most
   pub end : List ℕ
   pub table : Table
   pub feasible : IsLexFeasible space root end table
   pub lowest : IsLowest end table q
   pub descent : IsDescent space root q steps key end
+
+-- they are no more than there are sets of rows
+abbrev pub HasEnd : Space → List ℕ → ℕ → List ℕ → Type 0
+HasEnd space root q key = EndsWithin space root q (2 ^ length (rows_in space.labels)) key
 
 abbrev pub StepsEnd : Type 0
 StepsEnd =

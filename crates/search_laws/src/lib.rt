@@ -62,7 +62,8 @@ pub fn step_or_lowest()
     ensures { StepOrLowest }
 {}
 
-/// Such steps end, at a feasible cobasis where the row is negative in no column.
+/// Such steps end, at a feasible cobasis where the row is negative in no column. There are no more of them than sets of
+/// rows.
 pub fn steps_end()
     ensures { StepsEnd }
 {}
