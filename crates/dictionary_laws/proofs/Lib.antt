@@ -11,6 +11,7 @@ pub mod Gcds
 pub mod Columns
 pub mod Origins
 pub mod Existence
+pub mod Narrow
 pub mod NewCobasis
 pub mod NewNumbers
 pub mod Starts

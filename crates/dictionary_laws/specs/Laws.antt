@@ -51,6 +51,11 @@ LeastByDivisors =
     Writes space key t →
     ((u : Table) → Writes space key u → t.denominator ≤ℤ u.denominator) ↔ ArePrimitive space key t
 
+-- a cobasis has fewer labels than the vectors have entries
+abbrev pub CobasisIsNarrow : Type 0
+CobasisIsNarrow =
+    (space : Space) (key : List ℕ) → HasPoints space → IsCobasis space key → length key < space.n
+
 -- numbers that have a greatest common divisor and are, without it, the dictionary
 pub record ReducesToDictionary (space : Space) (key : List ℕ) (t : Table) : Type 0 where
   pub some : (g : ℕ) × IsGcdOfNumbers space key t g

@@ -10,6 +10,7 @@ ghost use Rattle.dictionary_laws.specs.Laws.{
   AnyOrder,
   AgreeingTables,
   SomeDictionary,
+  CobasisIsNarrow,
   LeastByDivisors,
   Reduction,
   OutsideNumbers,
@@ -52,6 +53,11 @@ pub fn agreeing_tables()
 /// Independent labels that determine a direction have a dictionary.
 pub fn cobasis_has_dictionary()
     ensures { SomeDictionary }
+{}
+
+/// Where the space has a point, a cobasis has fewer labels than its vectors have entries.
+pub fn cobasis_is_narrow()
+    ensures { CobasisIsNarrow }
 {}
 
 /// The denominator is least exactly where only 1 divides it and all constants and entries.
