@@ -1,4 +1,5 @@
--- How many steps lower a row where the rows ascend: their labels lie below those of the coordinates, so there are few rows.
+-- How many steps lower a row where the rows ascend: their labels lie below those of the coordinates, so there are few
+-- rows.
 use Rattle.std.proofs.Common.{ℕ, suc, ◌+◌, ◌^◌, ◌<◌, ◌≤◌, List, [], ◌∷◌, length, le_trans, arith}
 use Rattle.std.specs.List.{Contains}
 use Rattle.std.proofs.Math.Pow.{pow_mono}
