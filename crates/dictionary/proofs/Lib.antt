@@ -5,6 +5,7 @@ pub mod Joined
 pub mod KeptLabels
 pub mod KeptNumbers
 pub mod DividedOut
+pub mod Reduced
 pub mod EnteringMain
 pub mod EachNumber
 pub mod Pivots
@@ -19,3 +20,5 @@ pub mod PositionLemmas
 pub mod PositionsAfter
 pub mod ColumnNumbers
 pub mod CobasisLemmas
+pub mod AddedT
+pub mod DroppedT

@@ -12,7 +12,7 @@ use Rattle.columns.specs.Cells.{place as at_row, cell_at}
 use Rattle.dictionary.specs.Views.{Dictionary, IsWhole, number, table_of}
 use Rattle.dictionary.proofs.PlaceLemmas.{place_within, one_at_place}
 
-no_member : (k : ℕ) (ks : List ℕ) → (Contains ks k → ⊥) → is_member k ks ≡ false
+pub no_member : (k : ℕ) (ks : List ℕ) → (Contains ks k → ⊥) → is_member k ks ≡ false
 no_member k ks n =
     ⊎_elim (λ (e : is_member k ks ≡ true). absurd (n (member_only k ks e))) (λ (e : is_member k ks ≡ false). e)
     (cases_Bool (is_member k ks))

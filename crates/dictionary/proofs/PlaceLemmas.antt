@@ -1,5 +1,5 @@
 -- Places of labels in lists of labels, each once, and a label put in the place of another.
-use Rattle.std.proofs.Common.{◌≡◌, ◌≢◌, ◌⊎◌, ℕ, zero, suc, ◌<◌, cond, List, [], ◌∷◌, length, get_or, set, arith, refl, sym, ap, subst, ◌∙◌, inl, inr, ⊎_elim}
+use Rattle.std.proofs.Common.{◌≡◌, ◌≢◌, ◌⊎◌, ℕ, zero, suc, ◌<◌, cond, List, [], ◌∷◌, ◌++◌, length, get_or, set, arith, refl, sym, ap, subst, ◌∙◌, inl, inr, ⊎_elim}
 use Rattle.std.specs.List.{Contains}
 use Rattle.std.proofs.lemmas.Bool.{eq-eqb, ne_eqb, cases_eq}
 use Rattle.std.proofs.lemmas.List.Elements.{Contains-get_or}
@@ -48,6 +48,24 @@ place_at (x ∷ ks) (suc i) z d l =
     place_later x ks (get_or ks i z)
     (λ e. d.0 (subst (λ (k : ℕ). Contains ks k) (sym e) (Contains-get_or ks i z lt)))
     ∙ ap suc (place_at ks i z d.1 lt)
+
+-- a member of the first of two lists has its place there, and one more label behind has the place of the end
+pub place_front : (ks ls : List ℕ) (k : ℕ) → Contains ks k → place_in (ks ++ ls) k ≡ place_in ks k
+place_front [] ls k c = absurd (Contains-nil k c)
+place_front (x ∷ ks) ls k c =
+    ⊎_elim
+    (λ (e : x ≡ k). place_here x (ks ++ ls) k e ∙ sym (place_here x ks k e))
+    (λ (n : x ≢ k).
+    place_later x (ks ++ ls) k n
+    ∙ ap suc (place_front ks ls k (later_member x ks k n c))
+    ∙ sym (place_later x ks k n))
+    (cases_eq x k)
+
+pub place_behind : (ks : List ℕ) (k : ℕ) → (Contains ks k → ⊥) → place_in (ks ++ k ∷ []) k ≡ length ks
+place_behind [] k n = place_here k [] k refl
+place_behind (x ∷ ks) k n =
+    place_later x (ks ++ k ∷ []) k (λ e. n (subst (λ (i : ℕ). Contains (x ∷ ks) i) e (Contains-first x ks)))
+    ∙ ap suc (place_behind ks k (λ c. n (Contains-later k x ks c)))
 
 -- r is put in the place of s
 module _ (r s : ℕ) where

@@ -1,7 +1,9 @@
 //! Dictionaries of cobases over their least denominator, with pivots in place.
 #![tactic(auto)]
 
+mod arrangement;
 mod dict;
+mod first_phase;
 mod lead;
 mod main_phase;
 mod new;

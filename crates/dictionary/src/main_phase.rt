@@ -3,13 +3,14 @@ ghost use Rattle.std.specs.Prelude.{◌≡◌, ◌<◌, ◌<ℤ◌, ◌++◌, �
 ghost use Rattle.std.specs.Result.{OnOk};
 ghost use Rattle.std.specs.List.{All, Contains, filter, slice_index_or};
 ghost use Rattle.dictionary_laws.specs.Keys.{place_in};
-ghost use Rattle.dictionary.specs.Views.{number, by_columns};
+ghost use Rattle.dictionary.specs.Views.{number, by_columns, IsWhole};
+ghost use Rattle.dictionary.specs.Positions.{label_count, AreBelow};
+ghost use Rattle.dictionary.specs.Arrangements.{part_of, IsReduced};
 ghost use Rattle.dictionary.specs.MainPhase.{stays_in, kept_rows, kept_columns, IsDividedOut, EntersMainPhase};
 
 use crate::Dict;
+use crate::arrangement::Arrangement;
 use crate::places::key_of;
-use crate::positions::positions_of;
-use crate::rooms::rooms_of;
 use poly_model::{FreeColumns, Label, OutOfMemory, Phase, System};
 use poly_num::{Num, primitive};
 use std::alloc::Global;
@@ -133,7 +134,11 @@ impl Dict {
     }
 
     // The numbers of these labels, the constants and the entries at the labels of the cobasis that stay.
-    fn kept_cells(&self, rows: &[Label], staying: &[Label]) -> Result<Vec<Num>, OutOfMemory>
+    pub(crate) fn kept_cells(
+        &self,
+        rows: &[Label],
+        staying: &[Label],
+    ) -> Result<Vec<Num>, OutOfMemory>
         requires rows { All (λ l. Contains self.now.labels l) rows.now }
         requires staying { All (λ k. Contains self.now.key k) staying.now }
         ensures { IfOk result (λ v. v.items ≡ by_columns (number self.now) rows.now (kept_columns self.now.columns staying.now)) }
@@ -144,6 +149,19 @@ impl Dict {
             self.keep_column(&mut kept, rows, *j)?;
         }
         Ok(kept)
+    }
+
+    // The numbers at some of its labels, in the phase `main`, over their own least denominator.
+    pub(crate) fn part(&self, arrangement: Arrangement) -> Result<Dict, OutOfMemory>
+        requires rows { All (λ l. Contains self.now.labels l) arrangement.rows.items }
+        requires columns { All (λ k. Contains self.now.key k) arrangement.columns.items }
+        requires whole { IsWhole (part_of self.now arrangement) }
+        requires below { AreBelow arrangement.labels.items label_count }
+        ensures { IfOk result (λ d. IsReduced (part_of self.now arrangement) d) }
+    {
+        let mut cells = self.kept_cells(&arrangement.rows, &arrangement.columns)?;
+        let denominator = divide_out(&mut cells, self.denominator)?;
+        Dict::arranged(Phase::Main, arrangement, denominator, cells)
     }
 
     /// From the phase `prepare` to the phase `main`: the cobasis without the equations (linear rows) and
@@ -161,22 +179,11 @@ impl Dict {
         let labels = kept_labels(alloc, sys, &none, &self.labels)?;
         let columns = kept_labels(alloc, sys, free, &self.columns)?;
         let key_labels = kept_labels(alloc, sys, free, self.key.labels())?;
-        let key = key_of(&key_labels);
-        let mut kept = self.kept_cells(&rows, &columns)?;
-        let denominator = divide_out(&mut kept, self.denominator)?;
-        let rooms = rooms_of(kept, rows.len())?;
-        let positions = positions_of(alloc, &rows, &columns)?;
-        Ok(Dict {
-            phase: Phase::Main,
-            key,
+        self.part(Arrangement {
             labels,
+            key: key_of(&key_labels),
             columns,
             rows,
-            denominator,
-            cells: rooms.cells,
-            spare: rooms.spare,
-            own: rooms.own,
-            positions,
         })
     }
 }

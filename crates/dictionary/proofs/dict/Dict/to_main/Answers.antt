@@ -1,91 +1,90 @@
-use Rattle.std.proofs.Common.{◌≡◌, List, ℕ, ℤ, [], length, sym, ap, subst, ◌∙◌}
+use Rattle.std.proofs.Common.{◌≡◌, List, ℕ, [], sym, ap, subst, ◌∙◌}
 use Rattle.std.specs.List.{All, Contains, filter}
+use Rattle.std.proofs.lemmas.Result.{IfOk-weaker}
 use Rattle.poly_model.specs.Keys.{IsKey}
-use Rattle.poly_model.specs.declared.overflow.Phase.TheVariants.{Main}
-use Rattle.dictionary.specs.Views.{Dictionary, IsWhole, number, by_columns}
-use Rattle.dictionary.specs.MainPhase.{stays_in, kept_rows, kept_columns, IsDividedOut, EntersMainPhase}
+use Rattle.dictionary.specs.Views.{Dictionary, IsWhole}
+use Rattle.dictionary.specs.MainPhase.{stays_in, kept}
+use Rattle.dictionary.specs.Arrangements.{IsReduced}
 use Rattle.dictionary_laws.proofs.Filters.{filter_only}
-use Rattle.dictionary.specs.Positions.{label_count, AreBelow}
 use Rattle.dictionary.proofs.KeptLabels.{key_filter}
-use Rattle.dictionary.proofs.PositionLemmas.{labels_apart}
-use Rattle.dictionary.proofs.KeptNumbers.{rows_are_labels, staying_in_key}
-use Rattle.dictionary.proofs.EnteringMain.{made_main}
+use Rattle.dictionary.proofs.KeptNumbers.{rows_are_labels, staying_in_key, whole_kept}
+use Rattle.dictionary.proofs.Reduced.{at_labels, kept_at}
+use Rattle.dictionary.proofs.EnteringMain.{left_if_stays, made_main}
 use Rattle.dictionary.proofs.dict.Dict.to_main.Goals as goal
-use Rattle.dictionary.proofs.dict.Dict.to_main.Goals.{In_ok-rooms}
+use Rattle.dictionary.proofs.dict.Dict.to_main.Goals.{In_ok-key_labels}
 
-pub key_of-key-requires : goal.key_of-key-requires
-key_of-key-requires c =
+-- ---- what is kept
+whole : (c : In_ok-key_labels) → IsWhole c.args.self
+whole c = subst (λ (d : Dictionary). IsWhole d) c.self.view_is c.self.invariant.2
+
+labels_are : (c : In_ok-key_labels) →
+    c.in_ok-labels.labels.items ≡ filter (stays_in c.args.sys.now.rows []) c.args.self.labels
+labels_are c =
+    let rows = c.args.sys.now.rows in
+    c.in_ok-labels.ensures
+    ∙ ap (λ (f : List ℕ). filter (stays_in rows f) c.deref.result.now) (c.from_vec-none.ensures ∙ c.new.ensures.items)
+    ∙ ap (λ ks. filter (stays_in rows []) ks) (c.deref.ensures.value ∙ ap (λ (d : Dictionary). d.labels) c.self.view_is)
+
+columns_are : (c : In_ok-key_labels) →
+    c.in_ok-columns.columns.items ≡ filter (stays_in c.args.sys.now.rows c.args.free.now) c.args.self.columns
+columns_are c =
+    c.in_ok-columns.ensures
+    ∙ ap (λ ks. filter (stays_in c.args.sys.now.rows c.args.free.now) ks)
+    (c.deref-2.ensures.value ∙ ap (λ (d : Dictionary). d.columns) c.self.view_is)
+
+key_is : (c : In_ok-key_labels) →
+    c.in_ok-key_labels.key_labels.items ≡ filter (stays_in c.args.sys.now.rows c.args.free.now) c.args.self.key
+key_is c =
+    c.in_ok-key_labels.ensures
+    ∙ ap (λ ks. filter (stays_in c.args.sys.now.rows c.args.free.now) ks)
+    (c.labels.ensures.value ∙ ap (λ (d : Dictionary). d.key) c.self.view_is)
+
+part_is : (c : In_ok-key_labels) (key : List ℕ) → key ≡ c.in_ok-key_labels.key_labels.items →
+    at_labels c.args.self c.in_ok-labels.labels.items key c.in_ok-columns.columns.items c.in_ok-rows.rows.items
+    ≡ kept c.args.self (stays_in c.args.sys.now.rows []) (stays_in c.args.sys.now.rows c.args.free.now)
+part_is c key e =
+    kept_at c.args.self (stays_in c.args.sys.now.rows []) (stays_in c.args.sys.now.rows c.args.free.now) _ key _ _
+    (labels_are c) (e ∙ key_is c) (columns_are c) c.in_ok-rows.ensures
+
+-- ---- the calls
+pub key_of-requires : goal.key_of-requires
+key_of-requires c =
     subst IsKey (sym (c.deref-3.ensures.value ∙ c.in_ok-key_labels.ensures))
     (key_filter (stays_in c.args.sys.now.rows c.args.free.now) c.labels.result.now c.labels.ensures.key)
 
-pub kept_cells-requires-clause-rows : goal.kept_cells-requires-clause-rows
-kept_cells-requires-clause-rows c =
+pub part-requires-clause-rows : goal.part-requires-clause-rows
+part-requires-clause-rows c =
     let rows = c.args.sys.now.rows in
-    subst (λ (ks : List ℕ). All (λ l. Contains c.args.self.labels l) ks) (sym (c.deref-4.ensures.value ∙ c.in_ok-rows.ensures))
+    subst (λ (ks : List ℕ). All (λ l. Contains c.args.self.labels l) ks) (sym c.in_ok-rows.ensures)
     (rows_are_labels c.args.self (stays_in rows []) (stays_in rows c.args.free.now)
-    (subst (λ (d : Dictionary). IsWhole d) c.self.view_is c.self.invariant.2))
+    (whole (goal.at.part-requires-clause-rows c).In_ok-key_labels))
 
-pub kept_cells-requires-clause-staying : goal.kept_cells-requires-clause-staying
-kept_cells-requires-clause-staying c =
-    let stays = stays_in c.args.sys.now.rows c.args.free.now in
-    subst (λ (ks : List ℕ). All (λ k. Contains c.args.self.key k) ks)
-    (sym (c.deref-5.ensures.value ∙ c.in_ok-columns.ensures ∙ ap (λ ks. filter stays ks)
-    (c.deref-2.ensures.value ∙ ap (λ (d : Dictionary). d.columns) c.self.view_is)))
-    (staying_in_key c.args.self stays (subst (λ (d : Dictionary). IsWhole d) c.self.view_is c.self.invariant.2))
+pub part-requires-clause-columns : goal.part-requires-clause-columns
+part-requires-clause-columns c =
+    let all = (goal.at.part-requires-clause-columns c).In_ok-key_labels in
+    subst (λ (ks : List ℕ). All (λ k. Contains c.args.self.key k) ks) (sym (columns_are all))
+    (staying_in_key c.args.self (stays_in c.args.sys.now.rows c.args.free.now) (whole all))
 
-made : (c : In_ok-rooms) →
-    IsWhole (record { phase = Main; labels = c.in_ok-labels.labels.items; key = c.key_of-key.result; columns = c.in_ok-columns.columns.items; rows = c.in_ok-rows.rows.items; denominator = c.in_ok-denominator.denominator; cells = c.in_ok-rooms.rooms.cells })
-    × EntersMainPhase c.args.self c.args.sys.now c.args.free.now
-    (record { phase = Main; labels = c.in_ok-labels.labels.items; key = c.key_of-key.result; columns = c.in_ok-columns.columns.items; rows = c.in_ok-rows.rows.items; denominator = c.in_ok-denominator.denominator; cells = c.in_ok-rooms.rooms.cells })
-made c =
-    let old = c.args.self in
+pub part-requires-clause-whole : goal.part-requires-clause-whole
+part-requires-clause-whole c =
+    let all = (goal.at.part-requires-clause-whole c).In_ok-key_labels in
     let rows = c.args.sys.now.rows in
     let free = c.args.free.now in
-    let view = c.self.view_is in
-    let none : c.from_vec-none.result ≡ [] = c.from_vec-none.ensures ∙ c.new.ensures.items in
-    let columns = c.in_ok-columns.ensures
-    ∙ ap (λ ks. filter (stays_in rows free) ks) (c.deref-2.ensures.value ∙ ap (λ (d : Dictionary). d.columns) view) in
-    let row_labels = c.deref-4.ensures.value ∙ c.in_ok-rows.ensures in
-    made_main old c.args.sys.now free c.in_ok-labels.labels.items c.key_of-key.result c.in_ok-columns.columns.items
-    c.in_ok-rows.rows.items c.self.inside.denominator c.in_ok-denominator.denominator c.in_ok-kept.kept.items
-    c.in_ok-rooms.rooms.cells
-    (subst (λ (d : Dictionary). IsWhole d) view c.self.invariant.2)
-    c.keeps_limits.ensures.few
-    (c.in_ok-labels.ensures ∙ ap (λ (f : List ℕ). filter (stays_in rows f) c.deref.result.now) none
-    ∙ ap (λ ks. filter (stays_in rows []) ks) (c.deref.ensures.value ∙ ap (λ (d : Dictionary). d.labels) view))
-    (c.key_of-key.ensures ∙ c.deref-3.ensures.value ∙ c.in_ok-key_labels.ensures
-    ∙ ap (λ ks. filter (stays_in rows free) ks) (c.labels.ensures.value ∙ ap (λ (d : Dictionary). d.key) view))
-    columns c.in_ok-rows.ensures
-    (ap (λ (d : Dictionary). d.denominator) view)
-    (c.in_ok-kept.ensures
-    ∙ ap (λ is. by_columns (number old) is (kept_columns old.columns c.deref-5.result.now)) row_labels
-    ∙ ap (λ ks. by_columns (number old) (kept_rows old (stays_in rows []) (stays_in rows free)) (kept_columns old.columns ks))
-    (c.deref-5.ensures.value ∙ columns))
-    (subst (λ (cells : List ℤ). IsDividedOut c.in_ok-kept.kept.items c.self.inside.denominator cells c.in_ok-denominator.denominator)
-    (sym c.in_ok-rooms.ensures.cells) c.in_ok-denominator.ensures)
+    subst (λ (d : Dictionary). IsWhole d) (sym (part_is all c.key_of.result (c.key_of.ensures ∙ c.deref-3.ensures.value)))
+    (whole_kept c.args.self (stays_in rows []) (stays_in rows free) (whole all) (left_if_stays rows free))
 
 -- the labels that are left are some of the old ones
-below : (c : In_ok-rooms) → AreBelow c.in_ok-labels.labels.items label_count
-below c k m =
-    let there = subst (λ (ks : List ℕ). Contains ks k) (c.in_ok-labels.ensures) m in
+pub part-requires-clause-below : goal.part-requires-clause-below
+part-requires-clause-below c k m =
+    let there = subst (λ (ks : List ℕ). Contains ks k) c.in_ok-labels.ensures m in
     let old = (filter_only (stays_in c.args.sys.now.rows c.from_vec-none.result) c.deref.result.now k there).0 in
     c.self.invariant.3 k (subst (λ (ks : List ℕ). Contains ks k) c.deref.ensures.value old)
 
-pub positions_of-requires : goal.positions_of-requires
-positions_of-requires c =
-    let all = (goal.at.positions_of-requires c).In_ok-rooms in
-    rw (c.deref-6.ensures.value, c.deref-7.ensures.value) (labels_apart _ (made all).0 (below all))
-
-pub invariant_of-result : goal.invariant_of-result
-invariant_of-result c =
-    let all = (goal.at.invariant_of-result c).In_ok-rooms in
-    let rooms = c.in_ok-rooms.ensures in (
-      rooms.spare ∙ ap length (sym rooms.cells),
-      rooms.own ∙ c.len.ensures ∙ c.in_ok-rows.rows.ok.0,
-      (made all).0,
-      below all,
-      rw (sym c.deref-6.ensures.value, sym c.deref-7.ensures.value) c.in_ok-positions.ensures,
-    )
-
 pub returns : goal.returns
-returns c = (made (goal.at.returns c).In_ok-rooms).1
+returns c =
+    let all = (goal.at.returns c).In_ok-key_labels in
+    IfOk-weaker c.part.result _ _
+    (λ d r.
+    made_main c.args.self c.args.sys.now c.args.free.now d (whole all) c.keeps_limits.ensures.few
+    (subst (λ (p : Dictionary). IsReduced p d) (part_is all c.key_of.result (c.key_of.ensures ∙ c.deref-3.ensures.value)) r))
+    c.part.ensures
