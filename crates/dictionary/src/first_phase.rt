@@ -115,7 +115,8 @@ impl Dict {
     /// for one more, the dictionary comes back as it is. Takes memory for the new table; where there is none the dictionary
     /// is given up.
     pub fn add_t(self) -> Result<Dict, OutOfMemory>
-        ensures { IfOk result (λ d. HasRoomForT self → AddsT self d) }
+        ensures adds { IfOk result (λ d. HasRoomForT self → AddsT self d) }
+        ensures stays { IfOk result (λ d. (HasRoomForT self → ⊥) → d ≡ self) }
     {
         if self.has_room_for_t() {
             self.with_t()

@@ -9,9 +9,8 @@ ghost use Rattle.dictionary.specs.Views.{by_columns};
 ghost use Rattle.dictionary.specs.New.{first_label, has_constants, row_count, row_cells, first_number, first_width, IsCoordinateDictionary};
 
 use crate::Dict;
+use crate::arrangement::Arrangement;
 use crate::places::key_of;
-use crate::positions::positions_of;
-use crate::rooms::rooms_of;
 use poly_model::{Kind, Label, OutOfMemory, Phase, System};
 use poly_num::Num;
 use std::alloc::Global;
@@ -32,20 +31,13 @@ impl Dict {
         let labels = joined(&rows, &columns)?;
         let key = key_of(&columns);
         let cells = all_cells(alloc, sys, constants, count, columns.len() + 1)?;
-        let rooms = rooms_of(cells, rows.len())?;
-        let positions = positions_of(alloc, &rows, &columns)?;
-        Ok(Dict {
-            phase,
-            key,
+        let arrangement = Arrangement {
             labels,
+            key,
             columns,
             rows,
-            denominator: Num::ONE,
-            cells: rooms.cells,
-            spare: rooms.spare,
-            own: rooms.own,
-            positions,
-        })
+        };
+        Dict::arranged(phase, arrangement, Num::ONE, cells)
     }
 }
 

@@ -551,3 +551,145 @@ fn names_the_last_label_that_is_not_0(rt: HostRuntime) -> Result<(), Fail> {
     }
     Ok(())
 }
+
+/// The cone of an H file of three rows, x1 and x2 at least 0, over different units, and x1 + 2 x2 at least 1: they, and
+/// the row at infinity.
+fn corner(alloc: Global) -> Result<System, OutOfMemory> {
+    let cells = Vec::from_slice(
+        alloc,
+        &[
+            num(0),
+            num(2),
+            num(0),
+            num(0),
+            num(0),
+            num(1),
+            num(-2),
+            num(2),
+            num(4),
+            Num::ONE,
+            Num::ZERO,
+            Num::ZERO,
+        ],
+    )?;
+    let linear = Vec::from_slice(alloc, &[false, false, false, false])?;
+    let kinds = Vec::from_slice(
+        alloc,
+        &[RowKind::Ray, RowKind::Ray, RowKind::Ray, RowKind::Ray],
+    )?;
+    Ok(System::new(Kind::H, 3, cells, linear, kinds))
+}
+
+/// All of a dictionary: `numbers` has the constant and the entries of each label, label by label.
+#[derive(PartialEq, Eq, Debug, Drop)]
+struct Whole {
+    phase: Phase,
+    key: Key,
+    denominator: i128,
+    numbers: Vec<Option<i128>>,
+}
+
+fn whole_of(alloc: Global, dict: &Dict) -> Result<Whole, OutOfMemory> {
+    let mut numbers = Vec::new(alloc);
+    for label in dict.labels() {
+        numbers.extend_from_slice(&row_of(alloc, dict, *label)?)?;
+    }
+    Ok(Whole {
+        phase: dict.phase(),
+        key: dict.key(),
+        denominator: dict.denominator().get(),
+        numbers,
+    })
+}
+
+/// The dictionary of rows 1 and 2 in the phase `Main`.
+fn main_of(alloc: Global) -> Result<Dict, OutOfMemory> {
+    let sys = corner(alloc)?;
+    let mut dict = Dict::new(alloc, &sys, Phase::Prepare)?;
+    let _ = pivot(&mut dict, row(1), x(1));
+    let _ = pivot(&mut dict, row(2), x(2));
+    dict.to_main(&sys, &FreeColumns::from_vec(Vec::new(alloc)))
+}
+
+/// Two pivots after t has come, and what is there then: the key with t and the numbers over 2, label by label, and the same
+/// once t has gone.
+#[derive(Clone, Copy)]
+struct Walk {
+    name: &'static str,
+    pivots: [(Label, Label); 2],
+    key: [Label; 3],
+    numbers: [i128; 24],
+    key_left: [Label; 2],
+    numbers_left: [i128; 15],
+}
+
+fn walks() -> [Walk; 2] {
+    let t = Label::EXTRA;
+    [
+        Walk {
+            name: "row 3 for t, and back",
+            pivots: [(row(3), t), (t, row(3))],
+            key: [t, row(1), row(2)],
+            // t, rows 1 to 3, x1 and x2
+            numbers: [
+                0, 2, 0, 0, 0, 0, 2, 0, 0, 0, 0, 2, -4, 2, 2, 8, 0, 0, 1, 0, 0, 0, 0, 2,
+            ],
+            key_left: [row(1), row(2)],
+            numbers_left: [0, 2, 0, 0, 0, 2, -4, 2, 8, 0, 1, 0, 0, 0, 2],
+        },
+        Walk {
+            name: "t is lowered to 0",
+            pivots: [(row(3), t), (t, row(1))],
+            key: [t, row(2), row(3)],
+            numbers: [
+                0, 2, 0, 0, 4, -2, -8, 2, 0, 0, 2, 0, 0, 0, 0, 2, 2, -1, -4, 1, 0, 0, 2, 0,
+            ],
+            key_left: [row(2), row(3)],
+            numbers_left: [4, -8, 2, 0, 2, 0, 0, 0, 2, 2, -4, 1, 0, 2, 0],
+        },
+    ]
+}
+
+fn known_whole(
+    alloc: Global,
+    phase: Phase,
+    key: &[Label],
+    known: &[i128],
+) -> Result<Whole, OutOfMemory> {
+    let mut numbers = Vec::new(alloc);
+    for number in known {
+        numbers.push(Some(*number))?;
+    }
+    Ok(Whole {
+        phase,
+        key: Key::from_ascending(key).unwrap_or(Key::empty()),
+        denominator: 2,
+        numbers,
+    })
+}
+
+fn wanted(alloc: Global, walk: &Walk) -> Result<(Whole, Whole), OutOfMemory> {
+    Ok((
+        known_whole(alloc, Phase::First, &walk.key, &walk.numbers)?,
+        known_whole(alloc, Phase::Main, &walk.key_left, &walk.numbers_left)?,
+    ))
+}
+
+fn walked(alloc: Global, walk: &Walk) -> Result<(Whole, Whole), OutOfMemory> {
+    let mut dict = main_of(alloc)?.add_t()?;
+    for (row, col) in &walk.pivots {
+        let _ = pivot(&mut dict, *row, *col);
+    }
+    let first = whole_of(alloc, &dict)?;
+    Ok((first, whole_of(alloc, &dict.drop_t()?)?))
+}
+
+#[test]
+fn t_comes_and_goes(rt: HostRuntime) -> Result<(), Fail> {
+    let walks = walks();
+    for walk in &walks {
+        let want = wanted(rt.alloc(), walk)?;
+        assert_eq!(rt; walked(rt.alloc(), walk)?, want, "{}", walk.name);
+    }
+    Ok(())
+}
