@@ -8,9 +8,9 @@ use Rattle.poly_model.specs.Keys.{IsAscending}
 use Rattle.poly_model.specs.Dictionaries.{IsCobasis, Writes}
 use Rattle.dictionary.specs.Views.{Dictionary, table_of, IsDictionaryIn, IsWhole}
 use Rattle.dictionary.specs.MainPhase.{kept_rows, kept}
-use Rattle.dictionary.specs.Arrangements.{IsReduced}
+use Rattle.dictionary.specs.Arrangements.{IsWithoutDivisor}
 use Rattle.dictionary.specs.FirstPhase.{is_other, DropsT}
-use Rattle.dictionary.proofs.Reduced.{is_dictionary}
+use Rattle.dictionary.proofs.WithoutDivisor.{is_dictionary}
 
 neither : (b : Bool) → (b && not b) ≡ false
 neither true = refl
@@ -41,7 +41,7 @@ others_of all rest h e =
     ap (λ ks. filter is_other ks) e
     ∙ others_all rest (all_at (λ k. 0 < k) rest (subst (λ (ks : List ℕ). IsAscending ks) e h).0)
 
-pub drops_t : (old new : Dictionary) → IsWhole old → IsReduced (kept old is_other is_other) new → DropsT old new
+pub drops_t : (old new : Dictionary) → IsWhole old → IsWithoutDivisor (kept old is_other is_other) new → DropsT old new
 drops_t old new whole r = record {
   phase = ap (λ (d : Dictionary). d.phase) r.same;
   drops = λ space rest points labels key cobasis writes.

@@ -15,10 +15,10 @@ use Rattle.dictionary_laws.specs.MainSpace.{stays, CanEnterMain, EntersMain}
 use Rattle.dictionary_laws.proofs.MainRows.{count_of_rows, fixed_rows}
 use Rattle.dictionary_laws.proofs.MainSpace.{main_dictionary}
 use Rattle.dictionary.specs.Views.{Dictionary, table_of, IsDictionaryIn, IsWhole}
-use Rattle.dictionary.specs.Arrangements.{IsReduced}
+use Rattle.dictionary.specs.Arrangements.{IsWithoutDivisor}
 use Rattle.dictionary.specs.MainPhase.{stays_in, kept, IsDividedOut, IsMainOf, EntersMainPhase}
 use Rattle.dictionary.proofs.DividedOut.{divided_of}
-use Rattle.dictionary.proofs.Reduced.{is_dictionary}
+use Rattle.dictionary.proofs.WithoutDivisor.{is_dictionary}
 
 -- a label that stays is left
 pub left_if_stays : (rows : List Row) (free : List ℕ) (k : ℕ) → stays_in rows free k ≡ true →
@@ -89,7 +89,7 @@ module _ (old : Dictionary) (whole : IsWhole old) (rows : List Row) (free : List
 
 -- the same of what the code has
 pub made_main : (old : Dictionary) (sys : System) (free : List ℕ) (new : Dictionary) → IsWhole old →
-    length sys.rows ≤ most_cone_rows → IsReduced (staying old sys.rows free) new → EntersMainPhase old sys free new
+    length sys.rows ≤ most_cone_rows → IsWithoutDivisor (staying old sys.rows free) new → EntersMainPhase old sys free new
 made_main old sys free new whole few r =
     subst (λ (d : Dictionary). EntersMainPhase old sys free d) (sym r.same)
     (enters_main old whole sys.rows free new.denominator new.cells r.divided sys refl few)

@@ -5,7 +5,7 @@ pub mod Joined
 pub mod KeptLabels
 pub mod KeptNumbers
 pub mod DividedOut
-pub mod Reduced
+pub mod WithoutDivisor
 pub mod EnteringMain
 pub mod EachNumber
 pub mod Pivots

@@ -24,6 +24,6 @@ part_of d a =
     arranged Main a d.denominator (by_columns (number d) a.rows.items (kept_columns d.columns a.columns.items))
 
 -- the same without the common divisor of its cells and denominator
-pub record IsReduced (old new : Dictionary) : Type 0 where
+pub record IsWithoutDivisor (old new : Dictionary) : Type 0 where
   pub divided : IsDividedOut old.cells old.denominator new.cells new.denominator
   pub same : new ≡ record old { denominator = new.denominator; cells = new.cells }

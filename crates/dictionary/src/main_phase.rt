@@ -5,7 +5,7 @@ ghost use Rattle.std.specs.List.{All, Contains, filter, slice_index_or};
 ghost use Rattle.dictionary_laws.specs.Keys.{place_in};
 ghost use Rattle.dictionary.specs.Views.{number, by_columns, IsWhole};
 ghost use Rattle.dictionary.specs.Positions.{label_count, AreBelow};
-ghost use Rattle.dictionary.specs.Arrangements.{part_of, IsReduced};
+ghost use Rattle.dictionary.specs.Arrangements.{part_of, IsWithoutDivisor};
 ghost use Rattle.dictionary.specs.MainPhase.{stays_in, kept_rows, kept_columns, IsDividedOut, EntersMainPhase};
 
 use crate::Dict;
@@ -157,7 +157,7 @@ impl Dict {
         requires columns { All (λ k. Contains self.now.key k) arrangement.columns.items }
         requires whole { IsWhole (part_of self.now arrangement) }
         requires below { AreBelow arrangement.labels.items label_count }
-        ensures { IfOk result (λ d. IsReduced (part_of self.now arrangement) d) }
+        ensures { IfOk result (λ d. IsWithoutDivisor (part_of self.now arrangement) d) }
     {
         let mut cells = self.kept_cells(&arrangement.rows, &arrangement.columns)?;
         let denominator = divide_out(&mut cells, self.denominator)?;

@@ -4,12 +4,12 @@ use Rattle.std.proofs.lemmas.Result.{IfOk-weaker}
 use Rattle.poly_model.specs.Keys.{IsKey}
 use Rattle.dictionary.specs.Views.{Dictionary, IsWhole}
 use Rattle.dictionary.specs.MainPhase.{kept_rows, kept}
-use Rattle.dictionary.specs.Arrangements.{IsReduced}
+use Rattle.dictionary.specs.Arrangements.{IsWithoutDivisor}
 use Rattle.dictionary.specs.FirstPhase.{is_other}
 use Rattle.dictionary_laws.proofs.Filters.{filter_only}
 use Rattle.dictionary.proofs.KeptLabels.{key_filter}
 use Rattle.dictionary.proofs.KeptNumbers.{rows_are_labels, staying_in_key, whole_kept}
-use Rattle.dictionary.proofs.Reduced.{at_labels, kept_at}
+use Rattle.dictionary.proofs.WithoutDivisor.{at_labels, kept_at}
 use Rattle.dictionary.proofs.DroppedT.{other_rows, drops_t}
 use Rattle.dictionary.proofs.dict.Dict.drop_t.Goals as goal
 use Rattle.dictionary.proofs.dict.Dict.drop_t.Goals.{In_ok-key_labels}
@@ -81,5 +81,5 @@ returns c =
     IfOk-weaker c.part.result _ _
     (λ d r.
     drops_t c.args.self d (whole all)
-    (subst (λ (p : Dictionary). IsReduced p d) (part_is all c.key_of.result (c.key_of.ensures ∙ c.deref-4.ensures.value)) r))
+    (subst (λ (p : Dictionary). IsWithoutDivisor p d) (part_is all c.key_of.result (c.key_of.ensures ∙ c.deref-4.ensures.value)) r))
     c.part.ensures

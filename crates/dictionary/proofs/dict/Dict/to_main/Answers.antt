@@ -4,11 +4,11 @@ use Rattle.std.proofs.lemmas.Result.{IfOk-weaker}
 use Rattle.poly_model.specs.Keys.{IsKey}
 use Rattle.dictionary.specs.Views.{Dictionary, IsWhole}
 use Rattle.dictionary.specs.MainPhase.{stays_in, kept}
-use Rattle.dictionary.specs.Arrangements.{IsReduced}
+use Rattle.dictionary.specs.Arrangements.{IsWithoutDivisor}
 use Rattle.dictionary_laws.proofs.Filters.{filter_only}
 use Rattle.dictionary.proofs.KeptLabels.{key_filter}
 use Rattle.dictionary.proofs.KeptNumbers.{rows_are_labels, staying_in_key, whole_kept}
-use Rattle.dictionary.proofs.Reduced.{at_labels, kept_at}
+use Rattle.dictionary.proofs.WithoutDivisor.{at_labels, kept_at}
 use Rattle.dictionary.proofs.EnteringMain.{left_if_stays, made_main}
 use Rattle.dictionary.proofs.dict.Dict.to_main.Goals as goal
 use Rattle.dictionary.proofs.dict.Dict.to_main.Goals.{In_ok-key_labels}
@@ -86,5 +86,5 @@ returns c =
     IfOk-weaker c.part.result _ _
     (λ d r.
     made_main c.args.self c.args.sys.now c.args.free.now d (whole all) c.keeps_limits.ensures.few
-    (subst (λ (p : Dictionary). IsReduced p d) (part_is all c.key_of.result (c.key_of.ensures ∙ c.deref-3.ensures.value)) r))
+    (subst (λ (p : Dictionary). IsWithoutDivisor p d) (part_is all c.key_of.result (c.key_of.ensures ∙ c.deref-3.ensures.value)) r))
     c.part.ensures

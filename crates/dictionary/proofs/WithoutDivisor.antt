@@ -27,54 +27,54 @@ module _ (old : Dictionary) (left stays : ℕ → Bool) (whole : IsWhole old)
   part = kept old left stays
 
   module _ (least : ℤ) (cells : List ℤ) (h : IsDividedOut part.cells part.denominator cells least) where
-    abbrev pub reduced : Dictionary
-    reduced = divided_of part least cells h
+    abbrev pub what_is_left : Dictionary
+    what_is_left = divided_of part least cells h
 
-    pub whole_reduced : IsWhole reduced
-    whole_reduced = whole_divided part least cells h (whole_kept old left stays whole both)
+    pub whole_left : IsWhole what_is_left
+    whole_left = whole_divided part least cells h (whole_kept old left stays whole both)
 
-    module _ (space : Space) (labels_are : reduced.labels ≡ space.labels) (points : HasPoints space)
-        (cobasis : IsCobasis space reduced.key) (old_writes : Writes space reduced.key (table_of old)) where
-      label_there : (i : ℕ) → Contains space.labels i → Contains reduced.labels i
+    module _ (space : Space) (labels_are : what_is_left.labels ≡ space.labels) (points : HasPoints space)
+        (cobasis : IsCobasis space what_is_left.key) (old_writes : Writes space what_is_left.key (table_of old)) where
+      label_there : (i : ℕ) → Contains space.labels i → Contains what_is_left.labels i
       label_there i c = subst (λ ls. Contains ls i) (sym labels_are) c
 
-      label_back : (i : ℕ) → Contains reduced.labels i → Contains space.labels i
+      label_back : (i : ℕ) → Contains what_is_left.labels i → Contains space.labels i
       label_back i c = subst (λ ls. Contains ls i) labels_are c
 
       -- the old numbers are the divisor times the new ones
-      times : AreTimes space reduced.key (pos h.factor) (table_of old) (table_of reduced)
+      times : AreTimes space what_is_left.key (pos h.factor) (table_of old) (table_of what_is_left)
       times = record {
         denominator = h.over;
         constants = λ i l.
             sym (constant_kept old left stays whole i (label_there i l)) ∙ times_left part least cells h i 0;
         entries = λ i k l m.
-            let c = whole_reduced.same.there k m in
+            let c = whole_left.same.there k m in
             sym (entry_kept old left stays whole i k (label_there i l) c)
-            ∙ times_left part least cells h i (suc (place_in reduced.columns k));
+            ∙ times_left part least cells h i (suc (place_in what_is_left.columns k));
       }
 
-      writes : Writes space reduced.key (table_of reduced)
+      writes : Writes space what_is_left.key (table_of what_is_left)
       writes =
-          divisors_write space reduced.key (pos h.factor) (table_of old) (table_of reduced)
+          divisors_write space what_is_left.key (pos h.factor) (table_of old) (table_of what_is_left)
           (positive_divisor part least cells h) times old_writes
 
-      primitive : ArePrimitive space reduced.key (table_of reduced)
+      primitive : ArePrimitive space what_is_left.key (table_of what_is_left)
       primitive e divides =
           h.primitive.1 e
-          (pos_of_dvd_of_pos divides.denominator (size_positive least (positive_nonzero least whole_reduced.positive)))
+          (pos_of_dvd_of_pos divides.denominator (size_positive least (positive_nonzero least whole_left.positive)))
           (all_both (λ z. e ∣ unsigned_abs z) cells (least ∷ [])
-          (each_number (λ z. e ∣ unsigned_abs z) reduced whole_reduced
+          (each_number (λ z. e ∣ unsigned_abs z) what_is_left whole_left
           (λ i c. divides.constants i (label_back i c))
-          (λ i k c m. divides.entries i k (label_back i c) (whole_reduced.same.back k m)))
+          (λ i k c m. divides.entries i k (label_back i c) (whole_left.same.back k m)))
           (divides.denominator, tt))
 
-      pub is_dictionary : IsDictionaryIn space reduced
+      pub is_dictionary : IsDictionaryIn space what_is_left
       is_dictionary = record {
         labels = labels_are;
         dictionary = record {
           cobasis = cobasis;
           writes = writes;
-          least = least_where_primitive space reduced.key (table_of reduced) (inl points) cobasis writes primitive;
+          least = least_where_primitive space what_is_left.key (table_of what_is_left) (inl points) cobasis writes primitive;
         };
       }
 
