@@ -72,6 +72,7 @@ impl Dict {
     fn push_t(&self, cells: &mut Vec<Num>) -> Result<(), OutOfMemory>
         ensures { OnOk result (cells.new.items ≡ cells.old.items ++ map (λ i. t_entry self.now i) self.now.rows) }
     {
+        // entry(i, t) = denominator at a row i, 0 at a coordinate
         'rows: for label in &self.rows {
             cells.push(self.t_entry(*label))?;
         }
@@ -87,7 +88,7 @@ impl Dict {
         Ok(cells)
     }
 
-    // The dictionary with t.
+    // The dictionary with t, whose column of cells is the last one.
     fn with_t(&self) -> Result<Dict, OutOfMemory>
         requires { HasRoomForT self.now }
         ensures { IfOk result (λ d. AddsT self.now d) }
@@ -110,10 +111,9 @@ impl Dict {
     }
 
     /// From the phase `Main` to the phase `First`: t, which is `Label::EXTRA`, comes in front of the labels and of the
-    /// cobasis, and is added to each row outside the old cobasis, and to no coordinate; its column of cells is the last one.
-    /// The denominator stays, which is the least where the old one was. Where t is a label already, or the key has no room
-    /// for one more, the dictionary comes back as it is. Takes memory for the new table; where there is none the dictionary
-    /// is given up.
+    /// cobasis, and is added to each row outside the old cobasis, and to no coordinate. The other numbers and the denominator
+    /// stay. Where t is a label already, or the key has no room for one more, the dictionary comes back as it is. Takes
+    /// memory for the new table; where there is none the dictionary is given up.
     pub fn add_t(self) -> Result<Dict, OutOfMemory>
         ensures adds { IfOk result (λ d. HasRoomForT self → AddsT self d) }
         ensures stays { IfOk result (λ d. (HasRoomForT self → ⊥) → d ≡ self) }
@@ -126,7 +126,8 @@ impl Dict {
     }
 
     /// From the phase `First` to the phase `Main`: the dictionary without t, which is in the cobasis, over its own least
-    /// denominator. Takes memory for the new table; where there is none the dictionary is given up.
+    /// denominator. Where t is not in the cobasis, no more is said of what comes back than its phase. Takes memory for the new
+    /// table; where there is none the dictionary is given up.
     pub fn drop_t(self) -> Result<Dict, OutOfMemory>
         ensures { IfOk result (λ d. DropsT self d) }
     {
