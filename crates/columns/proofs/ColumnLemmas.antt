@@ -91,6 +91,16 @@ module _ (cells : List ℤ) (parts : Parts ℤ) (j : ℕ) where
       rescaled = λ k l. ap (λ (z : ℤ). z *ℤ g) (kept.kept k l);
     }
 
+    -- what comes before the column was kept first
+    pub done_kept : (h : ℤ) (old mid new : List ℤ) → AreKept (j * parts.x.now.height) old mid →
+        IsColumnDone cells parts j g h mid new → IsColumnDone cells parts j g h old new
+    done_kept h old mid new kept d = record {
+      same_length = d.same_length ∙ kept.same_length;
+      left = d.left;
+      written = d.written;
+      rescaled = λ k l. d.rescaled k l ∙ ap (λ (z : ℤ). z *ℤ g) (kept.kept k l);
+    }
+
     -- it does not, and has shrunk
     pub done_less : (h : ℤ) (old mid new : List ℤ) → IsLeftOfColumn cells parts j parts.x.now.height g h →
         IsRescaled (j * parts.x.now.height) g h old mid → AreKept (j * parts.x.now.height) mid new →
@@ -105,6 +115,10 @@ module _ (cells : List ℤ) (parts : Parts ℤ) (j : ℕ) where
 -- in the exchange's row, where the exchange's column has p + u
 leaving_equation : (p u r : ℤ) → r *ℤ p -ℤ (p +ℤ u) *ℤ r ≡ neg_ℤ (u *ℤ r)
 leaving_equation p u r = simp expand (omega (arith, lin))
+
+-- in the exchange's row, where the exchange's column has u
+nothing_taken : (p u r : ℤ) → pos 0 *ℤ p -ℤ u *ℤ r ≡ neg_ℤ (u *ℤ r)
+nothing_taken p u r = let k : pos 0 *ℤ p ≡ pos 0 = zero_mul p in omega (arith, lin)
 
 -- a cell of which nothing is taken, over what it is multiplied by
 stays_equation : (g e p c b : ℤ) → b ≡ pos 0 → p ≡ g → e *ℤ g ≡ e *ℤ p -ℤ c *ℤ b
@@ -130,6 +144,20 @@ module _ (cells : List ℤ) (parts : Parts ℤ) (j : ℕ) where
     leaving = λ _ r.
         en ∙ rw (ea, ec, eb, r, sum)
         (leaving_equation parts.p parts.u (cell_at parts.x.now.height cells parts.x.now.row j));
+  }
+
+  -- the same, where its own has u in the exchange's row, and 0 is taken for the cell there
+  pub beside_is : get_or parts.own.now parts.x.now.row (pos 0) ≡ parts.u → j ≢ parts.x.now.column → (i : ℕ) (a c b n : ℤ) →
+      (i ≡ parts.x.now.row → a ≡ pos 0) → (i ≢ parts.x.now.row → a ≡ cell_at parts.x.now.height cells i j) →
+      c ≡ get_or parts.own.now i (pos 0) → b ≡ cell_at parts.x.now.height cells parts.x.now.row j →
+      n ≡ a *ℤ parts.p -ℤ c *ℤ b → IsNumerator cells parts j i n
+  beside_is own ne i a c b n here other ec eb en = record {
+    column = λ e. absurd (ne e);
+    corner = λ e. absurd (ne e);
+    inside = λ _ nr. en ∙ rw (other nr, ec, eb) refl;
+    leaving = λ _ r.
+        en ∙ rw (here r, ec, eb, r, own)
+        (nothing_taken parts.p parts.u (cell_at parts.x.now.height cells parts.x.now.row j));
   }
 
   -- another column and another row than the exchange's

@@ -1,5 +1,5 @@
 -- The new cells are written column by column, over a divisor that shrinks.
-use Rattle.std.proofs.Common.{◌≡◌, ◌≢◌, ℕ, ◌+◌, ◌<◌, ℤ, pos, ◌*ℤ◌, ◌-ℤ◌, neg_ℤ, List, length, get_or, arith, ◌∙◌, sym, subst, ap, refl, ⊎_elim, mul_comm}
+use Rattle.std.proofs.Common.{◌≡◌, ◌≢◌, ℕ, ◌+◌, ◌<◌, ℤ, pos, ◌*ℤ◌, ◌-ℤ◌, neg_ℤ, List, length, get_or, arith, ◌*◌, ◌∙◌, sym, subst, ap, refl, ⊎_elim, mul_comm}
 use Prim.Native.Nat.{◌∣◌}
 use Rattle.std.specs.Prelude.{◌<ℤ◌, unsigned_abs}
 use Rattle.std.proofs.lemmas.Bool.{cases_eq}
@@ -12,7 +12,7 @@ use Rattle.poly_num.proofs.DivisorLemmas.{dvd-multiple}
 use Rattle.columns.specs.declared.exchange.Exchange.{Exchange}
 use Rattle.columns.specs.declared.parts.Parts.{Parts}
 use Rattle.columns.specs.Cells.{cell_at, place, pivot_of, IsNewCell}
-use Rattle.columns.specs.Steps.{IsNumerator, AreParts, factor_of, IsColumnDone, IsOver}
+use Rattle.columns.specs.Steps.{IsNumerator, AreParts, factor_of, IsColumnDone, IsOver, IsReached, AreKept}
 use Rattle.columns.proofs.DivisorLemmas.{factor_nonzero}
 
 -- what stands in a cell after the exchange is one number
@@ -199,3 +199,26 @@ module _ (old : List ℤ) (parts : Parts ℤ) (z : ℤ) (are : AreParts old part
         c.left.greatest k (u.greatest k d (λ a b ha hb. all a b ha (omega arith)))
         (λ a ha n num. divides_new a ha k n num (all a j ha (omega arith)));
   }
+
+-- what comes behind the columns that are done may change
+pub reached_kept : (old : List ℤ) (parts : Parts ℤ) (j : ℕ) (g f : ℤ) (mid now : List ℤ) →
+    AreKept (j * parts.x.now.height) mid now → IsReached old parts j g f mid → IsReached old parts j g f now
+reached_kept old parts j g f mid now kept r =
+    let h = parts.x.now.height in
+    let u = r.over in
+    record {
+      from_parts = r.from_parts;
+      room = kept.same_length ∙ r.room;
+      within = r.within;
+      scale = r.scale;
+      over = record {
+        same_length = kept.same_length ∙ u.same_length;
+        positive = u.positive;
+        divides = u.divides;
+        done = λ a b ha hb.
+            let l = mul-add-lt b h a j hb ha in
+            let e : cell_at h now a b ≡ cell_at h mid a b = kept.kept (place h a b) (omega (arith, mul_comm h j)) in
+            subst (λ (z : ℤ). IsNewCell parts.x.now old a b (factor_of parts *ℤ (g *ℤ z))) (sym e) (u.done a b ha hb);
+        greatest = u.greatest;
+      };
+    }

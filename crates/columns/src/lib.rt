@@ -7,6 +7,7 @@ mod common;
 mod exchange;
 mod into;
 mod kernels;
+mod multiplier;
 mod parts;
 mod rescale;
 mod slices;
@@ -15,6 +16,7 @@ mod table;
 mod tests;
 mod wide;
 mod wide_column;
+mod wide_kernel;
 
 pub use cells::Cells;
 pub use exchange::{Exchange, Passing, Spot};

@@ -1,5 +1,6 @@
 //! What an exchange takes, and what its new cells are over.
 use crate::exchange::Exchange;
+use crate::multiplier::WideDivisor;
 use poly_num::Num;
 use words::{Word, WordDivisor};
 
@@ -36,9 +37,9 @@ pub struct Scale {
 }
 
 /// What the new wide numbers are over: the divisor, which with the factor is the denominator.
-#[derive(Clone, Copy)]
+#[derive(Drop)]
 pub struct WideScale {
-    pub divisor: Num,
+    pub divisor: WideDivisor,
     pub factor: Num,
 }
 

@@ -7,8 +7,10 @@ ghost use Rattle.columns.specs.Steps.{AreWideParts, IsScale, IsColumnDone, IsSca
 use crate::cells::Cells;
 use crate::common::is_one;
 use crate::exchange::{Passing, Spot, number_at};
+use crate::multiplier::WideDivisor;
 use crate::parts::{Parts, WideScale};
 use crate::wide_column::{divided_column, left_of_column, same_column, stays, wide_own_column};
+use crate::wide_kernel::exact_column;
 use poly_num::{Num, mul, quotient};
 
 // The first so many numbers times a factor; the place of the first that passes.
@@ -29,14 +31,19 @@ fn scale_numbers(new: &mut [Num], count: usize, factor: Num) -> Result<(), usize
 
 // The first so many numbers, which are over a divisor, over a number that divides it; the place of the first that
 // passes.
-fn numbers_over_less(new: &mut [Num], count: usize, divisor: Num, less: Num) -> Result<(), usize>
+fn numbers_over_less(
+    new: &mut [Num],
+    count: usize,
+    divisor: &WideDivisor,
+    less: Num,
+) -> Result<(), usize>
     requires count { count ≤ length new.old }
     requires positive { pos 0 <ℤ less }
-    requires divides { unsigned_abs less ∣ unsigned_abs divisor }
-    ensures { MatchResult result (λ u. IsRescaled count divisor less new.old new.new)
-        (λ k. PassesRescaled count divisor less new.old k) }
+    requires divides { unsigned_abs less ∣ unsigned_abs divisor.now }
+    ensures { MatchResult result (λ u. IsRescaled count divisor.now less new.old new.new)
+        (λ k. PassesRescaled count divisor.now less new.old k) }
 {
-    let factor = quotient(divisor, less);
+    let factor = quotient(divisor.number(), less);
     if is_one(factor) {
         return Ok(());
     }
@@ -57,6 +64,8 @@ fn spot_of(place: usize, height: usize) -> Spot
 
 // The new cells of a column over what is left of the divisor where it is to divide that too, and so the columns
 // before; the place at which one passes.
+#[cold]
+#[inline(never)]
 fn column_over_left(
     old: &Cells,
     parts: &Parts<Num>,
@@ -72,12 +81,12 @@ fn column_over_left(
     ensures scale { IfOk result (λ u. IsScale parts.now.x.now scale.new.divisor scale.new.factor) }
 {
     let height = parts.x.height;
-    let less = left_of_column(old, parts, column, scale.divisor)?;
-    if let Err(place) = numbers_over_less(new, column * height, scale.divisor, less) {
+    let less = left_of_column(old, parts, column, &scale.divisor)?;
+    if let Err(place) = numbers_over_less(new, column * height, &scale.divisor, less) {
         return Err(spot_of(place, height));
     }
     let smaller = WideScale {
-        divisor: less,
+        divisor: WideDivisor::new(less),
         factor: quotient(parts.x.denominator, less),
     };
     divided_column(old, parts, new, column, &smaller)?;
@@ -103,8 +112,11 @@ fn wide_column(
     if column == parts.x.column {
         return wide_own_column(parts, new, scale);
     }
-    if stays(old, parts, column, scale.divisor) {
-        same_column(old, parts, new, column, scale.divisor);
+    if stays(old, parts, column, &scale.divisor) {
+        same_column(old, parts, new, column, &scale.divisor);
+        return Ok(());
+    }
+    if exact_column(old, parts, new, column, &scale.divisor) == parts.x.height {
         return Ok(());
     }
     column_over_left(old, parts, new, column, scale)
@@ -119,7 +131,7 @@ pub(crate) fn wide_into(old: &Cells, parts: &Parts<Num>, new: &mut [Num]) -> Res
     ensures passes { IfErr result (λ p. ExchangePasses parts.now.x.now old.now p) }
 {
     let mut scale = WideScale {
-        divisor: parts.x.denominator,
+        divisor: WideDivisor::new(parts.x.denominator),
         factor: Num::ONE,
     };
     'columns: for j in 0..parts.x.width {

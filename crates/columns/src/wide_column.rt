@@ -6,6 +6,7 @@ ghost use Rattle.columns.specs.Steps.{AreWideParts, IsOtherColumn, IsScale, IsNu
 use crate::cells::Cells;
 use crate::common::{common_with, signed_over};
 use crate::exchange::{Spot, number_at};
+use crate::multiplier::WideDivisor;
 use crate::parts::{Parts, WideScale};
 use poly_num::{Num, cross, mul, neg, quotient};
 
@@ -68,17 +69,17 @@ pub(crate) fn left_of_column(
     old: &Cells,
     parts: &Parts<Num>,
     column: usize,
-    divisor: Num,
+    divisor: &WideDivisor,
 ) -> Result<Num, Spot>
     requires parts { AreWideParts old.now parts.now }
     requires within { column < parts.now.x.now.width }
     requires other { column ≢ parts.now.x.now.column }
-    requires positive { pos 0 <ℤ divisor }
-    ensures left { MatchResult result (λ h. IsLeftOfColumn old.now parts.now column parts.now.x.now.height divisor h)
+    ensures left { MatchResult result
+        (λ h. IsLeftOfColumn old.now parts.now column parts.now.x.now.height divisor.now h)
         (λ s. CellPasses parts.now.x.now old.now s.row s.column) }
     ensures divides { IfOk result (λ h. DividesColumn old.now parts.now column parts.now.x.now.height h) }
 {
-    let mut common = divisor;
+    let mut common = divisor.number();
     // common = gcd(common, numerator(i))
     'rows: for i in 0..parts.x.height {
         match left_of_row(old, parts, column, i, common) {
@@ -110,7 +111,7 @@ fn new_cell(
         return leaving_cell(old, parts, column, scale);
     }
     let n = numerator(old, parts, column, i)?;
-    Some(quotient(n, scale.divisor))
+    Some(quotient(n, scale.divisor.number()))
 }
 
 // The new cells of another column than the exchange's, which the divisor divides; the place at which one passes.
@@ -142,15 +143,15 @@ pub(crate) fn divided_column(
 }
 
 // Whether the exchange takes nothing of a column, and multiplies it by what it divides by.
-pub(crate) fn stays(old: &Cells, parts: &Parts<Num>, column: usize, divisor: Num) -> bool
+pub(crate) fn stays(old: &Cells, parts: &Parts<Num>, column: usize, divisor: &WideDivisor) -> bool
     requires parts { AreWideParts old.now parts.now }
     requires within { column < parts.now.x.now.width }
     ensures nothing { IsTrue result →
         cell_at parts.now.x.now.height old.now parts.now.x.now.row column ≡ pos 0 }
-    ensures same { IsTrue result → parts.now.p ≡ divisor }
+    ensures same { IsTrue result → parts.now.p ≡ divisor.now }
 {
     let b = old.at(parts.x.height, parts.x.row, column);
-    b == Num::ZERO && parts.p == divisor
+    b == Num::ZERO && parts.p == divisor.number()
 }
 
 // The cells of a column that stays.
@@ -159,13 +160,13 @@ pub(crate) fn same_column(
     parts: &Parts<Num>,
     new: &mut [Num],
     column: usize,
-    divisor: Num,
+    divisor: &WideDivisor,
 )
     requires parts { AreWideParts old.now parts.now }
     requires inside { IsOtherColumn parts.now.x.now column new.old }
     requires nothing { cell_at parts.now.x.now.height old.now parts.now.x.now.row column ≡ pos 0 }
-    requires same { parts.now.p ≡ divisor }
-    ensures written { IsColumnWritten old.now parts.now column parts.now.x.now.height divisor new.new }
+    requires same { parts.now.p ≡ divisor.now }
+    ensures written { IsColumnWritten old.now parts.now column parts.now.x.now.height divisor.now new.new }
     ensures kept { AreKept (column * parts.now.x.now.height) new.old new.new }
 {
     let height = parts.x.height;

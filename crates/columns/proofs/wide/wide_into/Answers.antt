@@ -1,7 +1,7 @@
-use Rattle.std.proofs.Common.{◌≡◌, subst, sym, ℤ, ℕ, ◌∙◌, arith}
+use Rattle.std.proofs.Common.{◌≡◌, subst, sym, ℤ, ℕ, pos, ◌∙◌, arith}
 use Rattle.poly_num.proofs.Ring.{one_mul}
 use Rattle.columns.specs.Cells.{IsTableAfter}
-use Rattle.columns.specs.Steps.{IsOver, factor_of}
+use Rattle.columns.specs.Steps.{IsOver, IsScale, factor_of}
 use Rattle.columns.proofs.OverLemmas.{over_start, over_column}
 use Rattle.columns.proofs.LeastCells.{table_after}
 use Rattle.columns.proofs.PassingLemmas.{denominator_passes}
@@ -9,13 +9,19 @@ use Rattle.columns.proofs.wide.wide_into.Goals as goal
 
 pub columns-init : goal.columns-init
 columns-init c =
+    let old = c.args.old.now in
+    let new = c.args.new.now in
     let parts = c.args.parts.now in
     let x = parts.x.now in
     let can = c.requires.parts.can in
+    let d = x.denominator in
     record {
       over =
-          over_start x c.args.old.now (factor_of parts) c.args.new.now (c.requires.room ∙ sym can.size) can.denominator;
-      scale = record { positive = can.denominator; whole = one_mul x.denominator };
+          subst (λ (g : ℤ). IsOver x old (factor_of parts) 0 g new) (sym c.new.ensures)
+          (over_start x old (factor_of parts) new (c.requires.room ∙ sym can.size) can.denominator);
+      scale =
+          subst (λ (g : ℤ). IsScale x g (pos 1)) (sym c.new.ensures)
+          (record { positive = can.denominator; whole = one_mul d });
     }
 
 pub columns-preserved : goal.columns-preserved

@@ -7,7 +7,7 @@ cells-preserved c =
     let parts = c.args.parts.now in
     let old = c.args.old.now in
     let j = c.args.column in
-    let g = c.args.divisor in
+    let g = c.args.divisor.now in
     let e = c.at-e.result in
     let lt : j * parts.x.now.height + c.cells.i < length c.cells.new = search rules in
     record {
