@@ -19,6 +19,12 @@ kept_more n old new k q le u = record {
   kept = λ a h. get_or-set_other new k a q (pos 0) (λ e. omega arith) ∙ u.kept a h;
 }
 
+pub kept_twice : (n : ℕ) (old mid new : List ℤ) → AreKept n old mid → AreKept n mid new → AreKept n old new
+kept_twice n old mid new u v = record {
+  same_length = v.same_length ∙ u.same_length;
+  kept = λ k l. v.kept k l ∙ u.kept k l;
+}
+
 -- what is true of the cells of a column down to row i is true of one more
 pub column_more : (x : Exchange) (j : ℕ) (P : ℕ → ℤ → Type 0) (i : ℕ) (new : List ℤ) (q : ℤ) →
     j * x.height + i < length new → P i q → ((k : ℕ) → k < i → P k (cell_at x.height new k j)) →

@@ -1,8 +1,9 @@
 //! Wide numbers by which many are multiplied or divided.
 ghost use Rattle.std.specs.Option.{IfSome};
 ghost use Rattle.std.specs.Prelude.{◌≡◌, ◌<◌, ◌*◌, ◌^◌, ◌*ℤ◌, ◌-ℤ◌, ◌<ℤ◌, pos, unsigned_abs, IsTrue};
+ghost use Rattle.poly_num.specs.Divisors.{IsGcdOf};
 
-use crate::common::is_one;
+use crate::common::{common_with, is_one};
 use poly_num::{Num, cross, known_cross, known_product, mul};
 use std::marker::Model;
 
@@ -169,8 +170,10 @@ impl WideDivisor {
     // `n` over the divisor; `None` where that does not divide it. By 1 nothing is divided.
     #[inline(always)]
     fn exact(&self, n: Num) -> Option<Num>
-        ensures { IfSome result (λ q. q *ℤ self.now ≡ n) }
+        ensures quotient { IfSome result (λ q. q *ℤ self.now ≡ n) }
+        ensures positive { pos 0 <ℤ self.now }
     {
+        let _ = &self.divisor;
         if is_one(self.divisor.number()) {
             return Some(n);
         }
@@ -184,6 +187,27 @@ impl WideDivisor {
         let without_twos = (n.get() >> (self.twos % 128)).cast_unsigned();
         Num::new(without_twos.wrapping_mul(self.inverse).cast_signed())
     }
+}
+
+/// The greatest common divisor of a divisor and a number; no division is made where the first divides.
+#[inline(always)]
+pub(crate) fn shared_divisor(divisor: WideDivisor, n: Num) -> WideDivisor
+    ensures { IsGcdOf divisor n result }
+{
+    match divisor.exact(n) {
+        Some(_) => divisor,
+        None => less_divisor(&divisor, n),
+    }
+}
+
+// The same where it does not divide.
+#[cold]
+#[inline(never)]
+fn less_divisor(divisor: &WideDivisor, n: Num) -> WideDivisor
+    ensures { IsGcdOf divisor.now n result }
+{
+    let common = common_with(divisor.number(), n);
+    WideDivisor::new(common)
 }
 
 // The guess, where its product with the divisor is `n`.

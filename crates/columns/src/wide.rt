@@ -9,7 +9,9 @@ use crate::common::is_one;
 use crate::exchange::{Passing, Spot, number_at};
 use crate::multiplier::WideDivisor;
 use crate::parts::{Parts, WideScale};
-use crate::wide_column::{divided_column, left_of_column, same_column, stays, wide_own_column};
+use crate::wide_column::{
+    left_of_column, quotients_of_column, same_column, stays, wide_own_column,
+};
 use crate::wide_kernel::exact_column;
 use poly_num::{Num, mul, quotient};
 
@@ -35,15 +37,14 @@ fn numbers_over_less(
     new: &mut [Num],
     count: usize,
     divisor: &WideDivisor,
-    less: Num,
+    less: &WideDivisor,
 ) -> Result<(), usize>
     requires count { count ≤ length new.old }
-    requires positive { pos 0 <ℤ less }
-    requires divides { unsigned_abs less ∣ unsigned_abs divisor.now }
-    ensures { MatchResult result (λ u. IsRescaled count divisor.now less new.old new.new)
-        (λ k. PassesRescaled count divisor.now less new.old k) }
+    requires divides { unsigned_abs less.now ∣ unsigned_abs divisor.now }
+    ensures { MatchResult result (λ u. IsRescaled count divisor.now less.now new.old new.new)
+        (λ k. PassesRescaled count divisor.now less.now new.old k) }
 {
-    let factor = quotient(divisor.number(), less);
+    let factor = quotient(divisor.number(), less.number());
     if is_one(factor) {
         return Ok(());
     }
@@ -82,14 +83,15 @@ fn column_over_left(
 {
     let height = parts.x.height;
     let less = left_of_column(old, parts, column, &scale.divisor)?;
-    if let Err(place) = numbers_over_less(new, column * height, &scale.divisor, less) {
+    if let Err(place) = numbers_over_less(new, column * height, &scale.divisor, &less) {
         return Err(spot_of(place, height));
     }
+    let factor = quotient(parts.x.denominator, less.number());
     let smaller = WideScale {
-        divisor: WideDivisor::new(less),
-        factor: quotient(parts.x.denominator, less),
+        divisor: less,
+        factor,
     };
-    divided_column(old, parts, new, column, &smaller)?;
+    quotients_of_column(old, parts, new, column, &smaller)?;
     *scale = smaller;
     Ok(())
 }

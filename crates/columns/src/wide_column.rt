@@ -4,10 +4,11 @@ ghost use Rattle.columns.specs.Cells.{cell_at, CellPasses};
 ghost use Rattle.columns.specs.Steps.{AreWideParts, IsOtherColumn, IsScale, IsNumerator, IsLeftOfRow, IsLeftOfColumn, DividesColumn, IsColumnWritten, AreKept};
 
 use crate::cells::Cells;
-use crate::common::{common_with, signed_over};
+use crate::common::signed_over;
 use crate::exchange::{Spot, number_at};
-use crate::multiplier::WideDivisor;
+use crate::multiplier::{WideDivisor, shared_divisor};
 use crate::parts::{Parts, WideScale};
+use crate::wide_kernel::exact_column;
 use poly_num::{Num, cross, mul, neg, quotient};
 
 // What is to be divided in another column and another row than the exchange's; `None` where that passes.
@@ -47,21 +48,21 @@ fn left_of_row(
     parts: &Parts<Num>,
     column: usize,
     i: usize,
-    divisor: Num,
-) -> Option<Num>
+    divisor: WideDivisor,
+) -> Option<WideDivisor>
     requires parts { AreWideParts old.now parts.now }
     requires within { column < parts.now.x.now.width }
     requires other { column ≢ parts.now.x.now.column }
     requires row { i < parts.now.x.now.height }
-    requires positive { pos 0 <ℤ divisor }
     ensures { MatchOption result (CellPasses parts.now.x.now old.now i column)
         (λ h. IsLeftOfRow old.now parts.now column i divisor h) }
 {
+    let g = divisor.number();
     if i == parts.x.row {
         return Some(divisor);
     }
     let n = numerator(old, parts, column, i)?;
-    Some(common_with(divisor, n))
+    Some(shared_divisor(divisor, n))
 }
 
 // What is left of the divisor where it is to divide a column; the place at which what is to be divided passes.
@@ -70,7 +71,7 @@ pub(crate) fn left_of_column(
     parts: &Parts<Num>,
     column: usize,
     divisor: &WideDivisor,
-) -> Result<Num, Spot>
+) -> Result<WideDivisor, Spot>
     requires parts { AreWideParts old.now parts.now }
     requires within { column < parts.now.x.now.width }
     requires other { column ≢ parts.now.x.now.column }
@@ -79,7 +80,8 @@ pub(crate) fn left_of_column(
         (λ s. CellPasses parts.now.x.now old.now s.row s.column) }
     ensures divides { IfOk result (λ h. DividesColumn old.now parts.now column parts.now.x.now.height h) }
 {
-    let mut common = divisor.number();
+    let g = divisor.number();
+    let mut common = divisor.copied();
     // common = gcd(common, numerator(i))
     'rows: for i in 0..parts.x.height {
         match left_of_row(old, parts, column, i, common) {
@@ -115,7 +117,7 @@ fn new_cell(
 }
 
 // The new cells of another column than the exchange's, which the divisor divides; the place at which one passes.
-pub(crate) fn divided_column(
+fn divided_column(
     old: &Cells,
     parts: &Parts<Num>,
     new: &mut [Num],
@@ -140,6 +142,29 @@ pub(crate) fn divided_column(
         }
     }
     Ok(())
+}
+
+// The same; mostly each of them is an exact quotient.
+pub(crate) fn quotients_of_column(
+    old: &Cells,
+    parts: &Parts<Num>,
+    new: &mut [Num],
+    column: usize,
+    scale: &WideScale,
+) -> Result<(), Spot>
+    requires parts { AreWideParts old.now parts.now }
+    requires inside { IsOtherColumn parts.now.x.now column new.old }
+    requires scale { IsScale parts.now.x.now scale.now.divisor scale.now.factor }
+    requires divides { DividesColumn old.now parts.now column parts.now.x.now.height scale.now.divisor }
+    ensures written { MatchResult result
+        (λ u. IsColumnWritten old.now parts.now column parts.now.x.now.height scale.now.divisor new.new)
+        (λ s. CellPasses parts.now.x.now old.now s.row s.column) }
+    ensures kept { AreKept (column * parts.now.x.now.height) new.old new.new }
+{
+    if exact_column(old, parts, new, column, &scale.divisor) == parts.x.height {
+        return Ok(());
+    }
+    divided_column(old, parts, new, column, scale)
 }
 
 // Whether the exchange takes nothing of a column, and multiplies it by what it divides by.

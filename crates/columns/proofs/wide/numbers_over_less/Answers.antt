@@ -7,15 +7,17 @@ use Rattle.columns.proofs.wide.numbers_over_less.Goals.{After-quotient-factor}
 use Rattle.columns.proofs.wide.numbers_over_less.Goals as goal
 
 -- the factor between the two divisors
-times : (c : After-quotient-factor) → c.quotient-factor.result *ℤ c.args.less ≡ c.args.divisor.now
+times : (c : After-quotient-factor) → c.quotient-factor.result *ℤ c.args.less.now ≡ c.args.divisor.now
 times c =
-    let less = c.args.less in
-    ap (λ (z : ℤ). z *ℤ less) (c.quotient-factor.ensures ∙ ap (λ (g : ℤ). int_div g less) c.number.ensures.value)
-    ∙ quotient_exact less c.args.divisor.now c.requires.positive c.requires.divides
+    let less = c.args.less.now in
+    let g = c.args.divisor.now in
+    let e : c.quotient-factor.result ≡ int_div g less =
+    c.quotient-factor.ensures ∙ rw (c.number.ensures.value, c.number-2.ensures.value) refl in
+    ap (λ (z : ℤ). z *ℤ less) e ∙ quotient_exact less g c.number-2.ensures.positive c.requires.divides
 
 pub returns-then-is_one : goal.returns-then-is_one
 returns-then-is_one c =
-    let less = c.args.less in
+    let less = c.args.less.now in
     let one : c.quotient-factor.result ≡ pos 1 = c.is_one.ensures.0 c.if-is_one.true in
     let e : less ≡ c.args.divisor.now =
     sym (one_mul less) ∙ ap (λ (z : ℤ). z *ℤ less) (sym one)
@@ -27,6 +29,6 @@ returns-then-is_one c =
 
 pub returns : goal.returns
 returns c =
-    rescaled_or_passes c.args.count c.args.divisor.now c.args.less c.quotient-factor.result c.args.new.now
+    rescaled_or_passes c.args.count c.args.divisor.now c.args.less.now c.quotient-factor.result c.args.new.now
     c.scale_numbers.new.new (times (goal.at.returns c).After-quotient-factor) c.scale_numbers.result
     c.scale_numbers.ensures

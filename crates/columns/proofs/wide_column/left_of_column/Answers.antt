@@ -11,13 +11,10 @@ rows-init c =
     let g = c.args.divisor.now in
     record {
       left =
-          subst (λ (h : ℤ). IsLeftOfColumn old parts j 0 g h) (sym c.number-common.ensures.value)
-          (left_start old parts j g c.number-common.ensures.positive);
+          subst (λ (h : ℤ). IsLeftOfColumn old parts j 0 g h) (sym c.copied-common.ensures)
+          (left_start old parts j g c.number-g.ensures.positive);
       divides = λ i l. absurd (omega arith);
     }
-
-pub left_of_row-requires-clause-positive : goal.left_of_row-requires-clause-positive
-left_of_row-requires-clause-positive c = c.rows.invariant.left.positive
 
 pub rows-preserved : goal.rows-preserved
 rows-preserved c =
