@@ -2,6 +2,7 @@
 ghost use Rattle.std.specs.Prelude.{◌≡◌, ◌<◌, ◌≤◌, ℕ, pos, IfOk, IsTrue, length};
 ghost use Rattle.std.specs.List.{slice_index_or};
 ghost use Rattle.columns.specs.Cells.{cell_at, place};
+ghost use Rattle.poly_num.specs.Halves.{IsHalf};
 ghost use Rattle.columns.specs.HalfCells.{AreHalvesTo};
 
 use crate::exchange::{at_place, number_at};
@@ -152,6 +153,20 @@ pub(crate) fn are_halves(words: &[Word]) -> bool
         }
     }
     true
+}
+
+// Whether others are known to be halves, and so is one more word.
+pub(crate) fn stay_halves(halves: bool, z: Word) -> bool
+    ensures { IsTrue result → IsTrue halves × IsHalf z }
+{
+    halves && z.is_half()
+}
+
+// Whether both hold.
+pub(crate) fn both(first: bool, second: bool) -> bool
+    ensures { IsTrue result → IsTrue first × IsTrue second }
+{
+    first && second
 }
 
 // The numbers as words, where all of them are; else the words are lost.

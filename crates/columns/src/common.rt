@@ -39,17 +39,17 @@ fn shared(divisor: WordDivisor, c: Word) -> Option<WordDivisor>
 {
     match divisor.exact(c) {
         Some(_) => Some(divisor),
-        None => less(&divisor, c),
+        None => less(&divisor, c.wide()),
     }
 }
 
 // The same where it does not divide.
 #[cold]
 #[inline(never)]
-fn less(divisor: &WordDivisor, c: Word) -> Option<WordDivisor>
+pub(crate) fn less(divisor: &WordDivisor, c: Num) -> Option<WordDivisor>
     ensures { IfSome result (λ g. IsGcdOf divisor.now c g) }
 {
-    positive_word(gcd(c.wide(), divisor.word().wide()))
+    positive_word(gcd(c, divisor.word().wide()))
 }
 
 // The divisor of this value; `None` where it is no positive word.

@@ -5,17 +5,11 @@ ghost use Rattle.columns.specs.Cells.{IsTableAfter};
 ghost use Rattle.columns.specs.HalfCells.{AreHalvesTo};
 ghost use Rattle.columns.specs.Steps.{AreWordParts, IsScale, IsColumnDone};
 
+use crate::cells::both;
 use crate::column::write_column;
 use crate::parts::{Parts, Scale, Written};
 use crate::rescale::column_over_less;
 use words::{Word, WordDivisor, product};
-
-// Whether both hold.
-fn both(first: bool, second: bool) -> bool
-    ensures { IsTrue result → IsTrue first × IsTrue second }
-{
-    first && second
-}
 
 // The new cells of a column; where the divisor does not divide it, it shrinks, and the columns before grow. Whether
 // all fit.

@@ -1,9 +1,12 @@
 //! Where the divisor does not divide a column of words: it shrinks, and the columns before grow.
-ghost use Rattle.std.specs.Prelude.{◌≡◌, ◌≢◌, ◌<◌, ◌*◌, ◌<ℤ◌, IsTrue, IsFalse, pos, length};
-ghost use Rattle.columns.specs.Steps.{AreWordParts, IsOtherColumn, IsScale, IsNumerator, IsLeftOfColumn, IsColumnDone, IsScaled};
+ghost use Rattle.std.specs.Option.{IfSome};
+ghost use Rattle.std.specs.Prelude.{◌≡◌, ◌≢◌, ◌<◌, ◌*◌, ◌+◌, IsTrue, length};
+ghost use Rattle.columns.specs.HalfCells.{AreHalvesTo};
+ghost use Rattle.columns.specs.Steps.{AreWordParts, IsOtherColumn, IsScale, IsNumerator, IsLeftOfRow, IsLeftOfColumn, IsColumnDone, IsScaled};
 
+use crate::cells::{both, stay_halves};
 use crate::column::other_column;
-use crate::common::common_with;
+use crate::common::less;
 use crate::exchange::{Exchange, at_place, word_at};
 use crate::parts::{Parts, Scale};
 use poly_num::{Num, quotient};
@@ -27,38 +30,74 @@ fn word_numerator(cells: &[Word], parts: &Parts<Word>, column: usize, i: usize) 
     )
 }
 
-// What is left of the divisor where it is to divide a column.
-fn left_of_words(cells: &[Word], parts: &Parts<Word>, column: usize, divisor: Word) -> Num
+// What is left of a divisor where it is to divide row i of another column than the exchange's; no division is made
+// where it does.
+#[inline(always)]
+fn left_of_cell(
+    cells: &[Word],
+    parts: &Parts<Word>,
+    column: usize,
+    i: usize,
+    divisor: WordDivisor,
+) -> Option<WordDivisor>
     requires parts { AreWordParts cells.now parts.now }
     requires within { column < parts.now.x.now.width }
     requires other { column ≢ parts.now.x.now.column }
-    requires positive { pos 0 <ℤ divisor }
-    ensures { IsLeftOfColumn cells.now parts.now column parts.now.x.now.height divisor result }
+    requires row { i < parts.now.x.now.height }
+    ensures { IfSome result (λ h. IsLeftOfRow cells.now parts.now column i divisor h) }
 {
-    let mut common = divisor.wide();
-    // common = gcd(common, numerator(i))
-    'cells: for i in 0..parts.x.height {
-        let n = word_numerator(cells, parts, column, i);
-        common = common_with(common, n);
+    let g = divisor.word();
+    let x = parts.x;
+    let e = word_at(cells, x, i, column);
+    let b = word_at(cells, x, x.row, column);
+    match divisor.exact_cross(e, parts.p, at_place(parts.own, i), b) {
+        Some(_) => Some(divisor),
+        None => less(&divisor, word_numerator(cells, parts, column, i)),
     }
-    common
 }
 
-// The words of the columns before a column times a factor, where all fit; else they are lost.
-fn scale_words(new: &mut [Word], x: &Exchange, column: usize, factor: Word) -> bool
+// What is left of the divisor where it is to divide a column.
+fn left_of_words(
+    cells: &[Word],
+    parts: &Parts<Word>,
+    column: usize,
+    divisor: &WordDivisor,
+) -> Option<WordDivisor>
+    requires parts { AreWordParts cells.now parts.now }
+    requires within { column < parts.now.x.now.width }
+    requires other { column ≢ parts.now.x.now.column }
+    ensures { IfSome result (λ h.
+        IsLeftOfColumn cells.now parts.now column parts.now.x.now.height divisor.now h) }
+{
+    let g = divisor.word();
+    let mut common = divisor.copied();
+    // common = gcd(common, numerator(i))
+    'cells: for i in 0..parts.x.height {
+        common = left_of_cell(cells, parts, column, i, common)?;
+    }
+    Some(common)
+}
+
+// The words of the columns before a column times a factor, where all fit: whether all are halves; else they are lost.
+fn scale_words(new: &mut [Word], x: &Exchange, column: usize, factor: Word) -> Option<bool>
     requires room { length new.old ≡ x.now.width * x.now.height }
     requires within { column < x.now.width }
     ensures length { length new.new ≡ length new.old }
-    ensures scaled { IsTrue result → IsScaled (column * x.now.height) factor new.old new.new }
+    ensures scaled { IfSome result (λ h. IsScaled (column * x.now.height) factor new.old new.new) }
+    ensures halves { IfSome result (λ h. IsTrue h → AreHalvesTo (column * x.now.height) new.new) }
 {
+    let mut halves = true;
     // new(k) = new(k) factor
     'cells: for k in 0..column * x.height {
         match product(at_place(new, k), factor) {
-            Some(z) => new[k] = z,
-            None => return false,
+            Some(z) => {
+                halves = stay_halves(halves, z);
+                new[k] = z;
+            }
+            None => return None,
         }
     }
-    true
+    Some(halves)
 }
 
 // A column over what is left of the divisor where it is to divide that too, and so the columns before. Whether all fit.
@@ -77,29 +116,31 @@ pub(crate) fn column_over_less(
     ensures done { IsTrue result →
         IsColumnDone cells.now parts.now column shrinking.old.divisor shrinking.new.divisor new.old new.new }
     ensures scale { IsTrue result → IsScale parts.now.x.now shrinking.new.divisor shrinking.new.factor }
-    ensures halves { IsTrue result → IsFalse shrinking.new.halves }
+    ensures halves { IsTrue result → IsTrue shrinking.new.halves → IsTrue shrinking.old.halves ×
+        AreHalvesTo (column * parts.now.x.now.height + parts.now.x.now.height) new.new }
 {
     let g = shrinking.divisor.word();
-    let less = left_of_words(cells, parts, column, g);
-    let Some(h) = Word::of(less) else {
+    let Some(less) = left_of_words(cells, parts, column, &shrinking.divisor) else {
         return false;
     };
-    let Some(k) = Word::of(quotient(g.wide(), less)) else {
+    let Some(k) = Word::of(quotient(g.wide(), less.word().wide())) else {
         return false;
     };
     let Some(grown) = product(shrinking.factor, k) else {
         return false;
     };
-    if !scale_words(new, parts.x, column, k) {
+    let Some(before) = scale_words(new, parts.x, column, k) else {
         return false;
-    }
-    *shrinking = Scale {
-        divisor: WordDivisor::new(h),
-        factor: grown,
-        halves: false,
     };
-    match other_column(cells, parts, new, column, &shrinking.divisor) {
-        Some(_) => true,
+    match other_column(cells, parts, new, column, &less) {
+        Some(here) => {
+            *shrinking = Scale {
+                divisor: less,
+                factor: grown,
+                halves: both(shrinking.halves, both(before, here)),
+            };
+            true
+        }
         None => false,
     }
 }

@@ -1,11 +1,10 @@
 //! The exchange of a row and a column in words where all of it fits, and in wide numbers else.
 ghost use Rattle.std.specs.Option.{IfSome};
-ghost use Rattle.std.specs.Prelude.{◌≡◌, ◌*◌, IfOk, IfErr, IsTrue, length};
+ghost use Rattle.std.specs.Prelude.{◌≡◌, ◌*◌, IfOk, IfErr, length};
 ghost use Rattle.columns.specs.Cells.{AllowsExchange, IsTableAfter, ExchangePasses};
-ghost use Rattle.poly_num.specs.Halves.{IsHalf};
 ghost use Rattle.columns.specs.Steps.{AreFactors, AreWordParts};
 
-use crate::cells::{Cells, are_halves};
+use crate::cells::{Cells, are_halves, stay_halves};
 use crate::common::{factors_of, own_of, wide_own_of};
 use crate::exchange::{Exchange, Passing, at_place};
 use crate::into::exchange_into;
@@ -37,13 +36,6 @@ pub fn exchange_cells(
     let d = old.exchange_wide(own, new, x, &factors)?;
     new.narrow();
     Ok(d)
-}
-
-// Whether the cells are known to be halves, and so is one more number.
-fn stay_halves(halves: bool, z: Word) -> bool
-    ensures { IsTrue result → IsTrue halves × IsHalf z }
-{
-    halves && z.is_half()
 }
 
 impl Cells {

@@ -8,8 +8,7 @@ pub returns : goal.returns
 returns c =
     let h = c.args.divisor.now in
     let turned : IsGcdOf c.args.c h c.gcd.result =
-    subst (λ (z : ℤ). IsGcdOf z h c.gcd.result) c.wide.ensures.value
-    (subst (λ (z : ℤ). IsGcdOf c.wide.result z c.gcd.result) (c.wide-2.ensures.value ∙ c.word.ensures.value)
-    c.gcd.ensures.divisor) in
+    subst (λ (z : ℤ). IsGcdOf c.args.c z c.gcd.result) (c.wide.ensures.value ∙ c.word.ensures.value)
+    c.gcd.ensures.divisor in
     IfSome_then c.positive_word.result c.positive_word.ensures
     (λ g e. subst (λ (z : ℤ). IsGcdOf h c.args.c z) (sym e) (gcd_turned c.args.c h c.gcd.result turned))
