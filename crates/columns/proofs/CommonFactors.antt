@@ -3,6 +3,7 @@ use Rattle.std.proofs.Common.{◌≡◌, ℕ, ◌+◌, ◌<◌, ◌≤◌, ℤ, 
 use Prim.Native.Nat.{◌∣◌}
 use Rattle.std.specs.Prelude.{◌<ℤ◌, unsigned_abs}
 use Rattle.std.proofs.lemmas.Nat.Gcd.{dvd_trans}
+use Rattle.std.proofs.Math.Nat.{one-dvd}
 use Rattle.poly_num.specs.Divisors.{IsGcdOf}
 use Rattle.columns.proofs.DivisorLemmas.{divides_gcd, positive_gcd}
 use Rattle.columns.specs.declared.exchange.Exchange.{Exchange}
@@ -28,6 +29,16 @@ module _ (x : Exchange) (cells : List ℤ) where
     in_column = λ i l. absurd (omega arith);
     in_row = λ j l. absurd (omega arith);
     greatest = λ d k all. divides_gcd x.denominator (pivot_of x cells) g is d k all.denominator all.pivot;
+  }
+
+  -- once it is 1, no other cell changes it
+  pub factor_one : (a b m n : ℕ) → m ≤ a → n ≤ b → IsCommonFactor x cells m n (pos 1) → IsCommonFactor x cells a b (pos 1)
+  factor_one a b m n ma nb u = record {
+    positive = u.positive;
+    denominator = u.denominator;
+    in_column = λ i l. one-dvd _;
+    in_row = λ j l. one-dvd _;
+    greatest = λ d k all. u.greatest d k (fewer x cells a b m n d k ma nb all);
   }
 
   module _ (m n : ℕ) (h c g : ℤ) (is : IsGcdOf h c g) (u : IsCommonFactor x cells m n h) where

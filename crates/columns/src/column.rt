@@ -26,6 +26,17 @@ fn own_number(parts: &Parts<Word>, i: usize) -> Word
     }
 }
 
+// `a factor`; `None` where that is no word. By 1 nothing is multiplied.
+#[inline(always)]
+fn grown(a: Word, factor: Word) -> Option<Word>
+    ensures { IfSome result (λ w. w ≡ a *ℤ factor) }
+{
+    if factor == Word::ONE {
+        return Some(a);
+    }
+    product(a, factor)
+}
+
 // The new cells of the exchange's column: whether all fit.
 fn own_column(parts: &Parts<Word>, new: &mut [Word], factor: Word) -> bool
     requires own { length parts.now.own.now ≡ parts.now.x.now.height }
@@ -43,7 +54,7 @@ fn own_column(parts: &Parts<Word>, new: &mut [Word], factor: Word) -> bool
     let base = parts.x.column * height;
     // new(i) = own(i) factor
     'cells: for i in 0..height {
-        match product(own_number(parts, i), factor) {
+        match grown(own_number(parts, i), factor) {
             Some(q) => new[base + i] = q,
             None => return false,
         }

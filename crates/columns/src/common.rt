@@ -32,6 +32,14 @@ pub(crate) fn common_with(common: Num, c: Num) -> Num
     gcd(c, common)
 }
 
+// Whether the divisor is 1.
+#[inline(always)]
+fn is_unit(divisor: &WordDivisor) -> bool
+    ensures { IsTrue result → divisor.now ≡ pos 1 }
+{
+    divisor.word() == Word::ONE
+}
+
 // The greatest common divisor of a divisor and a word; no division is made where the first divides.
 #[inline(always)]
 fn shared(divisor: WordDivisor, c: Word) -> Option<WordDivisor>
@@ -74,6 +82,9 @@ fn word_factor(cells: &[Word], x: &Exchange) -> Option<Num>
     let mut common = positive_word(gcd(x.denominator, v))?;
     // common = the greatest common divisor of common and c
     'rows: for i in 0..x.height {
+        if is_unit(&common) {
+            return Some(Num::ONE);
+        }
         common = shared(common, word_at(cells, x, i, x.column))?;
     }
     'columns: for j in 0..x.width {
@@ -180,6 +191,18 @@ fn turned_word(a: Word, positive: bool, sign: Num) -> Word
     if positive { a } else { a.negated() }
 }
 
+// The word over a divisor, where that divides it; `None` says nothing. By 1 nothing is divided.
+#[inline(always)]
+fn word_over(c: Word, divisor: &WordDivisor) -> Option<Word>
+    ensures { IfSome result (λ q. q *ℤ divisor.now ≡ c) }
+{
+    if is_unit(divisor) {
+        return Some(c);
+    }
+    let q = divisor.exact(c)?;
+    Some(q)
+}
+
 // The cells of the exchange's column with the sign, over the common factor. Whether all fit.
 fn column_over(cells: &[Word], own: &mut [Word], x: &Exchange, factors: &Factors) -> bool
     requires can { AllowsExchange x.now cells.now }
@@ -193,7 +216,7 @@ fn column_over(cells: &[Word], own: &mut [Word], x: &Exchange, factors: &Factors
     let positive = factors.sign.is_positive();
     // own(i) = sign cell(i, column) / common
     'cells: for i in 0..x.height {
-        match common.exact(word_at(cells, x, i, x.column)) {
+        match word_over(word_at(cells, x, i, x.column), &common) {
             Some(q) => own[i] = turned_word(q, positive, factors.sign),
             None => return false,
         }

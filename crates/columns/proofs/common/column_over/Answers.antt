@@ -8,9 +8,9 @@ cells-preserved c =
     let x = c.args.x.now in
     let h = c.args.factors.now.common in
     let t = c.args.factors.now.sign in
-    let q = c.in-Some-exact.q in
+    let q = c.in-Some-word_over.q in
     let over : q *ℤ h ≡ cell_at x.height c.args.cells.now c.cells.i x.column =
-    ap (λ (z : ℤ). q *ℤ z) (sym c.in-Some.ensures) ∙ c.in-Some-exact.ensures.quotient ∙ c.word_at.ensures in
+    ap (λ (z : ℤ). q *ℤ z) (sym c.in-Some.ensures) ∙ c.in-Some-word_over.ensures ∙ c.word_at.ensures in
     let here : c.turned_word.result *ℤ h ≡ t *ℤ cell_at x.height c.args.cells.now c.cells.i x.column =
     ap (λ (z : ℤ). z *ℤ h) c.turned_word.ensures ∙ mul_assoc t q h ∙ ap (λ (z : ℤ). t *ℤ z) over in
     let lt : c.cells.i < length c.cells.own = search rules in

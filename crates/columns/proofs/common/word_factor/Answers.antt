@@ -1,7 +1,7 @@
-use Rattle.std.proofs.Common.{rules, ◌≡◌, ℕ, ℤ, sym, subst, ◌∙◌}
+use Rattle.std.proofs.Common.{rules, arith, ◌≡◌, ℕ, ℤ, sym, subst, ◌∙◌}
 use Rattle.poly_num.specs.Divisors.{IsGcdOf}
 use Rattle.columns.specs.Steps.{IsCommonFactor}
-use Rattle.columns.proofs.CommonFactors.{factor_start, factor_column, factor_row}
+use Rattle.columns.proofs.CommonFactors.{factor_start, factor_column, factor_one, factor_row}
 use Rattle.columns.proofs.common.word_factor.Goals as goal
 
 pub rows-init : goal.rows-init
@@ -12,6 +12,13 @@ rows-init c =
     c.gcd.ensures.divisor in
     subst (λ (z : ℤ). IsCommonFactor x c.args.cells.now 0 0 z) (sym c.in_ok-common.ensures)
     (factor_start x c.args.cells.now g c.requires.denominator is)
+
+pub returns-then-is_unit : goal.returns-then-is_unit
+returns-then-is_unit c =
+    let x = c.args.x.now in
+    let cells = c.args.cells.now in
+    factor_one x cells x.height x.width c.rows.i 0 (omega arith) (omega arith)
+    (subst (λ (z : ℤ). IsCommonFactor x cells c.rows.i 0 z) (c.is_unit.ensures c.if-is_unit.true) c.rows.invariant)
 
 pub rows-preserved : goal.rows-preserved
 rows-preserved c =
