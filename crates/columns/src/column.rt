@@ -2,11 +2,11 @@
 ghost use Rattle.std.specs.Option.{IfSome};
 ghost use Rattle.std.specs.Prelude.{◌≡◌, ◌≢◌, ◌<◌, ◌*◌, ◌+◌, ◌*ℤ◌, ℤ, List, IsTrue, pos, length};
 ghost use Rattle.std.specs.List.{slice_index_or};
-ghost use Rattle.poly_num.specs.Halves.{IsHalf};
 ghost use Rattle.columns.specs.Cells.{cell_at};
 ghost use Rattle.columns.specs.HalfCells.{AreHalvesTo};
 ghost use Rattle.columns.specs.Steps.{AreWordParts, IsOtherColumn, IsScale, AreHalfFactors, IsColumnWritten, AreKept};
 
+use crate::cells::stay_halves;
 use crate::exchange::{at_place, word_at};
 use crate::kernels::{half_column, inside_column};
 use crate::parts::{Parts, Scale};
@@ -37,29 +37,32 @@ fn grown(a: Word, factor: Word) -> Option<Word>
     product(a, factor)
 }
 
-// The new cells of the exchange's column: whether all fit.
-fn own_column(parts: &Parts<Word>, new: &mut [Word], factor: Word) -> bool
+// The new cells of the exchange's column: whether all are halves; `None` where one does not fit.
+fn own_column(parts: &Parts<Word>, new: &mut [Word], factor: Word) -> Option<bool>
     requires own { length parts.now.own.now ≡ parts.now.x.now.height }
     requires room { length new.old ≡ parts.now.x.now.width * parts.now.x.now.height }
     requires within { parts.now.x.now.column < parts.now.x.now.width }
-    ensures written { IsTrue result → (cells : List ℤ) (g : ℤ) → factor *ℤ g ≡ parts.now.x.now.denominator →
-        IsColumnWritten cells parts.now parts.now.x.now.column parts.now.x.now.height g new.new }
+    ensures written { IfSome result (λ h. (cells : List ℤ) (g : ℤ) → factor *ℤ g ≡ parts.now.x.now.denominator →
+        IsColumnWritten cells parts.now parts.now.x.now.column parts.now.x.now.height g new.new) }
     ensures kept { AreKept (parts.now.x.now.column * parts.now.x.now.height) new.old new.new }
-    ensures halves { IsTrue result → factor ≡ pos 1 → IsHalf parts.now.u →
-        AreHalvesTo parts.now.x.now.height parts.now.own.now →
+    ensures halves { IfSome result (λ h. IsTrue h →
         AreHalvesTo (parts.now.x.now.column * parts.now.x.now.height) new.old →
-        AreHalvesTo (parts.now.x.now.column * parts.now.x.now.height + parts.now.x.now.height) new.new }
+        AreHalvesTo (parts.now.x.now.column * parts.now.x.now.height + parts.now.x.now.height) new.new) }
 {
     let height = parts.x.height;
     let base = parts.x.column * height;
+    let mut halves = true;
     // new(i) = own(i) factor
     'cells: for i in 0..height {
         match grown(own_number(parts, i), factor) {
-            Some(q) => new[base + i] = q,
-            None => return false,
+            Some(q) => {
+                halves = stay_halves(halves, q);
+                new[base + i] = q;
+            }
+            None => return None,
         }
     }
-    true
+    Some(halves)
 }
 
 // The cells of a column of which the exchange takes nothing, and which it multiplies by what it divides by.
@@ -158,13 +161,6 @@ pub(crate) fn other_column(
     }
 }
 
-// Whether the cells of the exchange's column are halves where they are not multiplied.
-fn own_halves(parts: &Parts<Word>, factor: Word) -> bool
-    ensures { IsTrue result → IsTrue parts.now.halves × (factor ≡ pos 1) × IsHalf parts.now.u }
-{
-    parts.halves && factor == Word::ONE && parts.u.is_half()
-}
-
 // The new cells of a column: whether they are known to be halves; `None` where the divisor does not divide it, or a
 // cell does not fit.
 pub(crate) fn write_column(
@@ -187,10 +183,5 @@ pub(crate) fn write_column(
     if column != parts.x.column {
         return other_column(cells, parts, new, column, &scale.divisor);
     }
-    let halves = own_halves(parts, scale.factor);
-    if own_column(parts, new, scale.factor) {
-        Some(halves)
-    } else {
-        None
-    }
+    own_column(parts, new, scale.factor)
 }

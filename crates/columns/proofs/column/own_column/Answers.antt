@@ -1,7 +1,5 @@
-use Rattle.std.proofs.Common.{refl, rules, arith, ◌<◌, ◌+◌, ◌*◌, length, ◌∙◌, ap, sym, ℤ, ◌*ℤ◌, ◌≡◌, ◌≢◌, pos, subst, ℕ, ⊎_elim}
-use Rattle.std.proofs.lemmas.Bool.{cases_eq}
-use Rattle.poly_num.specs.Halves.{IsHalf}
-use Rattle.poly_num.proofs.Ring.{mul_assoc, one_mul, mul_comm}
+use Rattle.std.proofs.Common.{refl, rules, arith, ◌<◌, ◌+◌, ◌*◌, length, ◌∙◌, ap, ℤ, ◌*ℤ◌, ◌≡◌, subst, ℕ}
+use Rattle.poly_num.proofs.Ring.{mul_assoc}
 use Rattle.columns.specs.HalfCells.{AreHalvesTo}
 use Rattle.columns.specs.Steps.{IsColumnWritten}
 use Rattle.columns.proofs.ColumnLemmas.{written_more, kept_more, own_is}
@@ -25,28 +23,20 @@ cells-preserved c =
           (own_is cells parts j refl c.cells.i own _ c.own_number.ensures.other c.own_number.ensures.here refl)
           (c.cells.invariant.written cells g e);
       kept = kept_more _ c.args.new.now c.cells.new _ q (omega arith) c.cells.invariant.kept;
-      halves = λ one half small first.
-          let same : q ≡ own =
-          c.in-Some.ensures ∙ ap (λ (z : ℤ). own *ℤ z) one ∙ mul_comm own (pos 1) ∙ one_mul own in
-          let is : IsHalf own =
-          ⊎_elim
-          (λ (r : c.cells.i ≡ x.row). subst IsHalf (sym (c.own_number.ensures.here r)) half)
-          (λ (n : c.cells.i ≢ x.row). subst IsHalf (sym (c.own_number.ensures.other n)) (small c.cells.i here))
-          (cases_eq c.cells.i x.row) in
-          halves_more (j * x.height) c.cells.i c.cells.new q lt (subst IsHalf (sym same) is)
-          (c.cells.invariant.halves one half small first);
+      halves = λ small first.
+          let both = c.stay_halves-halves.ensures small in
+          halves_more (j * x.height) c.cells.i c.cells.new q lt (both.1) (c.cells.invariant.halves (both.0) first);
     }
 
 pub returns-clause-written : goal.returns-clause-written
-returns-clause-written c _ cells g e =
+returns-clause-written c cells g e =
     let parts = c.args.parts.now in
     let l : c.cells.i ≡ parts.x.now.height = omega arith in
     subst (λ (n : ℕ). IsColumnWritten cells parts parts.x.now.column n g c.cells.new) l
     (c.cells.invariant.written cells g e)
 
 pub returns-clause-halves : goal.returns-clause-halves
-returns-clause-halves c _ one half small first =
+returns-clause-halves c small first =
     let x = c.args.parts.now.x.now in
     let l : c.cells.i ≡ x.height = omega arith in
-    subst (λ (n : ℕ). AreHalvesTo (x.column * x.height + n) c.cells.new) l
-    (c.cells.invariant.halves one half small first)
+    subst (λ (n : ℕ). AreHalvesTo (x.column * x.height + n) c.cells.new) l (c.cells.invariant.halves small first)

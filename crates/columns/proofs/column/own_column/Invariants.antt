@@ -1,5 +1,5 @@
-use Rattle.std.proofs.Common.{◌≡◌, ℤ, List, ◌+◌, ◌*ℤ◌, ◌*◌, pos}
-use Rattle.poly_num.specs.Halves.{IsHalf}
+use Rattle.std.proofs.Common.{◌≡◌, ℤ, List, ◌+◌, ◌*ℤ◌, ◌*◌}
+use Rattle.std.specs.Prelude.{IsTrue}
 use Rattle.columns.specs.HalfCells.{AreHalvesTo}
 use Rattle.columns.specs.Steps.{IsColumnWritten, AreKept}
 use Rattle.columns.proofs.column.own_column.Given as goal
@@ -9,7 +9,6 @@ invariant-cells l = record {
   written : (cells : List ℤ) (g : ℤ) → l.factor *ℤ g ≡ l.parts.x.now.denominator →
       IsColumnWritten cells l.parts l.parts.x.now.column l.i g l.new;
   kept : AreKept (l.parts.x.now.column * l.parts.x.now.height) l.fn.new l.new;
-  halves : l.factor ≡ pos 1 → IsHalf l.parts.u → AreHalvesTo l.parts.x.now.height l.parts.own.now →
-      AreHalvesTo (l.parts.x.now.column * l.parts.x.now.height) l.fn.new →
+  halves : IsTrue l.halves → AreHalvesTo (l.parts.x.now.column * l.parts.x.now.height) l.fn.new →
       AreHalvesTo (l.parts.x.now.column * l.parts.x.now.height + l.i) l.new;
 }
