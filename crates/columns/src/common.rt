@@ -40,24 +40,32 @@ fn is_unit(divisor: &WordDivisor) -> bool
     divisor.word() == Word::ONE
 }
 
-// The greatest common divisor of a divisor and a word; no division is made where the first divides.
+// Makes of a divisor its greatest common divisor with a word; no division is made where it divides. Whether that is
+// known to be a positive word.
 #[inline(always)]
-fn shared(divisor: WordDivisor, c: Word) -> Option<WordDivisor>
-    ensures { IfSome result (λ g. IsGcdOf divisor c g) }
+fn share(divisor: &mut WordDivisor, c: Word) -> bool
+    ensures { IsTrue result → IsGcdOf divisor.old c divisor.new }
 {
     match divisor.exact(c) {
-        Some(_) => Some(divisor),
-        None => less(&divisor, c.wide()),
+        Some(_) => true,
+        None => shrink(divisor, c.wide()),
     }
 }
 
-// The same where it does not divide.
+// The same with a number, where it does not divide.
 #[cold]
 #[inline(never)]
-pub(crate) fn less(divisor: &WordDivisor, c: Num) -> Option<WordDivisor>
-    ensures { IfSome result (λ g. IsGcdOf divisor.now c g) }
+pub(crate) fn shrink(divisor: &mut WordDivisor, n: Num) -> bool
+    ensures { IsTrue result → IsGcdOf divisor.old n divisor.new }
 {
-    positive_word(gcd(c, divisor.word().wide()))
+    let common = gcd(n, divisor.word().wide());
+    match positive_word(common) {
+        Some(less) => {
+            *divisor = less;
+            true
+        }
+        None => false,
+    }
 }
 
 // The divisor of this value; `None` where it is no positive word.
@@ -85,10 +93,14 @@ fn word_factor(cells: &[Word], x: &Exchange) -> Option<Num>
         if is_unit(&common) {
             return Some(Num::ONE);
         }
-        common = shared(common, word_at(cells, x, i, x.column))?;
+        if !share(&mut common, word_at(cells, x, i, x.column)) {
+            return None;
+        }
     }
     'columns: for j in 0..x.width {
-        common = shared(common, word_at(cells, x, x.row, j))?;
+        if !share(&mut common, word_at(cells, x, x.row, j)) {
+            return None;
+        }
     }
     Some(common.word().wide())
 }

@@ -6,7 +6,7 @@ ghost use Rattle.columns.specs.Steps.{AreWordParts, IsOtherColumn, IsScale, IsNu
 
 use crate::cells::{both, stay_halves};
 use crate::column::other_column;
-use crate::common::less;
+use crate::common::shrink;
 use crate::exchange::{Exchange, at_place, word_at};
 use crate::parts::{Parts, Scale};
 use poly_num::{Num, quotient};
@@ -30,33 +30,33 @@ fn word_numerator(cells: &[Word], parts: &Parts<Word>, column: usize, i: usize) 
     )
 }
 
-// What is left of a divisor where it is to divide row i of another column than the exchange's; no division is made
-// where it does.
+// Makes of a divisor what is left of it where it is to divide row i of another column than the exchange's; no division
+// is made where it does. Whether that is known to be a positive word.
 #[inline(always)]
-fn left_of_cell(
+fn leave_in_row(
     cells: &[Word],
     parts: &Parts<Word>,
     column: usize,
     i: usize,
-    divisor: WordDivisor,
-) -> Option<WordDivisor>
+    divisor: &mut WordDivisor,
+) -> bool
     requires parts { AreWordParts cells.now parts.now }
     requires within { column < parts.now.x.now.width }
     requires other { column ≢ parts.now.x.now.column }
     requires row { i < parts.now.x.now.height }
-    ensures { IfSome result (λ h. IsLeftOfRow cells.now parts.now column i divisor h) }
+    ensures { IsTrue result → IsLeftOfRow cells.now parts.now column i divisor.old divisor.new }
 {
     let g = divisor.word();
     let x = parts.x;
     let e = word_at(cells, x, i, column);
     let b = word_at(cells, x, x.row, column);
     match divisor.exact_cross(e, parts.p, at_place(parts.own, i), b) {
-        Some(_) => Some(divisor),
-        None => less(&divisor, word_numerator(cells, parts, column, i)),
+        Some(_) => true,
+        None => shrink(divisor, word_numerator(cells, parts, column, i)),
     }
 }
 
-// What is left of the divisor where it is to divide a column.
+// What is left of the divisor where it is to divide a column; `None` where that is not known to be a positive word.
 fn left_of_words(
     cells: &[Word],
     parts: &Parts<Word>,
@@ -73,7 +73,9 @@ fn left_of_words(
     let mut common = divisor.copied();
     // common = gcd(common, numerator(i))
     'cells: for i in 0..parts.x.height {
-        common = left_of_cell(cells, parts, column, i, common)?;
+        if !leave_in_row(cells, parts, column, i, &mut common) {
+            return None;
+        }
     }
     Some(common)
 }

@@ -23,13 +23,13 @@ returns-then-is_unit c =
 pub rows-preserved : goal.rows-preserved
 rows-preserved c =
     factor_column c.args.x.now c.args.cells.now c.rows.i 0 c.rows.common c.word_at-in-rows.result
-    c.in_ok-common-2.common c.in_ok-common-2.ensures c.rows.invariant c.word_at-in-rows.ensures
+    c.share.new.divisor (c.share.ensures c.if-not-share.false) c.rows.invariant c.word_at-in-rows.ensures
 
 pub columns-preserved : goal.columns-preserved
 columns-preserved c =
     let x = c.args.x.now in
     factor_row x c.args.cells.now x.height c.columns.j c.columns.common c.word_at-in-columns.result
-    c.in_ok-common-3.common c.in_ok-common-3.ensures c.columns.invariant c.word_at-in-columns.ensures
+    c.share-in-columns.new.divisor (c.share-in-columns.ensures c.if-not-share-2.false) c.columns.invariant c.word_at-in-columns.ensures
 
 pub returns : goal.returns
 returns c =

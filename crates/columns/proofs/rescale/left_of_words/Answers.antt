@@ -14,7 +14,7 @@ cells-init c =
 pub cells-preserved : goal.cells-preserved
 cells-preserved c =
     left_more c.args.cells.now c.args.parts.now c.args.column c.args.divisor.now c.cells.i c.cells.common
-    c.in_ok-common.common c.in_ok-common.ensures c.cells.invariant
+    c.leave_in_row.new.divisor (c.leave_in_row.ensures c.if-not-leave_in_row.false) c.cells.invariant
 
 pub returns : goal.returns
 returns c =
