@@ -75,7 +75,7 @@ fn limit_beside(size: u128) -> u128
     }
 }
 
-// `a p`; `None` where it passes 127 bits.
+// `a p`, where it has 127 bits; `None` says nothing.
 #[inline(always)]
 fn product_by(a: Num, p: &Multiplier) -> Option<Num>
     ensures { IfSome result (λ n. n ≡ a *ℤ p.now) }
@@ -87,7 +87,7 @@ fn product_by(a: Num, p: &Multiplier) -> Option<Num>
     Some(n)
 }
 
-// `a p - c b`; `None` where one of the products or the difference passes 127 bits.
+// `a p - c b`, where the two products and the difference have 127 bits; `None` says nothing.
 #[inline(always)]
 fn cross_by(a: Num, p: &Multiplier, c: Num, b: &Multiplier) -> Option<Num>
     ensures { IfSome result (λ n. n ≡ a *ℤ p.now -ℤ c *ℤ b.now) }
@@ -100,8 +100,8 @@ fn cross_by(a: Num, p: &Multiplier, c: Num, b: &Multiplier) -> Option<Num>
 }
 
 /// A positive divisor, with what it takes to divide by it exactly. Where it divides a number, the quotient is the
-/// number without the divisor's twos, times the inverse of the divisor's odd part modulo 2^128; and a product tests it
-/// (T. Jebelean, "An algorithm for exact division", 1993).
+/// number without the divisor's twos, times the inverse of the divisor's odd part modulo 2^128; and a product tests
+/// it. Words has the same for a divisor of one word.
 #[derive(Drop)]
 pub struct WideDivisor {
     divisor: Multiplier,
@@ -156,8 +156,8 @@ impl WideDivisor {
         }
     }
 
-    /// `a p - c b` over the divisor; `None` where that does not divide, or where one of the products or the
-    /// difference passes 127 bits.
+    /// `a p - c b` over the divisor, where that divides it and the two products and the difference have 127 bits;
+    /// `None` says nothing.
     #[inline(always)]
     pub(crate) fn exact_cross(&self, a: Num, p: &Multiplier, c: Num, b: &Multiplier) -> Option<Num>
         ensures { IfSome result (λ q. q *ℤ self.now ≡ a *ℤ p.now -ℤ c *ℤ b.now) }
@@ -167,7 +167,7 @@ impl WideDivisor {
         Some(q)
     }
 
-    // `n` over the divisor; `None` where that does not divide it. By 1 nothing is divided.
+    // `n` over the divisor, where that divides it; `None` says nothing. By 1 nothing is divided.
     #[inline(always)]
     fn exact(&self, n: Num) -> Option<Num>
         ensures quotient { IfSome result (λ q. q *ℤ self.now ≡ n) }

@@ -46,6 +46,7 @@ fn leave_in_row(
     requires row { i < parts.now.x.now.height }
     ensures { IsTrue result → IsLeftOfRow cells.now parts.now column i divisor.old divisor.new }
 {
+    // a divisor is positive
     let g = divisor.word();
     let x = parts.x;
     let e = word_at(cells, x, i, column);
@@ -69,6 +70,7 @@ fn left_of_words(
     ensures { IfSome result (λ h.
         IsLeftOfColumn cells.now parts.now column parts.now.x.now.height divisor.now h) }
 {
+    // a divisor is positive
     let g = divisor.word();
     let mut common = divisor.copied();
     // common = gcd(common, numerator(i))

@@ -57,6 +57,7 @@ fn left_of_row(
     ensures { MatchOption result (CellPasses parts.now.x.now old.now i column)
         (λ h. IsLeftOfRow old.now parts.now column i divisor h) }
 {
+    // a divisor is positive
     let g = divisor.number();
     if i == parts.x.row {
         return Some(divisor);
@@ -80,6 +81,7 @@ pub(crate) fn left_of_column(
         (λ s. CellPasses parts.now.x.now old.now s.row s.column) }
     ensures divides { IfOk result (λ h. DividesColumn old.now parts.now column parts.now.x.now.height h) }
 {
+    // a divisor is positive
     let g = divisor.number();
     let mut common = divisor.copied();
     // common = gcd(common, numerator(i))
