@@ -12,7 +12,7 @@ use Rattle.poly_model.specs.FreeColumns.{AreFreeColumns, AreLinesOf}
 use Rattle.poly_model.specs.Spaces.{IsSpaceOf, HasPoints, IsStartCobasis, prepare_space, main_space}
 use Rattle.dictionary_laws.specs.Points.{AreSettled}
 use Rattle.poly_model.specs.Equations.{equation_labels, AreConsistent}
-use Rattle.dictionary_laws.specs.MainSpace.{stays, CanEnterMain}
+use Rattle.dictionary_laws.specs.MainSpace.{stays, CanEnterMain, EntersMain}
 use Rattle.dictionary_laws.proofs.Equations.{constants_where_point, point_where_constants}
 use Rattle.dictionary_laws.proofs.MainRows.{equation_only}
 use Rattle.dictionary_laws.proofs.MainSpace.{equation_in}
@@ -27,7 +27,7 @@ use Rattle.linearity.specs.Prepared.{HasNoConstants, BeginsElimination, EndsElim
 use Rattle.linearity.proofs.Beginnings.{begins_new}
 use Rattle.linearity.proofs.KeyColumns.{column_only}
 use Rattle.linearity.proofs.LeftLines.{elimination_leaves_lines}
-use Rattle.linearity.proofs.MainStart.{few_in_file, row_within, row_is_equation, linear_equation, equations_settled, can_enter, is_start_of_main}
+use Rattle.linearity.proofs.MainStart.{few_in_file, row_within, row_is_equation, linear_equation, equations_settled, can_enter, enters, is_start_of_main}
 
 -- a dictionary of the file's rows
 pub in_prepare : (p : Polyhedron) (d : Dictionary) → IsDictionaryOf p d → d.phase ≡ Prepare →
@@ -96,6 +96,9 @@ is_prepared p sys d new lines free file ascending ended columns vectors main =
       few = ended.of.few;
       narrow = ended.of.narrow;
       consistent = ended.consistent;
+      points = subst (λ js. HasPoints (main_space p js)) (sym columns)
+          (EntersMain.points (enters p ended.of.few d is (columns_in d.key) leaves.free (column_only d.key)
+          ended.consistent (length (cone_of p).rows + 1) ended.tried));
       columns = subst (AreFreeColumns (cone_of p)) (sym columns) leaves.free;
       are_lines = subst (λ js. AreLinesOf (cone_of p) js lines) (sym columns)
           (subst (AreLinesOf (cone_of p) (columns_in d.key)) (sym same) leaves.lines);

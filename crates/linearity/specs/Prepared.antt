@@ -7,19 +7,20 @@ use Rattle.poly_model.specs.Labels.{coordinates_from}
 use Rattle.poly_model.specs.Limits.{most_columns}
 use Rattle.poly_model.specs.Systems.{row_of, System, Polyhedron, cone_of}
 use Rattle.poly_model.specs.FreeColumns.{AreFreeColumns, AreLinesOf}
-use Rattle.poly_model.specs.Spaces.{IsStartCobasis, main_space}
+use Rattle.poly_model.specs.Spaces.{HasPoints, IsStartCobasis, main_space}
 use Rattle.poly_model.specs.Dictionaries.{Table}
 use Rattle.poly_model.specs.Equations.{AreConsistent}
 use Rattle.dictionary.specs.Views.{Dictionary, IsDictionaryIn, table_of}
 use Rattle.linearity.specs.declared.eliminate.Pass.TheVariants.{Linear, Others}
 use Rattle.linearity.specs.Elimination.{IsDictionaryOf, IsEliminated}
 
--- the lines, by ascending free column, and the dictionary of the start cobasis in the main space. The rows and columns
+-- the lines, by ascending free column, and the dictionary of the start cobasis in the main space, which has a point. The rows and columns
 -- are few enough for labels
 pub record IsPrepared (p : Polyhedron) (lines : List Vector) (free : List ℕ) (d : Dictionary) : Type 0 where
   pub few : length (cone_of p).rows < coordinates_from
   pub narrow : p.n ≤ most_columns
   pub consistent : AreConsistent p
+  pub points : HasPoints (main_space p free)
   pub columns : AreFreeColumns (cone_of p) free
   pub are_lines : AreLinesOf (cone_of p) free lines
   pub phase : d.phase ≡ Main

@@ -58,7 +58,7 @@ module _ (space : Space) (start : List ℕ) (t : Table) (none : HasNoRowZero spa
   row_not_t : (i : ℕ) → Contains (rows_in space.labels) i → i ≢ 0
   row_not_t i c = not_t space start none i (row_only space i c).0
 
-  comes_in : IsRowOutside (first space start).labels (0 ∷ start) r
+  pub comes_in : IsRowOutside (first space start).labels (0 ∷ start) r
   comes_in = record {
     row = Contains-later r 0 (rows_in space.labels) w.row.row;
     outside = λ c. ⊎_elim (row_not_t r w.row.row) w.row.outside (contains_cases 0 start r c);
@@ -67,7 +67,7 @@ module _ (space : Space) (start : List ℕ) (t : Table) (none : HasNoRowZero spa
   keys : Exchanges (0 ∷ start) new r 0
   keys = exchanges (0 ∷ start) 0 r (IsRowDictionary.ascending (dictionary_with_t space start none t d)) comes_in.outside
 
-  t_goes : (with_t start t).entry r 0 ≢ pos 0
+  pub t_goes : (with_t start t).entry r 0 ≢ pos 0
   t_goes e =
       positive_nonzero t.denominator d.dictionary.writes.positive
       (one t.denominator (lift_of start r) (lift_outside space start r (row_only space r w.row.row).1 w.row.outside)

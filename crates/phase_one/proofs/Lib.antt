@@ -1,0 +1,9 @@
+pub mod SoFarLemmas
+pub mod WorstLemmas
+pub mod ColumnLemmas
+pub mod StopLemmas
+pub mod CounterLemmas
+pub mod StepLemmas
+pub mod BeginLemmas
+pub mod FinishLemmas
+pub mod FoundLemmas
