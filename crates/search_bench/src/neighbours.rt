@@ -1,0 +1,56 @@
+//! The cobases of rows that one pivot reaches from another.
+ghost use Rattle.std.specs.Prelude.{◌≡◌, ◌<◌};
+
+use crate::stop::Stop;
+use dictionary::{Dict, Steps};
+use poly_model::{Key, Label, Overflow};
+use std::marker::Brand;
+use std::sync::ledger::{Blank, Ledger};
+
+/// Puts those behind the others that do not stand among them.
+pub fn push_neighbours(dicts: &mut Vec<Dict>, dict: &Dict) -> Result<(), Stop> {
+    for row in dict.rows() {
+        if row.is_row() {
+            push_exchanges(dicts, dict, *row)?;
+        }
+    }
+    Ok(())
+}
+
+// Those in which this row takes the place of a label.
+fn push_exchanges(dicts: &mut Vec<Dict>, dict: &Dict, row: Label) -> Result<(), Stop> {
+    for col in dict.cobasis() {
+        let mut next = dict.copy()?;
+        if exchange(&mut next, row, *col)? && !has_key(dicts, &next.key()) {
+            let Ok(()) = dicts.push(next) else {
+                return Err(Stop::Memory);
+            };
+        }
+    }
+    Ok(())
+}
+
+fn has_key(dicts: &[Dict], key: &Key) -> bool {
+    dicts.iter().any(|dict| dict.key().is_same(key))
+}
+
+// Exchanges a row for a label of the cobasis, and says whether the two can be exchanged.
+fn exchange(dict: &mut Dict, row: Label, col: Label) -> Result<bool, Overflow> {
+    exchange_counted::<Brand>(dict, row, col, Blank::new(1))
+}
+
+// The same with a blank for the pivot's counter, of which nothing is said.
+fn exchange_counted<L: Ledger>(
+    dict: &mut Dict,
+    row: Label,
+    col: Label,
+    blank: Blank,
+) -> Result<bool, Overflow>
+    requires blank { (blank.name ≡ L.name) × (blank.parts ≡ L.parts) × (0 < blank.parts) }
+{
+    if !dict.can_pivot(row, col) {
+        return Ok(false);
+    }
+    dict.pivot(row, col, &mut Steps::<L>::new(blank))?;
+    Ok(true)
+}
