@@ -1,0 +1,5 @@
+pub mod Along
+pub mod WaitLemmas
+pub mod StepLemmas
+pub mod ChildLemmas
+pub mod NextLemmas

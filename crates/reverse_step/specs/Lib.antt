@@ -1,0 +1,4 @@
+pub mod Waiting
+pub mod Walks
+pub mod Children
+pub mod Moves

@@ -1,0 +1,63 @@
+-- Where a walk through the tree of cobases stands.
+use Rattle.std.specs.Prelude.{◌≡◌, ℕ, zero, List, Option, Some, None}
+use Rattle.poly_model.specs.Keys.{IsAscending}
+use Rattle.poly_model.specs.Spaces.{Space}
+use Rattle.poly_model.specs.Dictionaries.{Table}
+use Rattle.poly_model.specs.LexOrder.{rows_in}
+use Rattle.poly_model.specs.Tree.{IsRowDictionary, IsFeasibleRoot, IsLexFeasible, IsNeighbour}
+use Rattle.dictionary.specs.Views.{Dictionary, table_of, IsDictionaryIn}
+use Rattle.search_laws.specs.Shares.{IsChild}
+use Rattle.reverse_step.specs.Waiting.{Wait}
+
+-- a dictionary of which that where the walk stands is the child, in the column of a label
+pub record Parent : Type 0 where
+  pub dict : Dictionary
+  pub column : ℕ
+
+-- the dictionary where it stands, the root of the order, the job's root, the place in the key of the next column; and the
+-- parent, where it is kept
+pub record Walk : Type 0 where
+  pub dict : Dictionary
+  pub root : List ℕ
+  pub job : List ℕ
+  pub at : ℕ
+  pub parent : Option Parent
+
+-- the other dictionary is the parent's where there is a column
+abbrev pub kept_parent : Option ℕ → Dictionary → Option Parent
+kept_parent None d = None
+kept_parent (Some s) d = Some (record { dict = d; column = s })
+
+-- a child, which is the neighbour in the column of s
+pub record IsChildAt (space : Space) (root key : List ℕ) (s : ℕ) (one : List ℕ) : Type 0 where
+  pub child : IsChild space root key one
+  pub table : Table
+  pub dictionary : IsRowDictionary space key table
+  pub neighbour : IsNeighbour space.labels root key table s one
+
+-- the root is feasible, and the dictionary that of a lexicographically feasible cobasis
+pub record Stands (space : Space) (home : Table) (root : List ℕ) (d : Dictionary) : Type 0 where
+  pub ascending : IsAscending (rows_in space.labels)
+  pub feasible_root : IsFeasibleRoot space root home
+  pub dictionary : IsDictionaryIn space d
+  pub feasible : IsLexFeasible space root d.key (table_of d)
+
+-- what is kept as the parent is it
+abbrev pub IsParentKept : Space → Table → List ℕ → Dictionary → Option Parent → Type 0
+IsParentKept space home root d None = Unit {0}
+IsParentKept space home root d (Some p) =
+    Stands space home root p.dict × IsChildAt space root p.dict.key p.column d.key
+
+-- in this space it is a walk
+pub record IsWalkIn (space : Space) (home : Table) (walk : Walk) : Type 0 where
+  pub stands : Stands space home walk.root walk.dict
+  pub kept : IsParentKept space home walk.root walk.dict walk.parent
+
+-- at this depth under the job's root these keys wait
+abbrev pub Waits : Space → Walk → ℕ → List (List ℕ) → Type 0
+Waits space walk depth waiting = Wait (IsChildAt space walk.root) walk.job depth walk.dict.key walk.at waiting
+
+-- nothing under the job's root has been tried
+pub record IsAtStart (walk : Walk) : Type 0 where
+  pub key : walk.dict.key ≡ walk.job
+  pub at : walk.at ≡ zero

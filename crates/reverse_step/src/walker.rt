@@ -1,0 +1,225 @@
+//! The walk.
+ghost use Rattle.std.specs.Prelude.{◌≡◌, ◌≤◌, ◌↔◌, ◌+◌, IsTrue, IfOk, IfErr, length, None};
+ghost use Rattle.dictionary_laws.specs.Keys.{place_in};
+ghost use Rattle.reverse_step.specs.Walks.{Walk};
+ghost use Rattle.std.specs.List.{Contains};
+ghost use Rattle.std.specs.Option.{MatchOption};
+ghost use Rattle.lex_pivot.specs.Above.{NoneEnters};
+ghost use Rattle.reverse_step.specs.Children.{LeadsToChild, StopsAt};
+ghost use Rattle.reverse_step.specs.Moves.{IsMovedDown, IsMovedUp, GoesDown, GoesUp, IsVisit, past};
+
+use crate::children::{child_at, first_child};
+use crate::pivots::pivot_over;
+use dictionary::{Dict, Steps};
+use lex_pivot::{Order, parent_by};
+use poly_model::{Key, Label, OutOfMemory, Overflow, Root};
+use std::alloc::Global;
+use std::marker::Model;
+use std::mem::swap;
+use std::sync::ledger::Ledger;
+
+/// What a step of the walk did.
+#[derive(Clone, Copy, PartialEq, Eq, Debug)]
+pub enum Visit {
+    /// It stands at a cobasis that it had not visited.
+    New,
+    /// It went back to the parent.
+    Back,
+    /// All under the job's root are visited.
+    End,
+}
+
+/// A walk through the cobases under one of them, the job's root, depth first.
+pub struct Walker {
+    here: Dict,
+    // room for the next dictionary, or the parent's
+    other: Dict,
+    order: Order,
+    job: Key,
+    // the place in the key of the next column to try
+    at: usize,
+    // where the other dictionary is the parent's, the column in which this one is its child
+    back: Option<Label>,
+}
+
+impl Drop for Walker {
+    fn drop(self) {
+        let Self {
+            here: _,
+            other: _,
+            order: _,
+            job: _,
+            at: _,
+            back: _,
+        } = self;
+    }
+}
+
+impl Model for Walker {
+    ghost use Rattle.std.specs.Prelude.{◌≡◌, length};
+    ghost use Rattle.reverse_step.specs.Walks.{Walk, kept_parent};
+
+    ghost Value = { Walk };
+
+    ghost view = { λ w. record { dict = w.here; root = w.order; job = w.job; at = w.at; parent = kept_parent w.back w.other } };
+
+    ghost invariant = { λ w. (length w.other.labels ≡ length w.here.labels) × (length w.other.columns ≡ length w.here.columns) };
+}
+
+impl Walker {
+    /// A walk under this root that begins at the dictionary, whose cobasis is the job's root. Takes memory for a second
+    /// dictionary and for the order of rows.
+    pub fn new(alloc: Global, dict: Dict, root: &Root) -> Result<Walker, OutOfMemory>
+        ensures { IfOk result (λ walk.
+            walk ≡ record { dict = dict; root = root.now.key; job = dict.key; at = 0; parent = None }) }
+    {
+        let order = Order::marked(alloc, root)?;
+        let other = dict.copy()?;
+        let job = dict.key();
+        Ok(Walker {
+            here: dict,
+            other,
+            order,
+            job,
+            at: 0,
+            back: None,
+        })
+    }
+
+    /// The dictionary of the cobasis where it stands.
+    pub fn dict(&self) -> &Dict
+        ensures { result.now ≡ self.now.dict }
+    {
+        &self.here
+    }
+
+    /// The order of rows relative to the root.
+    pub fn order(&self) -> &Order
+        ensures { result.now ≡ self.now.root }
+    {
+        &self.order
+    }
+
+    /// Passes over the columns that are still to be tried: the next step leads to the parent.
+    pub fn pass(&mut self)
+        ensures { self.new ≡ past self.old }
+    {
+        self.at = self.here.cobasis().len();
+    }
+
+    /// To the child in the column of `col`, if there is one: then no column of it is tried. False where the neighbour there
+    /// is none, and nothing has changed. Where the pivot overflows, nothing has changed. Takes no memory.
+    pub fn down<L: Ledger>(&mut self, col: Label, steps: &mut Steps<L>) -> Result<bool, Overflow>
+        requires { Contains self.old.dict.key col }
+        ensures down { IfOk result (λ b. GoesDown self.old col b self.new) }
+        ensures unchanged { IfErr result (λ _. self.new ≡ self.old) }
+        ensures stops { IfErr result (λ o. StopsAt self.old.dict self.old.root o) }
+        ensures counted { steps.new ≤ steps.old + 1 }
+    {
+        match child_at(&self.here, &self.order, col) {
+            Some(row) => {
+                self.descend(row, col, steps)?;
+                Ok(true)
+            }
+            None => Ok(false),
+        }
+    }
+
+    /// To the parent, and the label that comes back into the cobasis: the columns behind it are still to be tried. None at
+    /// the job's root, and at a cobasis without a parent; then nothing has changed. Where the pivot overflows, nothing has
+    /// changed. Takes no memory.
+    pub fn up<L: Ledger>(&mut self, steps: &mut Steps<L>) -> Result<Option<Label>, Overflow>
+        ensures up { IfOk result (λ o. GoesUp self.old o self.new) }
+        ensures unchanged { IfErr result (λ _. self.new ≡ self.old) }
+        ensures stops { IfErr result (λ o. StopsAt self.old.dict self.old.root o) }
+        ensures counted { steps.new ≤ steps.old + 1 }
+    {
+        if self.is_at_job() {
+            return Ok(None);
+        }
+        self.ascend(steps)
+    }
+
+    /// One step: to the first child in the columns from the next one on, or else back to the parent. `End` comes where all
+    /// under the job's root is visited; it stands there. Where a pivot overflows, nothing has changed. Takes no memory.
+    pub fn next<L: Ledger>(&mut self, steps: &mut Steps<L>) -> Result<Visit, Overflow>
+        ensures visit { IfOk result (λ v. IsVisit self.old v self.new) }
+        ensures unchanged { IfErr result (λ _. self.new ≡ self.old) }
+        ensures stops { IfErr result (λ o. StopsAt self.old.dict self.old.root o) }
+        ensures counted { steps.new ≤ steps.old + 1 }
+    {
+        if let Some(child) = first_child(&self.here, &self.order, self.at) {
+            self.descend(child.row, child.col, steps)?;
+            return Ok(Visit::New);
+        }
+        match self.up(steps)? {
+            Some(_) => Ok(Visit::Back),
+            None => Ok(Visit::End),
+        }
+    }
+
+    // Whether it stands at the job's root.
+    fn is_at_job(&self) -> bool
+        ensures { IsTrue result ↔ (self.now.dict.key ≡ self.now.job) }
+    {
+        self.here.key().is_same(&self.job)
+    }
+
+    // To a child.
+    fn descend<L: Ledger>(
+        &mut self,
+        row: Label,
+        col: Label,
+        steps: &mut Steps<L>,
+    ) -> Result<(), Overflow>
+        requires { LeadsToChild self.old.root self.old.dict col row }
+        ensures down { IfOk result (λ _. IsMovedDown self.old row col self.new) }
+        ensures unchanged { IfErr result (λ _. self.new ≡ self.old) }
+        ensures stops { IfErr result (λ o. StopsAt self.old.dict self.old.root o) }
+        ensures counted { steps.new ≤ steps.old + 1 }
+    {
+        pivot_over(&mut self.here, &mut self.other, row, col, steps)?;
+        self.at = 0;
+        self.back = Some(col);
+        Ok(())
+    }
+
+    // To the parent, and the label that comes back into the cobasis.
+    fn ascend<L: Ledger>(&mut self, steps: &mut Steps<L>) -> Result<Option<Label>, Overflow>
+        ensures up { IfOk result (λ o. MatchOption o ((self.new ≡ self.old) × NoneEnters self.old.dict self.old.root)
+            (λ s. IsMovedUp self.old s self.new)) }
+        ensures unchanged { IfErr result (λ _. self.new ≡ self.old) }
+        ensures stops { IfErr result (λ o. StopsAt self.old.dict self.old.root o) }
+        ensures counted { steps.new ≤ steps.old + 1 }
+    {
+        match self.back {
+            Some(col) => {
+                swap(&mut self.here, &mut self.other);
+                self.back = None;
+                self.at = place_of(self.here.cobasis(), col) + 1;
+                Ok(Some(col))
+            }
+            None => match parent_by(&self.here, &self.order) {
+                Some(pivot) => {
+                    self.here.pivot(pivot.row, pivot.col, steps)?;
+                    self.at = place_of(self.here.cobasis(), pivot.row) + 1;
+                    Ok(Some(pivot.row))
+                }
+                None => Ok(None),
+            },
+        }
+    }
+}
+
+// How many labels stand before the first that is `label`.
+fn place_of(labels: &[Label], label: Label) -> usize
+    ensures value { result ≡ place_in labels.now label }
+    ensures within { result ≤ length labels.now }
+{
+    'labels: for (i, l) in labels.iter().enumerate() {
+        if l.is_same(label) {
+            return i;
+        }
+    }
+    labels.len()
+}
