@@ -5,3 +5,4 @@ pub mod PairLemmas
 pub mod RatioLemmas
 pub mod EnterLemmas
 pub mod ChildLemmas
+pub mod PivotLemmas

@@ -22,7 +22,7 @@ use Rattle.dictionary.specs.FirstPhase.{HasRoomForT, AddsT}
 use Rattle.dictionary.specs.Views.{Dictionary, table_of, CanPivot, IsDictionaryIn, IsPivot, IsOverflow}
 use Rattle.phase_one.specs.Worst.{IsWorstRow}
 use Rattle.phase_one.specs.Beginning.{IsStart, IsAtFirstRoot, StopsBeginning}
-use Rattle.phase_one.proofs.StepLemmas.{same_exchange}
+use Rattle.lex_pivot.proofs.PivotLemmas.{same_exchange}
 
 -- a root that a law gives is feasible by any dictionary of its key
 pub root_by_dictionary : (space : Space) (key : List ℕ) (d : Dictionary) → GivesRoot space key → d.key ≡ key →

@@ -25,7 +25,7 @@ use Rattle.phase_one.specs.SoFar.{NoneOf}
 use Rattle.phase_one.specs.Columns.{HasSought, IsLeastAmong}
 use Rattle.phase_one.specs.Lowering.{IsAtLowest, StopsLowering}
 use Rattle.phase_one.specs.Ending.{IsOnTheWay, IsEnded, StopsEnding, HasTOutside, IsBroughtBack, StopsComingBack}
-use Rattle.phase_one.proofs.StepLemmas.{same_exchange, can_leave}
+use Rattle.lex_pivot.proofs.PivotLemmas.{same_exchange, can_leave}
 use Rattle.phase_one.proofs.BeginLemmas.{root_by_dictionary}
 
 -- ---- the last exchange

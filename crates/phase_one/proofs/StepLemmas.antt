@@ -1,45 +1,33 @@
 -- One step that lowers t: some row leaves, what follows is reached, and one step less is left.
-use Rattle.std.proofs.Common.{◌≡◌, ◌≢◌, ◌⊎◌, ⊎_elim, ℕ, zero, suc, ◌<◌, ℤ, pos, List, refl, sym, subst, ◌∙◌, arith}
+use Rattle.std.proofs.Common.{◌≡◌, ◌⊎◌, ⊎_elim, ℕ, zero, suc, ◌<◌, ℤ, pos, List, refl, sym, subst, ◌∙◌, arith}
 use Rattle.std.specs.Prelude.{◌<ℤ◌}
 use Rattle.std.specs.List.{All, Contains}
 use Rattle.std.proofs.lemmas.Bool.{cases_eq}
 use Rattle.std.proofs.lemmas.Int.{by_lt_z}
 use Rattle.poly_num.proofs.Ring.{lin}
-use Rattle.poly_model.specs.Keys.{IsAscending}
 use Rattle.poly_model.specs.Spaces.{Space}
 use Rattle.poly_model.specs.Dictionaries.{Table, IsDictionary}
 use Rattle.poly_model.specs.LexOrder.{rows_in, IsEarlier}
 use Rattle.poly_model.specs.Tree.{IsRowDictionary, Leaves, IsNeighbour, exchanged_key}
 use Rattle.poly_model.specs.Lowering.{IsLoweringStep, IsLowest, IsDescent}
-use Rattle.linear_laws.proofs.Members.{ascending_is_one}
-use Rattle.linear_laws.proofs.Signs.{negative_nonzero}
-use Rattle.dictionary_laws.specs.Keys.{AreDistinct, Exchanges}
+use Rattle.dictionary_laws.specs.Keys.{AreDistinct}
 use Rattle.dictionary_laws.proofs.Members.{contains_or}
 use Rattle.tree_laws.proofs.ExchangedKeys.{exchanges, ascending_exchanged}
 use Rattle.tree_laws.proofs.Neighbours.{neighbour_dictionary, neighbour_feasible}
 use Rattle.search_laws.specs.Lowering.{HasEnd}
 use Rattle.search_laws.proofs.Lowered.{lowest_too}
 use Rattle.search_laws.proofs.LoweredEnds.{steps_end, one_end}
-use Rattle.dictionary.specs.Views.{Dictionary, table_of, CanPivot, IsDictionaryIn}
+use Rattle.dictionary.specs.Views.{Dictionary, table_of, IsDictionaryIn}
 use Rattle.dictionary.specs.Cobases.{HasUnits}
 use Rattle.lex_pivot.specs.Ratios.{NoneLeaves}
-use Rattle.lex_pivot.proofs.EarlierLemmas.{row_has, row_only, rows_distinct}
+use Rattle.lex_pivot.proofs.PivotLemmas.{same_exchange}
+use Rattle.lex_pivot.proofs.EarlierLemmas.{row_has, rows_distinct}
 use Rattle.phase_one.specs.declared.least.Sought.TheVariants.{Negative}
 use Rattle.phase_one.specs.SoFar.{NoneOf}
 use Rattle.phase_one.specs.Columns.{HasSought, IsLeastAmong}
 use Rattle.phase_one.specs.Lowering.{MayLower, IsOnDescent, IsStep}
 
 -- ---- one dictionary
--- the row of the ratio test can take the place of its column
-pub can_leave : (d : Dictionary) (root : List ℕ) (s r : ℕ) → Contains d.key s →
-    Leaves d.labels root d.key (table_of d) s r → CanPivot d r s
-can_leave d root s r c l = record {
-  label = (row_only d.labels r l.row.row).0;
-  outside = l.row.outside;
-  inside = c;
-  nonzero = negative_nonzero (Table.entry (table_of d) r s) l.negative;
-}
-
 -- where t is negative in a column, some row leaves there
 pub t_leaves : (d : Dictionary) → HasUnits d → pos 0 <ℤ d.denominator → (s : ℕ) → Contains d.labels 0 → Contains d.key s →
     Table.entry (table_of d) 0 s <ℤ pos 0 → NoneLeaves d s → ⊥
@@ -64,16 +52,6 @@ t_leaves d units positive s t c l none =
 pub none_left : (d : Dictionary) → NoneOf (HasSought d Negative) d.key → IsLowest d.key (table_of d) 0
 none_left d none s c =
     by_lt_z (Table.entry (table_of d) 0 s) (pos 0) (λ up. absurd (none s c up)) (λ down. down)
-
--- an exchange of one label of a key for another has one ascending key
-pub same_exchange : (key new other : List ℕ) (r s : ℕ) → Exchanges key new r s → Exchanges key other r s →
-    IsAscending new → IsAscending other → new ≡ other
-same_exchange key new other r s x y a b = ascending_is_one new other a b (there new other x y) (there other new y x)
-  where
-    there : (from to : List ℕ) → Exchanges key from r s → Exchanges key to r s → (k : ℕ) → Contains from k → Contains to k
-    there from to u v k m =
-        ⊎_elim (λ (e : k ≡ r). subst (Contains to) (sym e) v.entering)
-        (λ (h : Contains key k × (k ≢ s)). v.kept k h.0 h.1) (u.only k m)
 
 -- a descent with one step more at its end
 pub descent_more : (space : Space) (root : List ℕ) (q n : ℕ) (key mid new : List ℕ) (t : Table) →

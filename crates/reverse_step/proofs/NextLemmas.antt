@@ -22,7 +22,7 @@ use Rattle.reverse_step.specs.declared.walker.Visit.TheVariants.{New, Back, End}
 use Rattle.reverse_step.specs.Waiting.{AreAlong, Wait}
 use Rattle.reverse_step.specs.Walks.{Parent, Walk, IsChildAt, Stands, IsParentKept, IsWalkIn, Waits}
 use Rattle.reverse_step.specs.Children.{LeadsToChild, NoneBetween, IsFirstChild}
-use Rattle.reverse_step.specs.Moves.{moved_to, Moves, IsMovedDown, IsDown, GoesUp, IsVisit}
+use Rattle.reverse_step.specs.Moves.{moved_to, Moves, IsMovedDown, IsAtChild, GoesUp, IsVisit}
 use Rattle.reverse_step.proofs.Along.{one_child, one_column, some_along, lists_children}
 use Rattle.reverse_step.proofs.StepLemmas.{new_stands, child_here, parent_here}
 use Rattle.reverse_step.proofs.WaitLemmas.{wait_skip, wait_child, wait_end, wait_parent, WaitsAtChild, WaitsAtParent}
@@ -258,7 +258,7 @@ up_pivot old d s r h p space home x = (
 
 -- ---- by what a walk has moved
 -- down
-pub down_of : (old new : Walk) (s r : ℕ) → LeadsToChild old.root old.dict s r → IsMovedDown old r s new → IsDown old s new
+pub down_of : (old new : Walk) (s r : ℕ) → LeadsToChild old.root old.dict s r → IsMovedDown old r s new → IsAtChild old s new
 down_of old new s r h m = record {
   same = m.same;
   child = λ space home w.

@@ -36,7 +36,7 @@ pub record IsFirstChild (root : List ℕ) (d : Dictionary) (a : ℕ) (p : ChildP
   pub leads : LeadsToChild root d p.col p.row
 
 -- a number passes in the pivot of a column of the cobasis and the row that leaves there
-pub record StopsAt (d : Dictionary) (root : List ℕ) (o : Overflow) : Type 0 where
+pub record StopsWalk (d : Dictionary) (root : List ℕ) (o : Overflow) : Type 0 where
   pub s : ℕ
   pub r : ℕ
   pub column : Contains d.key s

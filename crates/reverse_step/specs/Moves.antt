@@ -26,14 +26,14 @@ pub record IsMovedDown (old : Walk) (r s : ℕ) (new : Walk) : Type 0 where
   pub same : new ≡ moved_to old new.dict 0 (Some (record { dict = old.dict; column = s }))
 
 -- at the child in the column of s, in each space in which this is a walk; no column is tried there
-pub record IsDown (old : Walk) (s : ℕ) (new : Walk) : Type 0 where
+pub record IsAtChild (old : Walk) (s : ℕ) (new : Walk) : Type 0 where
   pub same : new ≡ moved_to old new.dict 0 (Some (record { dict = old.dict; column = s }))
   pub child : (space : Space) (home : Table) → IsWalkIn space home old →
       IsWalkIn space home new × IsChildAt space old.root old.dict.key s new.dict.key
 
 -- true: at the child; false: there is none, and nothing has changed
 abbrev pub GoesDown : Walk → ℕ → Bool → Walk → Type 0
-GoesDown old s true new = IsDown old s new
+GoesDown old s true new = IsAtChild old s new
 GoesDown old s false new = (new ≡ old) × HasNoChildAt old.root old.dict s
 
 -- at the parent, whose child it was in the column of s, in each space in which this is a walk; the next column is that

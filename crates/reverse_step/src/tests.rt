@@ -69,15 +69,15 @@ fn take_step<L: Ledger>(walker: &mut Walker, steps: &mut Steps<L>) -> Result<Vis
 
 /// The dictionary at the cobasis of these rows, each in the place of the coordinate beside it.
 fn dict_at(alloc: Global, n: u32, entries: &[i128], start: &[(u32, u32)]) -> Result<Dict, Fail> {
-    let mut cells = Vec::new(alloc);
-    for x in entries {
-        cells.push(Num::new(*x).ok_or("a number of 127 bits")?)?;
-    }
     if n == 0 || n > MOST_COLUMNS {
         return Err("some columns, and not many")?;
     }
     let rows = entries.len() / n as usize;
-    if rows > MOST_CONE_ROWS as usize || cells.len() != rows * n as usize {
+    let mut cells = Vec::new(alloc);
+    for x in entries {
+        cells.push(Num::new(*x).unwrap_or(Num::ZERO))?;
+    }
+    if cells.len() != rows * n as usize || rows > MOST_CONE_ROWS as usize {
         return Err("whole rows, and not many")?;
     }
     let linear = Vec::from_elem(alloc, false, rows)?;

@@ -5,7 +5,7 @@ ghost use Rattle.reverse_step.specs.Walks.{Walk};
 ghost use Rattle.std.specs.List.{Contains};
 ghost use Rattle.std.specs.Option.{MatchOption};
 ghost use Rattle.lex_pivot.specs.Above.{NoneEnters};
-ghost use Rattle.reverse_step.specs.Children.{LeadsToChild, StopsAt};
+ghost use Rattle.reverse_step.specs.Children.{LeadsToChild, StopsWalk};
 ghost use Rattle.reverse_step.specs.Moves.{IsMovedDown, IsMovedUp, GoesDown, GoesUp, IsVisit, past};
 
 use crate::children::{child_at, first_child};
@@ -113,7 +113,7 @@ impl Walker {
         requires { Contains self.old.dict.key col }
         ensures down { IfOk result (λ b. GoesDown self.old col b self.new) }
         ensures unchanged { IfErr result (λ _. self.new ≡ self.old) }
-        ensures stops { IfErr result (λ o. StopsAt self.old.dict self.old.root o) }
+        ensures stops { IfErr result (λ o. StopsWalk self.old.dict self.old.root o) }
         ensures counted { steps.new ≤ steps.old + 1 }
     {
         match child_at(&self.here, &self.order, col) {
@@ -131,7 +131,7 @@ impl Walker {
     pub fn up<L: Ledger>(&mut self, steps: &mut Steps<L>) -> Result<Option<Label>, Overflow>
         ensures up { IfOk result (λ o. GoesUp self.old o self.new) }
         ensures unchanged { IfErr result (λ _. self.new ≡ self.old) }
-        ensures stops { IfErr result (λ o. StopsAt self.old.dict self.old.root o) }
+        ensures stops { IfErr result (λ o. StopsWalk self.old.dict self.old.root o) }
         ensures counted { steps.new ≤ steps.old + 1 }
     {
         if self.is_at_job() {
@@ -145,7 +145,7 @@ impl Walker {
     pub fn next<L: Ledger>(&mut self, steps: &mut Steps<L>) -> Result<Visit, Overflow>
         ensures visit { IfOk result (λ v. IsVisit self.old v self.new) }
         ensures unchanged { IfErr result (λ _. self.new ≡ self.old) }
-        ensures stops { IfErr result (λ o. StopsAt self.old.dict self.old.root o) }
+        ensures stops { IfErr result (λ o. StopsWalk self.old.dict self.old.root o) }
         ensures counted { steps.new ≤ steps.old + 1 }
     {
         if let Some(child) = first_child(&self.here, &self.order, self.at) {
@@ -175,7 +175,7 @@ impl Walker {
         requires { LeadsToChild self.old.root self.old.dict col row }
         ensures down { IfOk result (λ _. IsMovedDown self.old row col self.new) }
         ensures unchanged { IfErr result (λ _. self.new ≡ self.old) }
-        ensures stops { IfErr result (λ o. StopsAt self.old.dict self.old.root o) }
+        ensures stops { IfErr result (λ o. StopsWalk self.old.dict self.old.root o) }
         ensures counted { steps.new ≤ steps.old + 1 }
     {
         pivot_over(&mut self.here, &mut self.other, row, col, steps)?;
@@ -189,7 +189,7 @@ impl Walker {
         ensures up { IfOk result (λ o. MatchOption o ((self.new ≡ self.old) × NoneEnters self.old.dict self.old.root)
             (λ s. IsMovedUp self.old s self.new)) }
         ensures unchanged { IfErr result (λ _. self.new ≡ self.old) }
-        ensures stops { IfErr result (λ o. StopsAt self.old.dict self.old.root o) }
+        ensures stops { IfErr result (λ o. StopsWalk self.old.dict self.old.root o) }
         ensures counted { steps.new ≤ steps.old + 1 }
     {
         match self.back {

@@ -1,4 +1,4 @@
-use Rattle.std.proofs.Common.{◌≡◌, ◌∙◌, sym, subst, refl, arith, ap, ℕ, pos, List}
+use Rattle.std.proofs.Common.{◌≡◌, ◌∙◌, sym, subst, refl, arith, ap, ℕ, pos}
 use Rattle.std.specs.List.{Contains}
 use Rattle.poly_num.specs.Signs.{sign_of}
 use Rattle.poly_model.specs.Dictionaries.{Table}

@@ -1,4 +1,4 @@
-use Rattle.std.proofs.Common.{sym, subst, refl, arith, ◌-◌, ℕ, List}
+use Rattle.std.proofs.Common.{subst, refl, arith, ◌-◌, ℕ}
 use Rattle.std.specs.List.{Contains}
 use Rattle.poly_model.specs.Keys.{IsAscending}
 use Rattle.poly_model.specs.LexOrder.{outside}

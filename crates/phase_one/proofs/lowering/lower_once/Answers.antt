@@ -1,7 +1,8 @@
 use Rattle.std.proofs.Common.{ℤ, pos, subst}
 use Rattle.std.specs.Prelude.{◌<ℤ◌}
 use Rattle.std.proofs.lemmas.Result.{IfOk-weaker, IfErr-weaker}
-use Rattle.phase_one.proofs.StepLemmas.{can_leave, t_leaves}
+use Rattle.lex_pivot.proofs.PivotLemmas.{can_leave}
+use Rattle.phase_one.proofs.StepLemmas.{t_leaves}
 use Rattle.phase_one.proofs.lowering.lower_once.Goals.{In-None}
 use Rattle.phase_one.proofs.lowering.lower_once.Goals as goal
 

@@ -3,9 +3,9 @@ use Rattle.std.specs.Prelude.{IfErr}
 use Rattle.std.proofs.lemmas.Result.{err_from_is_err_and}
 use Rattle.dictionary_laws.specs.Keys.{place_in}
 use Rattle.reverse_step.specs.Walks.{Walk, kept_parent}
-use Rattle.reverse_step.specs.Children.{StopsAt}
+use Rattle.reverse_step.specs.Children.{StopsWalk}
 use Rattle.reverse_step.specs.Moves.{moved_to, IsMovedUp}
-use Rattle.reverse_step.proofs.StepLemmas.{can_leave}
+use Rattle.lex_pivot.proofs.PivotLemmas.{can_leave}
 use Rattle.reverse_step.proofs.NextLemmas.{up_pivot}
 use Rattle.reverse_step.proofs.walker.Walker.ascend.Goals as goal
 
@@ -19,8 +19,8 @@ pub returns-in_err-pivot-in-Some-parent_by-clause-stops : goal.returns-in_err-pi
 returns-in_err-pivot-in-Some-parent_by-clause-stops g c =
     let q = err_from_is_err_and c.from_residual.result c.from_residual.ensures.1 in
     let h = c.in-Some-parent_by.ensures.pivot in
-    subst (λ r. IfErr r (λ o. StopsAt c.args.self.now.dict c.args.self.now.root o)) (sym (q.1 ∙ ap (λ v. Err v) q.2))
-    (subst (λ (w : Walk). StopsAt w.dict w.root c.in_err-pivot-in-Some-parent_by.field-0.0) c.self.view_is
+    subst (λ r. IfErr r (λ o. StopsWalk c.args.self.now.dict c.args.self.now.root o)) (sym (q.1 ∙ ap (λ v. Err v) q.2))
+    (subst (λ (w : Walk). StopsWalk w.dict w.root c.in_err-pivot-in-Some-parent_by.field-0.0) c.self.view_is
     (record {
       s = c.in-Some-parent_by.pivot.col;
       r = c.in-Some-parent_by.pivot.row;

@@ -1,7 +1,7 @@
 use Rattle.std.proofs.Common.{sym, subst}
 use Rattle.reverse_step.specs.Walks.{Walk}
 use Rattle.reverse_step.specs.Children.{LeadsToChild}
-use Rattle.reverse_step.proofs.StepLemmas.{can_leave}
+use Rattle.lex_pivot.proofs.PivotLemmas.{can_leave}
 use Rattle.reverse_step.proofs.walker.Walker.descend.Goals as goal
 
 pub pivot_over-requires-clause-can : goal.pivot_over-requires-clause-can
