@@ -290,13 +290,13 @@ visit_of (Some s) = Back
 -- up
 pub visit_up : (old new : Walk) (o : Option ℕ) → NoneBetween old.root old.dict old.at (length old.dict.key) →
     GoesUp old o new → IsVisit old (visit_of o) new
-visit_up old new None none (e, at) =
+visit_up old next None none (e, at) =
     subst (IsVisit old End) (sym e)
     (by_end at)
   where
     by_end : (old.dict.key ≡ old.job) ⊎ NoneEnters old.dict old.root → IsVisit old End old
     by_end (inl k) = step_end old none k
     by_end (inr n) = end_or_none old none n
-visit_up old new (Some s) none (below, m) =
+visit_up old next (Some s) none (below, m) =
     subst (IsVisit old Back) (sym m.same)
-    (step_back old none below new.dict s m.parent (place_in new.dict.key s + 1) refl)
+    (step_back old none below next.dict s m.parent (place_in next.dict.key s + 1) refl)

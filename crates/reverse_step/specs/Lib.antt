@@ -2,3 +2,4 @@ pub mod Waiting
 pub mod Walks
 pub mod Children
 pub mod Moves
+pub mod Runs
