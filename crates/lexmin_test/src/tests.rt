@@ -100,7 +100,7 @@ const HALF_STRIP: Case = Case {
     },
 };
 
-const CASES: [Case; 11] = [
+const CASES: [Case; 12] = [
     SQUARE,
     Case {
         name: "the square beside its root",
@@ -170,6 +170,18 @@ const CASES: [Case; 11] = [
             feasible: false,
             point: false,
             parent: Some((1, 3)),
+            first: Down::Other(1),
+            second: Down::Other(1),
+        },
+        ..PYRAMID
+    },
+    Case {
+        name: "the point opposite, with a list that is negative",
+        key: &[2, 3, 5],
+        want: Answer {
+            feasible: false,
+            point: false,
+            parent: Some((4, 5)),
             first: Down::Other(1),
             second: Down::Other(1),
         },
