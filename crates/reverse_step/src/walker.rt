@@ -42,6 +42,7 @@ pub struct Walker {
     back: Option<Label>,
 }
 
+// Written out, so that to let one go is one step in the proofs of those who hold it.
 impl Drop for Walker {
     fn drop(self) {
         let Self {
@@ -162,7 +163,7 @@ impl Walker {
     fn is_at_job(&self) -> bool
         ensures { IsTrue result ↔ (self.now.dict.key ≡ self.now.job) }
     {
-        self.here.key().is_same(&self.job)
+        self.here.cobasis() == self.job.labels()
     }
 
     // To a child.
