@@ -14,7 +14,7 @@ use Rattle.hull_lift.proofs.ColumnNumbers.{Has, along, at_point}
 use Rattle.hull_lift.proofs.SpaceVectors.{IsOver, over_phase}
 
 -- a vector that is, over e, x times f entry by entry
-scaled : (f : ℕ → ℤ) (e x : ℤ) (a : ℕ) (v : Vector) → ((j : ℕ) → j < length v → e *ℤ at j v ≡ f (a + j) *ℤ x) →
+pub scaled : (f : ℕ → ℤ) (e x : ℤ) (a : ℕ) (v : Vector) → ((j : ℕ) → j < length v → e *ℤ at j v ≡ f (a + j) *ℤ x) →
     scale e v ≡ scale x (map f (range_with_len a (length v)))
 scaled f e x a [] h = refl
 scaled f e x a (y ∷ v) h =

@@ -31,7 +31,7 @@ pub record IsOver (p : Polyhedron) (space : Space) (y : Vector) : Type 0 where
 -- ---- labels
 
 -- the label of a coordinate is left, since it is no row
-coordinate_is_left : (rows : List Row) (j : ℕ) → is_left rows (coordinate_label j) ≡ true
+pub coordinate_is_left : (rows : List Row) (j : ℕ) → is_left rows (coordinate_label j) ≡ true
 coordinate_is_left rows j =
     cond-false (is_row (coordinate_label j)) (not (row_of rows (coordinate_label j)).linear) true
     (le-ltb (coordinate_label j) coordinates_from (omega arith))

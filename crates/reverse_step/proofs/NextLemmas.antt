@@ -120,6 +120,7 @@ module _ (old : Walk) (d : Dictionary) (p : ChildPivot) (f : IsFirstChild old.ro
   step_new = record {
     root = refl;
     job = refl;
+    phase = pivot.phase;
     walk = λ space home w. record {
       stands = stands space home w.stands;
       kept = (w.stands, child space home w.stands);
@@ -159,7 +160,13 @@ module _ (old : Walk) (none : NoneBetween old.root old.dict old.at (length old.d
 
   -- End: at the job's root
   pub step_end : old.dict.key ≡ old.job → IsVisit old End old
-  step_end e = record { root = refl; job = refl; walk = λ space home w. w; moves = λ space home w. move space home w.stands }
+  step_end e = record {
+    root = refl;
+    job = refl;
+    phase = refl;
+    walk = λ space home w. w;
+    moves = λ space home w. move space home w.stands;
+  }
     where
       move : (space : Space) (home : Table) → Stands space home old.root old.dict → (depth : ℕ) (ws : List (List ℕ)) →
           Waits space old depth ws → Moves space old depth ws End
@@ -173,6 +180,7 @@ module _ (old : Walk) (none : NoneBetween old.root old.dict old.at (length old.d
   step_none n none_enters = record {
     root = refl;
     job = refl;
+    phase = refl;
     walk = λ space home w. w;
     moves = λ space home w. move space home w.stands;
   }
@@ -234,10 +242,11 @@ module _ (old : Walk) (none : NoneBetween old.root old.dict old.at (length old.d
             one_column space old.root home st.feasible_root once d.key (table_of d) (up space home x).0.feasible p.column s
             old.dict.key (subst (λ k. IsChildAt space old.root k p.column old.dict.key) same_parent p.child) c
 
-    pub step_back : IsVisit old Back (moved_to old d at None)
-    step_back = record {
+    pub step_back : d.phase ≡ old.dict.phase → IsVisit old Back (moved_to old d at None)
+    step_back same_phase = record {
       root = refl;
       job = refl;
+      phase = same_phase;
       walk = λ space home x. record { stands = (up space home x).0; kept = tt };
       moves = back_at;
     }
@@ -261,6 +270,7 @@ up_pivot old d s r h p space home x = (
 pub down_of : (old new : Walk) (s r : ℕ) → LeadsToChild old.root old.dict s r → IsMovedDown old r s new → IsAtChild old s new
 down_of old new s r h m = record {
   same = m.same;
+  phase = m.pivot.phase;
   child = λ space home w.
       let st = new_stands old.dict new.dict old.root s r h.column h.leaves m.pivot space home w.stands in
       let c = child_here old.dict new.dict old.root s r h.column h.leaves m.pivot space home w.stands h in (
@@ -299,4 +309,4 @@ visit_up old next None none (e, at) =
     by_end (inr n) = end_or_none old none n
 visit_up old next (Some s) none (below, m) =
     subst (IsVisit old Back) (sym m.same)
-    (step_back old none below next.dict s m.parent (place_in next.dict.key s + 1) refl)
+    (step_back old none below next.dict s m.parent (place_in next.dict.key s + 1) refl m.phase)

@@ -29,10 +29,11 @@ laws_of space home walk w = are_split space walk.root home w.stands.feasible_roo
 
 -- the root of the job is visited
 pub run_starts : (space : Space) (home : Table) (first : Walk) (left : ℕ) → IsAtStart first → enough ≤ left →
-    IsWalkIn space home first → HasRun space home first first (first.dict.key ∷ []) left
+    IsWalkIn space home first → HasRun space home first first (first.dict.key ∷ []) left 0
 run_starts space home first left start e w = record {
   root = refl;
   job = refl;
+  phase = refl;
   walk_in = w;
   waiting = cs.0;
   depth = zero;
@@ -42,6 +43,7 @@ run_starts space home first left start e w = record {
   sum = all.1;
   few = let f = few_keys space first.root first.job (1 + all.0) w.stands.ascending (laws.weight first.job (key ∷ []) cs.0 all.0 split all.1) in
       omega (arith, e, f);
+  moved = refl;
 }
   where
     key : List ℕ
@@ -67,21 +69,22 @@ run_starts space home first left start e w = record {
     all = laws.total cs.0 (λ k c. (split.waits k c).0)
 
 -- so a counter that is not below it can be lowered
-pub some_left : (space : Space) (home : Table) (first walk : Walk) (visited : List (List ℕ)) (left : ℕ) →
-    HasRun space home first walk visited left → 0 < left
-some_left space home first walk visited left h = let f = h.few in omega (arith, f)
+pub some_left : (space : Space) (home : Table) (first walk : Walk) (visited : List (List ℕ)) (left taken : ℕ) →
+    HasRun space home first walk visited left taken → 0 < left
+some_left space home first walk visited left taken h = let f = h.few in omega (arith, f)
 
 -- ---- one step
-module _ (space : Space) (home : Table) (first old new : Walk) (visited : List (List ℕ)) (left : ℕ)
-    (h : HasRun space home first old visited (left + 1)) where
+module _ (space : Space) (home : Table) (first old new : Walk) (visited : List (List ℕ)) (left taken : ℕ)
+    (h : HasRun space home first old visited (left + 1) taken) where
   -- one more is visited
-  pub run_new : IsVisit old New new → HasRun space home first new (new.dict.key ∷ visited) left
+  pub run_new : IsVisit old New new → HasRun space home first new (new.dict.key ∷ visited) left (taken + 1)
   run_new step = by (step.moves space home h.walk_in h.depth h.waiting h.waits)
     where
-      by : Moves space new h.depth h.waiting New → HasRun space home first new (new.dict.key ∷ visited) left
+      by : Moves space new h.depth h.waiting New → HasRun space home first new (new.dict.key ∷ visited) left (taken + 1)
       by x = record {
         root = step.root ∙ h.root;
         job = step.job ∙ h.job;
+        phase = step.phase ∙ h.phase;
         walk_in = step.walk space home h.walk_in;
         waiting = x.cs ++ x.rest;
         depth = suc h.depth;
@@ -91,6 +94,7 @@ module _ (space : Space) (home : Table) (first old new : Walk) (visited : List (
         waits = x.waits;
         sum = subst (λ r. IsTotal space r (x.cs ++ x.rest) after.0) (sym step.root) after.1;
         few = let f = h.few in let g = falls in omega (arith, f, g);
+        moved = let m = h.moved in omega (arith, m);
       }
         where
           laws : AreSplit space old.root
@@ -115,13 +119,14 @@ module _ (space : Space) (home : Table) (first old new : Walk) (visited : List (
               listed after.1)
 
   -- the same are visited
-  pub run_back : IsVisit old Back new → HasRun space home first new visited left
+  pub run_back : IsVisit old Back new → HasRun space home first new visited left (taken + 1)
   run_back step = by (step.moves space home h.walk_in h.depth h.waiting h.waits)
     where
-      by : Moves space new h.depth h.waiting Back → HasRun space home first new visited left
+      by : Moves space new h.depth h.waiting Back → HasRun space home first new visited left (taken + 1)
       by (d, e, w) = record {
         root = step.root ∙ h.root;
         job = step.job ∙ h.job;
+        phase = step.phase ∙ h.phase;
         walk_in = step.walk space home h.walk_in;
         waiting = h.waiting;
         depth = d;
@@ -131,6 +136,7 @@ module _ (space : Space) (home : Table) (first old new : Walk) (visited : List (
         waits = w;
         sum = subst (λ r. IsTotal space r h.waiting h.total) (sym step.root) h.sum;
         few = let f = h.few in omega (arith, f, e);
+        moved = let m = h.moved in omega (arith, m, e);
       }
 
   -- all under the job's root are visited, each once

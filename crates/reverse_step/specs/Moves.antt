@@ -28,6 +28,7 @@ pub record IsMovedDown (old : Walk) (r s : ℕ) (new : Walk) : Type 0 where
 -- at the child in the column of s, in each space in which this is a walk; no column is tried there
 pub record IsAtChild (old : Walk) (s : ℕ) (new : Walk) : Type 0 where
   pub same : new ≡ moved_to old new.dict 0 (Some (record { dict = old.dict; column = s }))
+  pub phase : new.dict.phase ≡ old.dict.phase
   pub child : (space : Space) (home : Table) → IsWalkIn space home old →
       IsWalkIn space home new × IsChildAt space old.root old.dict.key s new.dict.key
 
@@ -40,6 +41,7 @@ GoesDown old s false new = (new ≡ old) × HasNoChildAt old.root old.dict s
 -- behind s
 pub record IsMovedUp (old : Walk) (s : ℕ) (new : Walk) : Type 0 where
   pub same : new ≡ moved_to old new.dict (place_in new.dict.key s + 1) None
+  pub phase : new.dict.phase ≡ old.dict.phase
   pub parent : (space : Space) (home : Table) → IsWalkIn space home old →
       Stands space home old.root new.dict × IsChildAt space old.root new.dict.key s old.dict.key
 
@@ -68,6 +70,7 @@ Moves space walk depth waiting End = (waiting ≡ []) × (depth ≡ zero)
 pub record IsVisit (old : Walk) (visit : Visit) (new : Walk) : Type 0 where
   pub root : new.root ≡ old.root
   pub job : new.job ≡ old.job
+  pub phase : new.dict.phase ≡ old.dict.phase
   pub walk : (space : Space) (home : Table) → IsWalkIn space home old → IsWalkIn space home new
   pub moves : (space : Space) (home : Table) → IsWalkIn space home old → (depth : ℕ) (waiting : List (List ℕ)) →
       Waits space old depth waiting → Moves space new depth waiting visit

@@ -1,5 +1,5 @@
 -- How far a walk has come from its start.
-use Rattle.std.specs.Prelude.{◌≡◌, ℕ, ◌+◌, ◌*◌, ◌≤◌, List}
+use Rattle.std.specs.Prelude.{◌≡◌, ℕ, ◌+◌, ◌*◌, ◌≤◌, List, length}
 use Rattle.poly_model.specs.Spaces.{Space}
 use Rattle.poly_model.specs.Dictionaries.{Table}
 use Rattle.search_laws.specs.Weights.{IsTotal}
@@ -7,10 +7,13 @@ use Rattle.search_laws.specs.Splits.{IsSplit}
 use Rattle.reverse_step.specs.Walks.{Walk, IsWalkIn, Waits}
 
 -- these keys are visited, and each cobasis under the job's root is one of them or under one that waits; the steps to come
--- are fewer than `left`: one down and one up for each that waits or is under it, and one up for each level above
-pub record HasRun (space : Space) (home : Table) (first walk : Walk) (visited : List (List ℕ)) (left : ℕ) : Type 0 where
+-- are fewer than `left`: one down and one up for each that waits or is under it, and one up for each level above; and
+-- the steps taken are one down for each that is visited but the first, and one up for each that was left
+pub record HasRun (space : Space) (home : Table) (first walk : Walk) (visited : List (List ℕ)) (left taken : ℕ) :
+    Type 0 where
   pub root : walk.root ≡ first.root
   pub job : walk.job ≡ first.job
+  pub phase : walk.dict.phase ≡ first.dict.phase
   pub walk_in : IsWalkIn space home walk
   pub waiting : List (List ℕ)
   pub depth : ℕ
@@ -19,3 +22,4 @@ pub record HasRun (space : Space) (home : Table) (first walk : Walk) (visited : 
   pub waits : Waits space walk depth waiting
   pub sum : IsTotal space walk.root waiting total
   pub few : 2 * total + depth + 1 ≤ left
+  pub moved : taken + depth + 2 ≡ 2 * length visited

@@ -1,5 +1,5 @@
 -- Where a walk through the tree of cobases stands.
-use Rattle.std.specs.Prelude.{◌≡◌, ℕ, zero, List, Option, Some, None}
+use Rattle.std.specs.Prelude.{◌≡◌, ℕ, zero, List, length, Option, Some, None}
 use Rattle.poly_model.specs.Keys.{IsAscending}
 use Rattle.poly_model.specs.Spaces.{Space}
 use Rattle.poly_model.specs.Dictionaries.{Table}
@@ -22,6 +22,12 @@ pub record Walk : Type 0 where
   pub job : List ℕ
   pub at : ℕ
   pub parent : Option Parent
+
+-- both are of one phase, with as many rows and columns
+pub record AreAlike (here other : Dictionary) : Type 0 where
+  pub phase : other.phase ≡ here.phase
+  pub rows : length other.labels ≡ length here.labels
+  pub columns : length other.columns ≡ length here.columns
 
 -- the other dictionary is the parent's where there is a column
 abbrev pub kept_parent : Option ℕ → Dictionary → Option Parent

@@ -57,14 +57,13 @@ impl Drop for Walker {
 }
 
 impl Model for Walker {
-    ghost use Rattle.std.specs.Prelude.{◌≡◌, length};
-    ghost use Rattle.reverse_step.specs.Walks.{Walk, kept_parent};
+    ghost use Rattle.reverse_step.specs.Walks.{Walk, kept_parent, AreAlike};
 
     ghost Value = { Walk };
 
     ghost view = { λ w. record { dict = w.here; root = w.order; job = w.job; at = w.at; parent = kept_parent w.back w.other } };
 
-    ghost invariant = { λ w. (length w.other.labels ≡ length w.here.labels) × (length w.other.columns ≡ length w.here.columns) };
+    ghost invariant = { λ w. AreAlike w.here w.other };
 }
 
 impl Walker {

@@ -43,6 +43,7 @@ returns-in_ok-pivot-in-Some-parent_by-clause-up g c =
     (sym c.in-None.is)
     (record {
       same = ap (λ n. moved_to walk d n None) place;
+      phase = c.in_ok-pivot-in-Some-parent_by.ensures.pivoted.phase;
       parent = up_pivot walk d p.col p.row c.in-Some-parent_by.ensures.pivot
           c.in_ok-pivot-in-Some-parent_by.ensures.pivoted;
     }))
