@@ -4,9 +4,13 @@
 mod head;
 mod listing;
 mod point;
+mod shown;
+mod stop;
 mod vector;
 
 pub use listing::Listing;
+pub use shown::Shown;
+pub use stop::ListStop;
 
 #[cfg(test)]
 mod tests;

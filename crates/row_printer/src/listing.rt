@@ -1,13 +1,15 @@
 //! A listing that is being written.
-ghost use Rattle.std.specs.Prelude.{◌≡◌, IfOk};
+ghost use Rattle.std.specs.Prelude.{◌≡◌, ◌≤◌, ◌++◌, length, IfOk};
+ghost use Rattle.std.specs.List.{flat_map};
 ghost use Rattle.poly_io.specs.Written.{Prints};
+ghost use Rattle.poly_model.specs.Limits.{most_columns};
 ghost use Rattle.poly_model.specs.ListingText.{head_text, vector_text, row_text, end_text};
 
 use crate::head::write_head;
 use crate::point::write_row;
 use crate::vector::write_vector;
 use poly_io::{Sink, WriteFault, write_all};
-use poly_model::Kind;
+use poly_model::{Kind, Vector};
 use poly_num::Num;
 use std::marker::Model;
 
@@ -35,6 +37,25 @@ impl Listing {
     {
         write_head(kind, n, lines, out)?;
         Ok(Listing { kind })
+    }
+
+    /// Writes what stands before the rows: the head, and the lines of the polyhedron, each with `n` entries.
+    pub fn begin<S: Sink>(
+        out: &mut S,
+        kind: Kind,
+        n: u32,
+        lines: &[Vector],
+    ) -> Result<Listing, WriteFault>
+        requires { length lines.now ≤ most_columns }
+        ensures prints { Prints S.Sink out.old out.new result
+            (head_text kind n (length lines.now) ++ flat_map vector_text lines.now) }
+        ensures kind { IfOk result (λ l. l ≡ kind) }
+    {
+        let mut listing = Listing::head(out, kind, n, lines.len() as u32)?;
+        'lines: for line in lines {
+            listing = listing.line(out, line.as_slice())?;
+        }
+        Ok(listing)
     }
 
     /// Writes a line of the polyhedron, as its whole entries.
