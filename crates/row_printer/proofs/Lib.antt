@@ -1,1 +1,2 @@
 pub mod ListingTextLemmas
+pub mod ListingParts
