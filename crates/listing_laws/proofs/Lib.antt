@@ -13,3 +13,4 @@ pub mod KnownValues
 pub mod KnownCorners
 pub mod KnownListings
 pub mod ListingLemmas
+pub mod Completions

@@ -13,7 +13,7 @@ use Rattle.listing_laws.specs.ListedCone.{ListedCone, IsConeOf}
 use Rattle.listing_laws.specs.Lists.{AreDistinctVectors, Lists}
 use Rattle.listing_laws.specs.Prefixes.{IsCornerUnder}
 use Rattle.listing_laws.proofs.ConeLemmas.{extreme_is_shown_corner}
-use Rattle.listing_laws.proofs.ListLemmas.{all_members}
+use Rattle.listing_laws.proofs.ListLemmas.{all_members, lists_same}
 
 once_at : (ys : List Vector) → AreDistinctVectors ys → (i j : ℕ) → i < j → j < length ys →
     slice_index_or ys i [] ≢ slice_index_or ys j []
@@ -23,17 +23,25 @@ once_at (y ∷ ys) d zero (suc j) a b e =
     d.0 (subst (Contains ys) (sym e) (Contains-get_or ys j [] (omega arith)))
 once_at (y ∷ ys) d (suc i) (suc j) a b e = once_at ys d.1 i j (omega arith) (omega arith) e
 
+-- a list of the extreme vectors, each once
+pub are_extreme : (sys : System) (shown : List Vector) → Lists (IsExtreme sys) shown → AreExtreme sys shown
+are_extreme sys shown l = record {
+  once = once_at shown l.distinct;
+  only = All-from_recursion (IsExtreme sys) shown
+      (all_members (IsExtreme sys) shown (λ y c. (l.members y).0 c));
+  every = λ y x. (l.members y).1 x;
+}
+
+-- so are the corners under the empty prefix
+pub lists_extreme : (sys : System) (cone : ListedCone) → IsConeOf sys cone → (shown : List Vector) →
+    Lists (IsCornerUnder cone []) shown → Lists (IsExtreme sys) shown
+lists_extreme sys cone is shown l =
+    let same = extreme_is_shown_corner sys cone is in
+    lists_same (IsCornerUnder cone []) (IsExtreme sys) shown l (λ y. (λ c. (same y).1 c.0, λ x. ((same y).0 x, tt)))
+
 pub whole_listing : (sys : System) (cone : ListedCone) → IsConeOf sys cone → (shown : List Vector) →
     Lists (IsCornerUnder cone []) shown → AreExtreme sys shown
-whole_listing sys cone is shown l =
-    let same = extreme_is_shown_corner sys cone is in
-    record {
-      once = once_at shown l.distinct;
-      only =
-          All-from_recursion (IsExtreme sys) shown
-          (all_members (IsExtreme sys) shown (λ y c. (same y).1 ((l.members y).0 c).0));
-      every = λ y x. (l.members y).1 ((same y).0 x, tt);
-    }
+whole_listing sys cone is shown l = are_extreme sys shown (lists_extreme sys cone is shown l)
 
 -- ---- feasible
 module _ (sys : System) (shown : List Vector) (are : AreExtreme sys shown) where
