@@ -12,10 +12,11 @@ use Rattle.poly_model.specs.ListingText.{row_text}
 use Rattle.poly_io.specs.Causes.{Rose}
 use Rattle.poly_io.specs.Written.{AppendsPart}
 use Rattle.poly_io.proofs.Parts.{part_after}
-use Rattle.plain_enum.specs.declared.answers.Shown.{Shown}
+use Rattle.row_printer.specs.declared.shown.Shown.{Shown}
+use Rattle.row_printer.specs.Rows.{counted, HasWritten}
 use Rattle.plain_enum.specs.declared.prefix.Ended.{Ended}
 use Rattle.plain_enum.specs.declared.prefix.Ended.TheVariants.{Overflow, Stopped}
-use Rattle.plain_enum.specs.Listed.{HasStopCause, counted, HasWritten, WritesRow, FailsAtRow, WritesRows}
+use Rattle.plain_enum.specs.Listed.{HasStopCause, WritesRow, FailsAtRow, WritesRows}
 use Rattle.plain_enum.specs.Visits.{Visited, EndedAtLast, VisitsEach, VisitsSome}
 use Rattle.plain_enum.proofs.ShowUnder.{counted_none}
 

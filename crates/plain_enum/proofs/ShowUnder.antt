@@ -17,7 +17,8 @@ use Rattle.listing_laws.specs.Prefixes.{IsCornerUnder}
 use Rattle.plain_enum.specs.declared.side.Side.{Side}
 use Rattle.plain_enum.specs.Columns.{IsLeftCoordinate, LeavesNoCoordinate}
 use Rattle.plain_enum.specs.Shown.{IsShownOn, vector_on}
-use Rattle.plain_enum.specs.Listed.{IsAt, counted}
+use Rattle.row_printer.specs.Rows.{counted}
+use Rattle.plain_enum.specs.Listed.{IsAt}
 use Rattle.plain_enum.specs.Standing.{StandsAt, LeavesColumn}
 use Rattle.plain_enum.proofs.FixedLabels.{FixedAre, left_in_key, left_not_free, is_left}
 use Rattle.plain_enum.proofs.OneLeft.{one_is_left}

@@ -5,5 +5,4 @@ pub mod Columns
 pub mod Shown
 pub mod Listed
 pub mod Plain
-pub mod Feasible
 pub mod Visits

@@ -14,7 +14,8 @@ use Rattle.dictionary.specs.Views.{Dictionary}
 use Rattle.dictionary.specs.MainPhase.{stays_in}
 use Rattle.listing_laws.specs.ListedCone.{ListedCone, IsConeOf}
 use Rattle.listing_laws.specs.Lists.{Lists, Begins}
-use Rattle.plain_enum.specs.declared.answers.Shown.{Shown}
+use Rattle.row_printer.specs.declared.shown.Shown.{Shown}
+use Rattle.row_printer.specs.Rows.{counted, HasWritten}
 use Rattle.plain_enum.specs.declared.prefix.Ended.{Ended}
 use Rattle.plain_enum.specs.declared.prefix.Ended.TheVariants.{Stopped}
 use Rattle.plain_enum.specs.Columns.{HasRows}
@@ -31,15 +32,6 @@ pub record IsAt (sys : System) (free : List ℕ) (d : Dictionary) (from depth : 
   pub fixed_are : (k : ℕ) → Contains d.key k → Contains fixed k ↔ (stays_in sys.rows free k ≡ false)
   pub next : from ≡ length marks + 1
   pub count : length left ≡ suc depth
-
--- a count of rows after so many more; it stands still at 2^64 - 1
-abbrev pub counted : ℕ → ℕ → ℕ
-counted rows more = min (rows + more) (2 ^ 64 - 1)
-
--- the rows of these vectors were written, and are counted
-pub record HasWritten (kind : Kind) (old new : Option (List ℕ)) (rows now : ℕ) (shown : List Vector) : Type 0 where
-  pub bytes : Appends old new (flat_map (row_text kind) shown)
-  pub count : now ≡ counted rows (length shown)
 
 -- the row of a vector was written, and is counted; no write has failed
 pub record WritesRow {O : Type 0} (written : O → Option (List ℕ)) (faults : O → ℕ) (s : Shown) (old : O) (y : Vector)

@@ -8,10 +8,10 @@ ghost use Rattle.poly_model.specs.Systems.{Polyhedron, cone_of};
 ghost use Rattle.dictionary.specs.Views.{Dictionary};
 ghost use Rattle.linearity.specs.Columns.{coordinate_vectors};
 ghost use Rattle.plain_enum.specs.Begin.{IsBegun, HasRoomForAll};
-ghost use Rattle.plain_enum.specs.Feasible.{ListsIfFeasible};
+ghost use Rattle.row_printer.specs.Listings.{ListsIfFeasible};
 ghost use Rattle.plain_enum.specs.Plain.{PassesInCone};
 
-use crate::answers::{FeasibleStop, ListStop};
+use crate::answers::FeasibleStop;
 use crate::begin::{Beginning, Room, begin};
 use crate::feasible::has_point_left;
 use crate::plain::print;
@@ -19,6 +19,7 @@ use crate::prefix::{Ended, Prefix};
 use linearity::lines_of;
 use poly_io::{Sink, WriteFault};
 use poly_model::{Kind, Listed, Overflow, System, Vector};
+use row_printer::ListStop;
 use std::alloc::Global;
 
 /// Writes the listing of a file that is feasible, as `list_plain` does; `sys` is its cone. One elimination serves for
@@ -26,7 +27,7 @@ use std::alloc::Global;
 /// and want of memory comes before that too. Where it stops, what was written is the beginning of a listing.
 pub fn list_feasible<S: Sink>(alloc: Global, sys: &System, out: &mut S) -> Result<Listed, ListStop>
     ensures listed { (p : Polyhedron) → sys.now ≡ cone_of p →
-        ListsIfFeasible p (S.written out.old) (S.written out.new) (out.new ≡ out.old) result }
+        ListsIfFeasible p (S.written out.old) (S.written out.new) (out.new ≡ out.old) (PassesInCone p) result }
     ensures infeasible { IsErrOf result ListStop.Infeasible → out.new ≡ out.old }
     ensures memory { IsErrOf result ListStop.Memory → out.new ≡ out.old }
     ensures later { S.faults out.old ≤ S.faults out.new }
@@ -69,7 +70,7 @@ fn print_if_feasible<S: Sink>(
     ensures listed { (p : Polyhedron) (last : Dictionary) → start.now.sys.now ≡ cone_of p →
         IsBegun p start.now.dict.now last start.now.free.now →
         lines.now ≡ coordinate_vectors last start.now.sys.now.n →
-        ListsIfFeasible p (S.written out.old) (S.written out.new) (out.new ≡ out.old) result }
+        ListsIfFeasible p (S.written out.old) (S.written out.new) (out.new ≡ out.old) (PassesInCone p) result }
     ensures infeasible { IsErrOf result ListStop.Infeasible → out.new ≡ out.old }
     ensures memory { IsErrOf result ListStop.Memory → ⊥ }
     ensures later { S.faults out.old ≤ S.faults out.new }

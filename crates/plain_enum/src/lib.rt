@@ -19,7 +19,7 @@ mod visit;
 
 ghost use Rattle.plain_enum.specs.Laws.{ValuesAtColumns, NewByEntry, FollowsByEntries, OneIsLeft, TestByEntries, BeginsAtEmptyPrefix, PivotTakes, DictionaryStays};
 
-pub use answers::{FeasibleStop, ListStop, PlainStop, Shown};
+pub use answers::{FeasibleStop, PlainStop};
 pub use feasible::feasible_plain;
 pub use feasible_listing::list_feasible;
 pub use plain::list_plain;

@@ -8,12 +8,12 @@ ghost use Rattle.plain_enum.specs.Begin.{IsBegun, HasRoomForAll, begun_cone};
 ghost use Rattle.plain_enum.specs.Listed.{WritesRow, FailsAtRow, HasStopCause, WritesRows};
 ghost use Rattle.plain_enum.specs.Plain.{PassesInCone};
 
-use crate::answers::Shown;
 use crate::begin::Room;
 use crate::prefix::{Ended, Prefix};
 use crate::visit::{Visit, visit_all};
 use poly_io::{Sink, WriteFault};
 use poly_num::Num;
+use row_printer::Shown;
 
 impl<S: Sink> Visit<S, WriteFault> for Shown {
     ghost visits = { WritesRow S.written S.faults };
@@ -21,12 +21,7 @@ impl<S: Sink> Visit<S, WriteFault> for Shown {
     ghost ends = { λ s o y _ q. FailsAtRow S.written S.faults s o y q };
 
     fn visit(self, vector: &[Num], out: &mut S) -> Result<Shown, WriteFault> {
-        let Shown { listing, rows } = self;
-        let listing = listing.row(out, vector)?;
-        Ok(Shown {
-            listing,
-            rows: rows.saturating_add(1),
-        })
+        self.row(out, vector)
     }
 }
 

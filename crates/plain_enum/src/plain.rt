@@ -1,27 +1,25 @@
 //! The listing of a system by subsets of its rows: each vector is shown at its lexicographically first independent
 //! list of tight rows.
-ghost use Rattle.std.specs.Prelude.{◌≡◌, ◌≤◌, ◌++◌, length, IfOk, IsErrOf};
-ghost use Rattle.std.specs.List.{flat_map};
+ghost use Rattle.std.specs.Prelude.{◌≡◌, ◌≤◌, length, IsErrOf};
 ghost use Rattle.poly_io.specs.Causes.{Rose};
-ghost use Rattle.poly_io.specs.Written.{Prints};
 ghost use Rattle.poly_model.specs.Limits.{most_columns};
 ghost use Rattle.poly_model.specs.declared.overflow.Overflow.{Overflow as Passed};
-ghost use Rattle.poly_model.specs.ListingText.{head_text, vector_text};
 ghost use Rattle.poly_model.specs.Systems.{Polyhedron, cone_of};
 ghost use Rattle.dictionary.specs.Views.{Dictionary};
 ghost use Rattle.linearity.specs.Columns.{coordinate_vectors};
 ghost use Rattle.plain_enum.specs.Begin.{IsBegun, HasRoomForAll};
 ghost use Rattle.plain_enum.specs.Listed.{HasStopCause};
-ghost use Rattle.plain_enum.specs.Plain.{PassesInCone, WritesListing};
+ghost use Rattle.row_printer.specs.Listings.{WritesListing};
+ghost use Rattle.plain_enum.specs.Plain.{PassesInCone};
 
-use crate::answers::{FeasibleStop, PlainStop, Shown};
+use crate::answers::{FeasibleStop, PlainStop};
 use crate::begin::{Beginning, Room, begin};
 use crate::list::list_rows;
 use crate::prefix::{Ended, Prefix};
 use linearity::lines_of;
 use poly_io::{Sink, WriteFault};
-use poly_model::{Kind, Listed, System, Vector};
-use row_printer::Listing;
+use poly_model::{Listed, System, Vector};
+use row_printer::{Listing, Shown};
 use std::alloc::Global;
 
 /// Writes the listing of a system: its head, the lines by ascending free column, the rows of its extreme vectors, its
@@ -82,12 +80,11 @@ pub(crate) fn print<S: Sink>(
         start.now.sys.now ≡ cone_of p → IsBegun p start.now.dict.now last start.now.free.now → PassesInCone p o }
     ensures cause { HasStopCause (S.faults out.old) (S.faults out.new) result }
 {
-    let listing = match print_head(start.sys.kind(), start.sys.n(), lines, out) {
+    let listing = match Listing::begin(out, start.sys.kind(), start.sys.n(), lines) {
         Ok(listing) => listing,
         Err(fault) => return Err(Ended::Stopped(fault)),
     };
-    let begun = Shown { listing, rows: 0 };
-    let Shown { listing, rows } = list_rows(start, room, begun, out)?;
+    let Shown { listing, rows } = list_rows(start, room, Shown::none(listing), out)?;
     match listing.finish(out) {
         Ok(()) => Ok(Listed {
             rows,
@@ -95,23 +92,4 @@ pub(crate) fn print<S: Sink>(
         }),
         Err(fault) => Err(Ended::Stopped(fault)),
     }
-}
-
-// Writes what stands before the rows: the head and the lines.
-fn print_head<S: Sink>(
-    kind: Kind,
-    n: u32,
-    lines: &[Vector],
-    out: &mut S,
-) -> Result<Listing, WriteFault>
-    requires { length lines.now ≤ most_columns }
-    ensures prints { Prints S.Sink out.old out.new result
-        (head_text kind n (length lines.now) ++ flat_map vector_text lines.now) }
-    ensures kind { IfOk result (λ l. l ≡ kind) }
-{
-    let mut listing = Listing::head(out, kind, n, lines.len() as u32)?;
-    'lines: for line in lines {
-        listing = listing.line(out, line.as_slice())?;
-    }
-    Ok(listing)
 }

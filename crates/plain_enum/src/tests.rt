@@ -1,9 +1,10 @@
 //! Polyhedra that can be drawn: whether they are feasible, and how many rows and lines their listings have.
-use crate::{FeasibleStop, ListStop, PlainStop, feasible_plain, list_feasible, list_plain};
+use crate::{FeasibleStop, PlainStop, feasible_plain, list_feasible, list_plain};
 use hull_lift::system_of;
 use poly_io::MemSink;
 use poly_model::{Kind, MOST_COLUMNS, MOST_FILE_ROWS, Phase, Poly, System};
 use poly_num::Num;
+use row_printer::ListStop;
 use std::alloc::Global;
 use std::test::Fail;
 

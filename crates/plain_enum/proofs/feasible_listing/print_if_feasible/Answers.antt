@@ -1,5 +1,5 @@
 use Rattle.std.proofs.Common.{◌≡◌, true, false, Err, refl, sym, ap, ◌∙◌}
-use Rattle.plain_enum.specs.declared.answers.ListStop.TheVariants as ListStop
+use Rattle.row_printer.specs.declared.stop.ListStop.TheVariants as ListStop
 use Rattle.plain_enum.proofs.NothingListed.{nothing_listed, passes_listed}
 use Rattle.plain_enum.proofs.feasible_listing.print_if_feasible.Goals as goal
 

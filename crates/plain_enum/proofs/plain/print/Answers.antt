@@ -7,8 +7,9 @@ use Rattle.poly_io.specs.Causes.{Rose}
 use Rattle.poly_io.specs.Written.{AppendsPart}
 use Rattle.poly_model.specs.declared.kind.Kind.{Kind}
 use Rattle.poly_model.specs.ListingText.{head_text, vector_text}
-use Rattle.poly_model.specs.Systems.{System}
+use Rattle.poly_model.specs.Systems.{System, Polyhedron, cone_of}
 use Rattle.linearity.proofs.Errors.{one_error}
+use Rattle.row_printer.specs.Rows.{HasWritten}
 use Rattle.plain_enum.specs.declared.prefix.Ended.TheVariants as Ended
 use Rattle.plain_enum.specs.Begin.{begun_cone}
 use Rattle.plain_enum.proofs.BeginAt.{begun_lines, is_cone_of}
@@ -17,30 +18,31 @@ use Rattle.plain_enum.proofs.RowsShown.{stopped, not_stopped, cause_after}
 use Rattle.plain_enum.proofs.plain.print.Goals as goal
 
 -- what is written before the rows, of the kind and the width that the system tells
-same_head : (sys : System) (lines : List Vector) (kind : Kind) (n : ℕ) → kind ≡ sys.kind → n ≡ sys.n →
+same_head : (p : Polyhedron) (sys : System) (lines : List Vector) (kind : Kind) (n : ℕ) → sys ≡ cone_of p →
+    kind ≡ sys.kind → n ≡ sys.n →
     head_text kind n (length lines) ++ flat_map vector_text lines
-    ≡ head_text sys.kind sys.n (length lines) ++ flat_map vector_text lines
-same_head sys lines kind n e f =
-    ap (λ k. head_text k n (length lines) ++ flat_map vector_text lines) e
-    ∙ ap (λ m. head_text sys.kind m (length lines) ++ flat_map vector_text lines) f
+    ≡ head_text p.kind p.n (length lines) ++ flat_map vector_text lines
+same_head p sys lines kind n file e f =
+    ap (λ k. head_text k n (length lines) ++ flat_map vector_text lines) (e ∙ ap (λ (s : System). s.kind) file)
+    ∙ ap (λ m. head_text p.kind m (length lines) ++ flat_map vector_text lines) (f ∙ ap (λ (s : System). s.n) file)
 
 pub returns-in-Err-clause-written : goal.returns-in-Err-clause-written
 returns-in-Err-clause-written g c p last file b same =
     let old = g.S.Sink.written c.args.out.now in
-    let mid = g.S.Sink.written c.print_head.new.out in
+    let mid = g.S.Sink.written c.begin.new.out in
     stops_in_head c.args.start.now.sys.now p (begun_cone p c.args.start.now.free.now c.args.start.now.dict.now) file
     (is_cone_of p c.args.start.now.dict.now last c.args.start.now.free.now b c.args.start.now.sys.now file)
     c.args.lines.now
     (begun_lines p c.args.start.now.dict.now last c.args.start.now.free.now b c.args.start.now.sys.now c.args.lines.now
     file same) old mid _ refl
     (subst (λ t. AppendsPart old mid t)
-    (same_head c.args.start.now.sys.now c.args.lines.now c.kind.result c.n.result c.kind.ensures c.n.ensures.value)
+    (same_head p c.args.start.now.sys.now c.args.lines.now c.kind.result c.n.result file c.kind.ensures c.n.ensures.value)
     c.in-Err.ensures.prints.part)
 
 pub returns-in_err-listing-clause-written : goal.returns-in_err-listing-clause-written
 returns-in_err-listing-clause-written g c p last file b same =
     let old = g.S.Sink.written c.args.out.now in
-    let mid = g.S.Sink.written c.print_head.new.out in
+    let mid = g.S.Sink.written c.begin.new.out in
     stops_in_rows c.args.start.now.sys.now p (begun_cone p c.args.start.now.free.now c.args.start.now.dict.now) file
     (is_cone_of p c.args.start.now.dict.now last c.args.start.now.free.now b c.args.start.now.sys.now file)
     c.args.lines.now
@@ -48,7 +50,7 @@ returns-in_err-listing-clause-written g c p last file b same =
     file same)
     old mid (g.S.Sink.written c.list_rows.new.out) c.from_residual.result c.from_residual.ensures.0
     (subst (λ t. Appends old mid t)
-    (same_head c.args.start.now.sys.now c.args.lines.now c.kind.result c.n.result c.kind.ensures c.n.ensures.value)
+    (same_head p c.args.start.now.sys.now c.args.lines.now c.kind.result c.n.result file c.kind.ensures c.n.ensures.value)
     c.in-Ok.ensures.prints.whole)
     (c.in_err-listing.ensures.written p last file b).part
 
@@ -62,7 +64,9 @@ returns-in_err-listing-clause-passes g c o e p last file b =
 pub returns-in-Ok-finish-clause-written : goal.returns-in-Ok-finish-clause-written
 returns-in-Ok-finish-clause-written g c p last file b same =
     let old = g.S.Sink.written c.args.out.now in
-    let mid = g.S.Sink.written c.print_head.new.out in
+    let mid = g.S.Sink.written c.begin.new.out in
+    let then = g.S.Sink.written c.list_rows.new.out in
+    let rows = (c.in_ok-listing.ensures.written p last file b).whole in
     ends_whole c.args.start.now.sys.now p (begun_cone p c.args.start.now.free.now c.args.start.now.dict.now) file
     (is_cone_of p c.args.start.now.dict.now last c.args.start.now.free.now b c.args.start.now.sys.now file)
     c.args.lines.now
@@ -70,15 +74,20 @@ returns-in-Ok-finish-clause-written g c p last file b same =
     file same)
     old mid (g.S.Sink.written c.list_rows.new.out) (g.S.Sink.written c.finish.new.out) _ refl
     (subst (λ t. Appends old mid t)
-    (same_head c.args.start.now.sys.now c.args.lines.now c.kind.result c.n.result c.kind.ensures c.n.ensures.value)
+    (same_head p c.args.start.now.sys.now c.args.lines.now c.kind.result c.n.result file c.kind.ensures c.n.ensures.value)
     c.in-Ok.ensures.prints.whole)
-    (c.in_ok-listing.ensures.written p last file b).whole
+    (
+      rows.0,
+      rows.1,
+      subst (λ n. HasWritten c.args.start.now.sys.now.kind mid then n c.in_ok-listing.field-0.rows rows.0)
+          c.none.ensures.rows rows.2,
+    )
     c.in-Ok-finish.ensures.whole
 
 pub returns-in-Err-finish-clause-written : goal.returns-in-Err-finish-clause-written
 returns-in-Err-finish-clause-written g c p last file b same =
     let old = g.S.Sink.written c.args.out.now in
-    let mid = g.S.Sink.written c.print_head.new.out in
+    let mid = g.S.Sink.written c.begin.new.out in
     let rows = (c.in_ok-listing.ensures.written p last file b).whole in
     stops_in_end c.args.start.now.sys.now p (begun_cone p c.args.start.now.free.now c.args.start.now.dict.now) file
     (is_cone_of p c.args.start.now.dict.now last c.args.start.now.free.now b c.args.start.now.sys.now file)
@@ -87,20 +96,20 @@ returns-in-Err-finish-clause-written g c p last file b same =
     file same)
     old mid (g.S.Sink.written c.list_rows.new.out) (g.S.Sink.written c.finish.new.out) _ refl
     (subst (λ t. Appends old mid t)
-    (same_head c.args.start.now.sys.now c.args.lines.now c.kind.result c.n.result c.kind.ensures c.n.ensures.value)
+    (same_head p c.args.start.now.sys.now c.args.lines.now c.kind.result c.n.result file c.kind.ensures c.n.ensures.value)
     c.in-Ok.ensures.prints.whole)
     rows.0 rows.1 rows.2.bytes c.in-Err-finish.ensures.part
 
 -- ---- the faults
 pub returns-in-Err-clause-cause : goal.returns-in-Err-clause-cause
 returns-in-Err-clause-cause g c =
-    stopped (g.S.Sink.faults c.args.out.now) (g.S.Sink.faults c.print_head.new.out) c.in-Err.fault
+    stopped (g.S.Sink.faults c.args.out.now) (g.S.Sink.faults c.begin.new.out) c.in-Err.fault
     c.in-Err.ensures.prints.cause.later c.in-Err.ensures.prints.cause.failed
 
 pub returns-in_err-listing-clause-cause : goal.returns-in_err-listing-clause-cause
 returns-in_err-listing-clause-cause g c =
     let q = err_from_is_err_and c.from_residual.result c.from_residual.ensures.1 in
-    cause_after (g.S.Sink.faults c.args.out.now) (g.S.Sink.faults c.print_head.new.out)
+    cause_after (g.S.Sink.faults c.args.out.now) (g.S.Sink.faults c.begin.new.out)
     (g.S.Sink.faults c.list_rows.new.out) c.in_err-listing.field-0.0
     c.from_residual.result c.in-Ok.ensures.prints.cause.same
     (q.1 ∙ ap (λ x. Err x) q.2) c.in_err-listing.ensures.cause
