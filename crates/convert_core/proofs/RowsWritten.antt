@@ -1,0 +1,189 @@
+-- Rows written column by column: of those that are shown.
+use Rattle.std.specs.Prelude.{Result, IfOk}
+use Rattle.std.proofs.Common.{◌≡◌, ◌⊎◌, ⊎_elim, inl, inr, ℕ, ◌+◌, ◌≤◌, ◌<◌, ◌^◌, List, [], ◌∷◌, ◌++◌, map, length, Option, Ok, Err, refl, sym, ap, subst, ◌∙◌, append-nil, length-append, arith}
+use Rattle.std.specs.List.{Contains, flat_map}
+use Rattle.std.specs.Io.KnownBytes.{Appends}
+use Rattle.std.proofs.KnownBytes.{Appends-nil, Appends-trans}
+use Rattle.std.proofs.lemmas.List.{map-append}
+use Rattle.std.proofs.lemmas.List.Concat.{flat_map-cons, flat_map-append}
+use Rattle.std.proofs.lemmas.List.Elements.{Contains-append_left, Contains-append_right, Contains-append_cases}
+use Rattle.poly_num.specs.Vectors.{Vector}
+use Rattle.poly_model.specs.declared.kind.Kind.{Kind}
+use Rattle.poly_model.specs.ListingText.{row_text}
+use Rattle.poly_model.specs.Systems.{System}
+use Rattle.linear_laws.proofs.Members.{Contains-nil, Contains-first, Contains-cons_cases}
+use Rattle.search_laws.specs.Shares.{ListsAll}
+use Rattle.search_laws.proofs.OnceLists.{once-append}
+use Rattle.dictionary.specs.Views.{Dictionary}
+use Rattle.hull_lift.specs.Facets.{primitive_column}
+use Rattle.poly_io.specs.declared.sink.Sink.{Ghosts as Sink}
+use Rattle.poly_io.specs.Causes.{Rose}
+use Rattle.poly_io.specs.Written.{AppendsPart, Prints}
+use Rattle.poly_io.proofs.Parts.{part_after}
+use Rattle.row_printer.specs.declared.shown.Shown.{Shown}
+use Rattle.row_printer.specs.Rows.{counted, HasWritten}
+use Rattle.convert_core.specs.Rows.{IsColumnShown, WritesShown, FailsShown, ShowsColumns, rows_of}
+
+-- ---- rows, and more rows
+pub counted_none : (rows : ℕ) → rows < 2 ^ 64 → rows ≡ counted rows 0
+counted_none rows l = omega arith
+
+counted_more : (rows m n : ℕ) → counted (counted rows m) n ≡ counted rows (m + n)
+counted_more rows m n = omega arith
+
+pub has_more : (kind : Kind) (a b c : Option (List ℕ)) (rows mid now : ℕ) (xs ys : List Vector) →
+    HasWritten kind a b rows mid xs → HasWritten kind b c mid now ys → HasWritten kind a c rows now (xs ++ ys)
+has_more kind a b c rows mid now xs ys f g = record {
+  bytes = subst (λ t. Appends a c t) (sym (flat_map-append (row_text kind) xs ys))
+      (Appends-trans a b c (flat_map (row_text kind) xs) (flat_map (row_text kind) ys) f.bytes g.bytes);
+  count = g.count ∙ ap (λ n. counted n (length ys)) f.count ∙ counted_more rows (length xs) (length ys)
+      ∙ ap (counted rows) (sym (length-append xs ys));
+}
+
+pub has_none : (kind : Kind) (a : Option (List ℕ)) (rows : ℕ) → rows < 2 ^ 64 → HasWritten kind a a rows rows []
+has_none kind a rows l = record { bytes = Appends-nil a; count = counted_none rows l }
+
+-- first bytes of more rows
+pub part_more : (kind : Kind) (a b c : Option (List ℕ)) (xs ys : List Vector) → Appends a b (flat_map (row_text kind) xs) →
+    AppendsPart b c (flat_map (row_text kind) ys) → AppendsPart a c (flat_map (row_text kind) (xs ++ ys))
+part_more kind a b c xs ys f g =
+    subst (λ t. AppendsPart a c t) (sym (flat_map-append (row_text kind) xs ys))
+    (part_after a b c (flat_map (row_text kind) xs) (flat_map (row_text kind) ys) f g)
+
+-- all of some rows
+pub part_all : (kind : Kind) (a b : Option (List ℕ)) (xs : List Vector) → Appends a b (flat_map (row_text kind) xs) →
+    AppendsPart a b (flat_map (row_text kind) xs)
+part_all kind a b xs f = record {
+  sent = flat_map (row_text kind) xs;
+  unsent = [];
+  split = sym (append-nil (flat_map (row_text kind) xs));
+  bytes = f;
+}
+
+one_text : (kind : Kind) (y : Vector) → flat_map (row_text kind) (y ∷ []) ≡ row_text kind y
+one_text kind y = flat_map-cons (row_text kind) y [] ∙ append-nil (row_text kind y)
+
+module _ {O : Type 0} (sink : Sink O) (sys : System) (root : List ℕ) (d : Dictionary) where
+  abbrev Writes : List ℕ → Shown → O → Shown → O → Type 0
+  Writes = WritesShown sink.written sink.faults sys root d
+
+  abbrev Fails : List ℕ → Shown → O → O → Type 0
+  Fails = FailsShown sink.written sink.faults sys root d
+
+  abbrev row : ℕ → Vector
+  row c = primitive_column d c sys.n
+
+  -- ---- one column
+  pub not_shown : (c : ℕ) (s : Shown) (o : O) → (IsColumnShown sys root d c → ⊥) → Writes (c ∷ []) s o s o
+  not_shown c s o n = record {
+    kind = refl;
+    shown = [];
+    all = record {
+      once = tt;
+      only = λ x m. absurd (Contains-nil x m);
+      each = λ x h. ⊎_elim (λ (e : c ≡ x). absurd (n (subst (IsColumnShown sys root d) (sym e) h.1)))
+          (λ (m : Contains [] x). absurd (Contains-nil x m)) (Contains-cons_cases x c [] h.0);
+    };
+    rows = has_none s.listing (sink.written o) s.rows s.few;
+    same = refl;
+  }
+
+  pub is_shown : {E : Type 0} (c : ℕ) (s : Shown) (o q : O) (result : Result Shown E) → IsColumnShown sys root d c →
+      Prints sink o q result (row_text s.listing (row c)) → IfOk result (λ t. t.listing ≡ s.listing) →
+      IfOk result (λ t. t.rows ≡ counted s.rows 1) →
+      ShowsColumns sink.written sink.faults sys root d (c ∷ []) s o q result
+  is_shown c s o q (Ok t) x p kind count = record {
+    kind = kind;
+    shown = c ∷ [];
+    all = record {
+      once = (λ m. Contains-nil c m, tt);
+      only = λ y m. (
+          m,
+          ⊎_elim (λ (e : c ≡ y). subst (IsColumnShown sys root d) e x)
+              (λ (k : Contains [] y). absurd (Contains-nil y k)) (Contains-cons_cases y c [] m),
+        );
+      each = λ y h. h.0;
+    };
+    rows = record {
+      bytes = subst (λ t. Appends (sink.written o) (sink.written q) t) (sym (one_text s.listing (row c))) p.whole;
+      count = count;
+    };
+    same = p.cause.same;
+  }
+  is_shown c s o q (Err e) x p kind count = record {
+    shown = c ∷ [];
+    once = (λ m. Contains-nil c m, tt);
+    only = λ y m. (
+        m,
+        ⊎_elim (λ (e : c ≡ y). subst (IsColumnShown sys root d) e x)
+            (λ (k : Contains [] y). absurd (Contains-nil y k)) (Contains-cons_cases y c [] m),
+      );
+    bytes = subst (λ t. AppendsPart (sink.written o) (sink.written q) t) (sym (one_text s.listing (row c))) p.part;
+    later = p.cause.later;
+    rose = p.cause.failed;
+  }
+
+  -- ---- one column more
+  module _ (columns : List ℕ) (c : ℕ) (new : Contains columns c → ⊥) (s : Shown) (o : O) (t : Shown) (m : O)
+      (w : Writes columns s o t m) where
+    only_here : (shown : List ℕ) → ((x : ℕ) → Contains shown x → Contains (c ∷ []) x × IsColumnShown sys root d x) →
+        (x : ℕ) → Contains shown x → c ≡ x
+    only_here shown only x k =
+        ⊎_elim (λ (e : c ≡ x). e) (λ (n : Contains [] x). absurd (Contains-nil x n))
+        (Contains-cons_cases x c [] (only x k).0)
+
+    pub shows_more : (u : Shown) (q : O) → Writes (c ∷ []) t m u q → Writes (columns ++ c ∷ []) s o u q
+    shows_more u q v = record {
+      kind = v.kind ∙ w.kind;
+      shown = w.shown ++ v.shown;
+      all = record {
+        once = once-append w.shown v.shown w.all.once v.all.once
+            (λ x k l. new (subst (Contains columns) (sym (only_here v.shown v.all.only x l)) (w.all.only x k).0));
+        only = λ x k. ⊎_elim
+            (λ l. (Contains-append_left columns (c ∷ []) x (w.all.only x l).0, (w.all.only x l).1))
+            (λ l. (Contains-append_right columns (c ∷ []) x (v.all.only x l).0, (v.all.only x l).1))
+            (Contains-append_cases w.shown v.shown x k);
+        each = λ x h. ⊎_elim
+            (λ l. Contains-append_left w.shown v.shown x (w.all.each x (l, h.1)))
+            (λ l. Contains-append_right w.shown v.shown x (v.all.each x (l, h.1)))
+            (Contains-append_cases columns (c ∷ []) x h.0);
+      };
+      rows = subst (λ ys. HasWritten s.listing (sink.written o) (sink.written q) s.rows u.rows ys)
+          (sym (map-append row w.shown v.shown))
+          (has_more s.listing (sink.written o) (sink.written m) (sink.written q) s.rows t.rows u.rows
+          (rows_of sys d w.shown) (rows_of sys d v.shown) w.rows
+          (subst (λ k. HasWritten k (sink.written m) (sink.written q) t.rows u.rows (rows_of sys d v.shown)) w.kind v.rows));
+      same = v.same ∙ w.same;
+    }
+
+    pub fails_more : (q : O) (all : List ℕ) → ((x : ℕ) → Contains columns x → Contains all x) → Contains all c →
+        Fails (c ∷ []) t m q → Fails all s o q
+    fails_more q all within here v = record {
+      shown = w.shown ++ v.shown;
+      once = once-append w.shown v.shown w.all.once v.once
+          (λ x k l. new (subst (Contains columns) (sym (only_here v.shown v.only x l)) (w.all.only x k).0));
+      only = λ x k. ⊎_elim
+          (λ l. (within x (w.all.only x l).0, (w.all.only x l).1))
+          (λ l. (subst (Contains all) (only_here v.shown v.only x l) here, (v.only x l).1))
+          (Contains-append_cases w.shown v.shown x k);
+      bytes = subst (λ ys. AppendsPart (sink.written o) (sink.written q) (flat_map (row_text s.listing) ys))
+          (sym (map-append row w.shown v.shown))
+          (part_more s.listing (sink.written o) (sink.written m) (sink.written q) (rows_of sys d w.shown)
+          (rows_of sys d v.shown) w.rows.bytes
+          (subst (λ k. AppendsPart (sink.written m) (sink.written q) (flat_map (row_text k) (rows_of sys d v.shown))) w.kind
+          v.bytes));
+      later = subst (λ n. n ≤ sink.faults q) w.same v.later;
+      rose = subst (λ n. Rose n (sink.faults q)) w.same v.rose;
+    }
+
+  -- the columns among more
+  pub fails_within : (columns all : List ℕ) (s : Shown) (o q : O) → ((x : ℕ) → Contains columns x → Contains all x) →
+      Fails columns s o q → Fails all s o q
+  fails_within columns all s o q within v = record {
+    shown = v.shown;
+    once = v.once;
+    only = λ x k. (within x (v.only x k).0, (v.only x k).1);
+    bytes = v.bytes;
+    later = v.later;
+    rose = v.rose;
+  }

@@ -1,0 +1,14 @@
+//! The listing of a file by reverse search: its equations and lines, a first cobasis, and a walk through all that are
+//! lexicographically feasible, at each of which the vectors are printed that are shown there.
+//!
+//! What is stated stands in `specs/`.
+#![tactic(auto)]
+
+mod begin;
+mod listing;
+mod rays;
+mod rows;
+mod search;
+mod walk;
+
+pub use listing::convert;
