@@ -4,3 +4,6 @@ pub mod RowLists
 pub mod RowsOf
 pub mod ColumnsBefore
 pub mod RowsWritten
+pub mod Searching
+pub mod Stops
+pub mod Steps

@@ -14,7 +14,7 @@ module _ {X : Type 0} where
   once_behind [] ys h = h
   once_behind (x ∷ xs) ys h = once_behind xs ys h.1
 
-  once_before : (xs ys : List X) → StandOnce (xs ++ ys) → StandOnce xs
+  pub once_before : (xs ys : List X) → StandOnce (xs ++ ys) → StandOnce xs
   once_before [] ys h = tt
   once_before (x ∷ xs) ys h = (λ c. h.0 (Contains-append_left xs ys x c), once_before xs ys h.1)
 

@@ -1,5 +1,6 @@
 -- A loop of steps from the start of a walk: what it has visited, what waits, and how many steps are left.
 use Rattle.std.proofs.Common.{◌≡◌, ◌≤◌, ◌<◌, ℕ, zero, suc, ◌+◌, List, [], ◌∷◌, ◌++◌, drop, refl, sym, ◌∙◌, subst, arith}
+use Rattle.std.specs.List.{Contains}
 use Rattle.std.proofs.lemmas.List.{append-nil}
 use Rattle.poly_model.specs.LexOrder.{rows_in}
 use Rattle.poly_model.specs.Spaces.{Space}
@@ -11,6 +12,7 @@ use Rattle.dictionary.specs.Views.{table_of}
 use Rattle.search_laws.specs.Shares.{ListsAll, IsChild, IsFeasibleUnder}
 use Rattle.search_laws.specs.Weights.{IsTotal}
 use Rattle.search_laws.specs.Splits.{IsSplit, AreSplit}
+use Rattle.search_laws.proofs.ShareParts.{under_itself}
 use Rattle.search_laws.proofs.Visits.{are_split}
 use Rattle.countdown.specs.Digits.{enough}
 use Rattle.reverse_step.specs.declared.walker.Visit.TheVariants.{New, Back, End}
@@ -72,6 +74,23 @@ run_starts space home first left start e w = record {
 pub some_left : (space : Space) (home : Table) (first walk : Walk) (visited : List (List ℕ)) (left taken : ℕ) →
     HasRun space home first walk visited left taken → 0 < left
 some_left space home first walk visited left taken h = let f = h.few in omega (arith, f)
+
+-- a new cobasis was not visited
+pub not_visited : (space : Space) (home : Table) (first old new : Walk) (visited : List (List ℕ)) (left taken : ℕ) →
+    HasRun space home first old visited left taken → IsVisit old New new → Contains visited new.dict.key → ⊥
+not_visited space home first old new visited left taken h step c =
+    by (step.moves space home h.walk_in h.depth h.waiting h.waits)
+  where
+    by : Moves space new h.depth h.waiting New → ⊥
+    by x = h.split.not_both new.dict.key c (record {
+      feasible = (h.split.waits new.dict.key waits).0;
+      key = new.dict.key;
+      member = waits;
+      under = under_itself space old.root new.dict.key;
+    })
+      where
+        waits : Contains h.waiting new.dict.key
+        waits = subst (λ ks. Contains ks new.dict.key) (sym x.first) (Contains-first new.dict.key x.rest)
 
 -- ---- one step
 module _ (space : Space) (home : Table) (first old new : Walk) (visited : List (List ℕ)) (left taken : ℕ)
