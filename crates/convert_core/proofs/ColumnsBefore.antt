@@ -11,7 +11,7 @@ use Rattle.dictionary_laws.proofs.KeyExchange.{ascending_distinct}
 use Rattle.search_laws.specs.Shares.{StandOnce}
 use Rattle.convert_core.proofs.RowLists.{apart}
 
-once_of : (ks : List ℕ) → AreDistinct ks → StandOnce ks
+pub once_of : (ks : List ℕ) → AreDistinct ks → StandOnce ks
 once_of [] h = tt
 once_of (k ∷ ks) h = (h.0, once_of ks h.1)
 

@@ -57,6 +57,7 @@ fn root_of(alloc: Global, cone: &System) -> Result<Found, BeginStop>
     ensures overflow { (o : Passed) → IsErrOf result (BeginStop.Overflow o) → (p : Polyhedron) →
         cone.now ≡ cone_of p → IsDue p o (IsAskedBefore p o) ⊎ IsDue p o (IsAskedInFirst p o) }
 {
+    cone.keeps_limits();
     let prepared = match prepare(alloc, cone) {
         Ok(prepared) => prepared,
         Err(PrepareStop::Inconsistent) => return Err(BeginStop::Infeasible),

@@ -7,6 +7,7 @@ use Rattle.std.specs.Io.KnownBytes.{Appends}
 use Rattle.std.proofs.KnownBytes.{Appends-nil, Appends-trans}
 use Rattle.std.proofs.lemmas.List.Concat.{flat_map-append}
 use Rattle.poly_num.specs.Vectors.{Vector}
+use Rattle.poly_model.specs.declared.kind.Kind.{Kind}
 use Rattle.poly_model.specs.declared.listed.Listed.{Listed}
 use Rattle.poly_model.specs.Systems.{Polyhedron, cone_of}
 use Rattle.poly_model.specs.Extreme.{AreExtreme}
@@ -22,6 +23,13 @@ module _ (p : Polyhedron) (vectors : List Vector) (lines : AreLines (cone_of p) 
   -- what stands before the rows
   abbrev pub text_before : List ℕ
   text_before = head_text p.kind p.n (length vectors) ++ flat_map vector_text vectors
+
+  -- it is so of the kind and the width that a file tells
+  pub same_before : (kind : Kind) (n : ℕ) → kind ≡ p.kind → n ≡ p.n →
+      head_text kind n (length vectors) ++ flat_map vector_text vectors ≡ text_before
+  same_before kind n e f =
+      ap (λ k. head_text k n (length vectors) ++ flat_map vector_text vectors) e
+      ∙ ap (λ m. head_text p.kind m (length vectors) ++ flat_map vector_text vectors) f
 
   abbrev text_of : List Vector → List ℕ
   text_of shown = text_before ++ (flat_map (row_text p.kind) shown ++ end_text)
