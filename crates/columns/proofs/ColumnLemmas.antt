@@ -1,7 +1,8 @@
 -- One cell more of a column, and one column more.
-use Rattle.std.proofs.Common.{◌≡◌, ◌≢◌, ℕ, ℤ, ◌+◌, ◌<◌, ◌≤◌, ◌*ℤ◌, ◌+ℤ◌, ◌-ℤ◌, neg_ℤ, ◌*◌, pos, List, length, get_or, set, arith, ◌∙◌, sym, subst, refl, ap, get_or-set_same, get_or-set_other, below_more, ⊎_elim}
+use Rattle.std.proofs.Common.{◌≡◌, ◌≢◌, ℕ, ℤ, ◌+◌, ◌<◌, ◌≤◌, ◌*ℤ◌, ◌+ℤ◌, ◌-ℤ◌, neg_ℤ, ◌*◌, pos, List, length, get_or, set, arith, ◌∙◌, sym, subst, refl, ap, get_or-set_same, get_or-set_other, below_more, ⊎_elim, mul_comm as nat_mul_comm}
 use Rattle.std.specs.Prelude.{unsigned_abs, ◌<ℤ◌}
 use Rattle.std.proofs.lemmas.Bool.{cases_eq}
+use Rattle.std.proofs.lemmas.Nat.{mul-add-lt}
 use Rattle.std.proofs.lemmas.Nat.Gcd.{dvd_refl, dvd_trans}
 use Rattle.std.proofs.lemmas.List.{length-set}
 use Rattle.poly_num.specs.Divisors.{IsGcdOf}
@@ -9,7 +10,7 @@ use Rattle.poly_num.proofs.Ring.{expand, lin, mul_comm, mul_assoc, zero_mul}
 use Rattle.columns.specs.declared.exchange.Exchange.{Exchange}
 use Rattle.columns.specs.declared.parts.Parts.{Parts}
 use Rattle.columns.specs.Cells.{cell_at}
-use Rattle.columns.specs.Steps.{IsNumerator, IsColumnWritten, DividesColumn, AreKept, IsLeftOfRow, IsLeftOfColumn, IsColumnDone, IsScaled, IsRescaled}
+use Rattle.columns.specs.Steps.{IsOtherColumn, IsNumerator, IsColumnWritten, DividesColumn, AreKept, IsLeftOfRow, IsLeftOfColumn, IsColumnDone, IsScaled, IsRescaled}
 use Rattle.columns.proofs.DivisorLemmas.{positive_gcd}
 
 -- a number is written behind those that are kept
@@ -24,6 +25,13 @@ kept_twice n old mid new u v = record {
   same_length = v.same_length ∙ u.same_length;
   kept = λ k l. v.kept k l ∙ u.kept k l;
 }
+
+-- a row of a column that is written is one of the numbers there
+pub place_there : (x : Exchange) (j i : ℕ) (old new : List ℤ) → IsOtherColumn x j old → AreKept (j * x.height) old new →
+    i < x.height → j * x.height + i < length new
+place_there x j i old new inside kept lt =
+    let l = mul-add-lt j x.height i x.width inside.within lt in
+    rw (kept.same_length ∙ inside.room, nat_mul_comm x.width x.height) l
 
 -- what is true of the cells of a column down to row i is true of one more
 pub column_more : (x : Exchange) (j : ℕ) (P : ℕ → ℤ → Type 0) (i : ℕ) (new : List ℤ) (q : ℤ) →
