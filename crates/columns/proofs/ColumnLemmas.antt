@@ -83,6 +83,17 @@ module _ (cells : List ℤ) (parts : Parts ℤ) (j : ℕ) where
         column_more parts.x.now j (λ k z. IsNumerator cells parts j k (z *ℤ g)) i new q lt
         (subst (λ (z : ℤ). IsNumerator cells parts j i z) (sym e) is) u
 
+    -- the next cell is written, behind what is kept
+    pub cell_written : (i : ℕ) (old new : List ℤ) (q n : ℤ) → IsOtherColumn parts.x.now j old → i < parts.x.now.height →
+        q *ℤ g ≡ n → IsNumerator cells parts j i n → IsColumnWritten cells parts j i g new →
+        AreKept (j * parts.x.now.height) old new →
+        IsColumnWritten cells parts j (i + 1) g (set new (j * parts.x.now.height + i) q)
+        × AreKept (j * parts.x.now.height) old (set new (j * parts.x.now.height + i) q)
+    cell_written i old new q n inside lt e is written kept = (
+      written_more i new q n (place_there parts.x.now j i old new inside kept lt) e is written,
+      kept_more (j * parts.x.now.height) old new (j * parts.x.now.height + i) q (omega arith) kept,
+    )
+
     pub left_start : pos 0 <ℤ g → IsLeftOfColumn cells parts j 0 g g
     left_start lt = record { positive = lt; divides = dvd_refl (unsigned_abs g); greatest = λ k d _. d }
 
