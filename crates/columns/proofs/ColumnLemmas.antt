@@ -10,7 +10,7 @@ use Rattle.poly_num.proofs.Ring.{expand, lin, mul_comm, mul_assoc, zero_mul}
 use Rattle.columns.specs.declared.exchange.Exchange.{Exchange}
 use Rattle.columns.specs.declared.parts.Parts.{Parts}
 use Rattle.columns.specs.Cells.{cell_at}
-use Rattle.columns.specs.Steps.{IsOtherColumn, IsNumerator, IsColumnWritten, DividesColumn, AreKept, IsLeftOfRow, IsLeftOfColumn, IsColumnDone, IsScaled, IsRescaled}
+use Rattle.columns.specs.Steps.{IsOtherColumn, IsNumerator, IsColumnWritten, DividesColumn, AreKept, IsLeftOfRow, IsLeftOfColumn, IsColumnDone, IsShrunk, IsScaled, IsRescaled}
 use Rattle.columns.proofs.DivisorLemmas.{positive_gcd}
 
 -- a number is written behind those that are kept
@@ -106,6 +106,37 @@ module _ (cells : List ℤ) (parts : Parts ℤ) (j : ℕ) where
           r.greatest k (u.greatest k kg (λ a l m im. all a (omega arith) m im)) (λ n is. all i (omega arith) n is);
     }
 
+    -- what is left where one row is to be divided is left where all are
+    pub left_by_row : (i m : ℕ) (h : ℤ) → i < m → IsLeftOfRow cells parts j i g h → IsLeftOfColumn cells parts j m g h
+    left_by_row i m h lt r = record {
+      positive = r.positive;
+      divides = r.divides;
+      greatest = λ k kg all. r.greatest k kg (λ n is. all i lt n is);
+    }
+
+    -- the divisor has not shrunk yet
+    pub shrunk_start : (old : List ℤ) → pos 0 <ℤ g → IsShrunk cells parts j g g old old
+    shrunk_start old lt = record {
+      left = record { positive = lt; divides = dvd_refl (unsigned_abs g); greatest = λ k d _. d };
+      rescaled = record { same_length = refl; scaled = λ k l. refl };
+    }
+
+    -- it shrinks once more, when the column was written anew
+    pub shrunk_more : (h e : ℤ) (old now mid new : List ℤ) → IsShrunk cells parts j g h old now →
+        AreKept (j * parts.x.now.height) now mid → IsShrunk cells parts j h e mid new → IsShrunk cells parts j g e old new
+    shrunk_more h e old now mid new u kept v = record {
+      left = record {
+        positive = v.left.positive;
+        divides = dvd_trans _ v.left.divides u.left.divides;
+        greatest = λ k kg all. v.left.greatest k (u.left.greatest k kg all) all;
+      };
+      rescaled = record {
+        same_length = v.rescaled.same_length ∙ kept.same_length ∙ u.rescaled.same_length;
+        scaled = λ k l.
+            v.rescaled.scaled k l ∙ ap (λ (z : ℤ). z *ℤ h) (kept.kept k l) ∙ u.rescaled.scaled k l;
+      };
+    }
+
     -- the divisor divides the whole column
     pub done_same : (old new : List ℤ) → pos 0 <ℤ g → AreKept (j * parts.x.now.height) old new →
         IsColumnWritten cells parts j parts.x.now.height g new → IsColumnDone cells parts j g g old new
@@ -136,6 +167,12 @@ module _ (cells : List ℤ) (parts : Parts ℤ) (j : ℕ) where
       written = w;
       rescaled = λ k l. ap (λ (z : ℤ). z *ℤ h) (kept.kept k l) ∙ r.scaled k l;
     }
+
+    -- the column is written over what is left
+    pub shrunk_done : (h : ℤ) (old now new : List ℤ) → IsShrunk cells parts j g h old now →
+        AreKept (j * parts.x.now.height) now new → IsColumnWritten cells parts j parts.x.now.height h new →
+        IsColumnDone cells parts j g h old new
+    shrunk_done h old now new u kept w = done_less h old now new u.left u.rescaled kept w
 
 -- in the exchange's row, where the exchange's column has p + u
 leaving_equation : (p u r : ℤ) → r *ℤ p -ℤ (p +ℤ u) *ℤ r ≡ neg_ℤ (u *ℤ r)

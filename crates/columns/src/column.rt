@@ -131,7 +131,7 @@ fn is_written_in_halves(
 
 // The new cells of another column than the exchange's: whether they are known to be halves; `None` where the divisor
 // does not divide it, or a cell does not fit.
-pub(crate) fn other_column(
+fn other_column(
     cells: &[Word],
     parts: &Parts<Word>,
     new: &mut [Word],

@@ -1,4 +1,4 @@
-use Rattle.std.proofs.Common.{refl, ap, sym, ℤ, ◌*ℤ◌, ◌∙◌, rules, arith, ◌<◌, ◌+◌, ◌*◌, length}
+use Rattle.std.proofs.Common.{refl, rules, arith, ◌<◌, ◌*◌}
 use Rattle.columns.proofs.ColumnLemmas.{place_there, written_more, kept_more, inside_is}
 use Rattle.columns.proofs.HalfCellLemmas.{halves_more}
 use Rattle.columns.proofs.kernels.half_column.Goals as goal
