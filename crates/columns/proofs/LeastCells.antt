@@ -7,9 +7,10 @@ use Rattle.std.proofs.lemmas.Int.{ints, unsigned_abs-mul}
 use Rattle.std.proofs.Math.Nat.{one-mul, eq-one_of_dvd-one, dvd_of_mul-dvd-mul_right}
 use Rattle.poly_num.specs.Vectors.{DividesEach, IsPrimitive}
 use Rattle.poly_num.proofs.Ring.{expand, lin, one_mul, zero_mul, mul_assoc}
-use Rattle.poly_num.proofs.Order.{positive_product, positive_factor}
+use Rattle.poly_num.proofs.FractionLemmas.{size_positive}
+use Rattle.poly_num.proofs.Order.{positive_product, positive_factor, positive_nonzero}
 use Rattle.poly_num.proofs.DivisorLemmas.{quotient_times, unsigned_abs-neg, dvd-multiple}
-use Rattle.columns.proofs.DivisorLemmas.{size_positive, turned_size}
+use Rattle.columns.proofs.DivisorLemmas.{turned_size}
 use Rattle.columns.specs.declared.exchange.Exchange.{Exchange}
 use Rattle.columns.specs.declared.parts.Parts.{Parts}
 use Rattle.columns.specs.Cells.{cell_at, place, pivot_of, IsNewCell, IsTableAfter}
@@ -160,12 +161,12 @@ module _ (old new : List ℤ) (parts : Parts ℤ) (z g f : ℤ) (are : AreParts 
 
     is_one : d ≡ 1
     is_one =
-        let common = size_positive h are.factors.greatest.positive in
+        let common = size_positive h (positive_nonzero h are.factors.greatest.positive) in
         let l : more ∣ unsigned_abs x.denominator =
         dvd_of_mul-dvd-mul_right more common
         (are.factors.greatest.greatest (more * unsigned_abs h) (unsigned_abs x.denominator) in_all) in
         let k : d * unsigned_abs g ∣ 1 * unsigned_abs g = rw one-mul (u.greatest more l new_multiple) in
-        eq-one_of_dvd-one (dvd_of_mul-dvd-mul_right d (size_positive g u.positive) k)
+        eq-one_of_dvd-one (dvd_of_mul-dvd-mul_right d (size_positive g (positive_nonzero g u.positive)) k)
 
   primitive : IsPrimitive (y ∷ new)
   primitive = (λ n. let e = n.0 in let l = positive in absurd (omega (arith, lin)), λ d _ divides. is_one d divides)
