@@ -123,7 +123,8 @@ module _ (cells : List ℤ) (parts : Parts ℤ) (j : ℕ) where
 
     -- it shrinks once more, when the column was written anew
     pub shrunk_more : (h e : ℤ) (old now mid new : List ℤ) → IsShrunk cells parts j g h old now →
-        AreKept (j * parts.x.now.height) now mid → IsShrunk cells parts j h e mid new → IsShrunk cells parts j g e old new
+        AreKept (j * parts.x.now.height) now mid → IsShrunk cells parts j h e mid new →
+        IsShrunk cells parts j g e old new
     shrunk_more h e old now mid new u kept v = record {
       left = record {
         positive = v.left.positive;

@@ -79,7 +79,8 @@ module _ (old new : List ℤ) (parts : Parts ℤ) (z g f : ℤ) (are : AreParts 
     more = d * unsigned_abs g
 
     -- each new cell is over the factors and more
-    new_multiple : (i j : ℕ) → i < x.height → j < x.width → (q : ℤ) × IsNewCell x old i j (factor_of parts *ℤ (pos more *ℤ q))
+    new_multiple : (i j : ℕ) → i < x.height → j < x.width →
+        (q : ℤ) × IsNewCell x old i j (factor_of parts *ℤ (pos more *ℤ q))
     new_multiple i j hi hj =
         let q = multiple_at d new (place x.height i j) (divides.1) in (
           q.0,

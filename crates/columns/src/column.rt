@@ -68,7 +68,8 @@ fn same_own_column(parts: &Parts<Word>, new: &mut [Word])
     requires room { length new.old ≡ parts.now.x.now.width * parts.now.x.now.height }
     requires within { parts.now.x.now.column < parts.now.x.now.width }
     ensures written { (cells : List ℤ) →
-        IsColumnWritten cells parts.now parts.now.x.now.column parts.now.x.now.height parts.now.x.now.denominator new.new }
+        IsColumnWritten cells parts.now parts.now.x.now.column parts.now.x.now.height parts.now.x.now.denominator
+        new.new }
     ensures kept { AreKept (parts.now.x.now.column * parts.now.x.now.height) new.old new.new }
     ensures halves { IsHalf parts.now.u → AreHalvesTo parts.now.x.now.height parts.now.own.now →
         AreHalvesTo (parts.now.x.now.column * parts.now.x.now.height) new.old →

@@ -105,8 +105,8 @@ fn scale_words(new: &mut [Word], x: &Exchange, column: usize, factor: Word) -> O
     Some(halves)
 }
 
-// Makes the divisor what is left of it where it is to divide another row of a column, and the columns before grow. Whether
-// there is such a row, and all fit.
+// Makes the divisor what is left of it where it is to divide another row of a column, and the columns before grow.
+// Whether there is such a row, and all fit.
 #[cold]
 #[inline(never)]
 pub(crate) fn shrink_scale(

@@ -36,7 +36,8 @@ module _ (p b divisor odd unit times_p times_b a c n q : ℤ) where
     same_low : int_wrap w64 (q *ℤ divisor) ≡ int_wrap w64 (a *ℤ p -ℤ c *ℤ b)
     same_low =
         let first : q *ℤ (odd *ℤ unit) ≡ odd *ℤ (q *ℤ unit) = simp expand in
-        let second : odd *ℤ (a *ℤ times_p -ℤ c *ℤ times_b) ≡ a *ℤ (odd *ℤ times_p) -ℤ c *ℤ (odd *ℤ times_b) = simp expand in
+        let second : odd *ℤ (a *ℤ times_p -ℤ c *ℤ times_b) ≡ a *ℤ (odd *ℤ times_p) -ℤ c *ℤ (odd *ℤ times_b) =
+        simp expand in
         sym (same_product odd unit divisor q whole) ∙ ap (int_wrap w64) first
         ∙ ap (λ (z : ℤ). int_wrap w64 (odd *ℤ z)) (exact ∙ low)
         ∙ int_wrap-mul_right w64 odd (a *ℤ times_p -ℤ c *ℤ times_b) ∙ ap (int_wrap w64) second

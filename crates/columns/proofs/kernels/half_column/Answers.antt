@@ -10,7 +10,8 @@ halves-preserved c =
     let q = c.in-Some-exact.q in
     let is = c.in-Some.ensures in
     let here : c.halves.i < parts.x.now.height = search rules in
-    let lt = place_there parts.x.now j c.halves.i c.args.new.now c.halves.new c.requires.inside c.halves.invariant.kept here in
+    let lt =
+    place_there parts.x.now j c.halves.i c.args.new.now c.halves.new c.requires.inside c.halves.invariant.kept here in
     record {
       kept = kept_more _ c.args.new.now c.halves.new _ q (omega arith) c.halves.invariant.kept;
       halves = λ first.

@@ -76,8 +76,8 @@ part-requires-clause-whole c =
 -- the labels that are left are some of the old ones
 pub part-requires-clause-below : goal.part-requires-clause-below
 part-requires-clause-below c =
-    below_kept (stays_in c.args.sys.now.rows c.from_vec-none.result) label_count _ c.deref.result.now c.in_ok-labels.labels.items c.self.invariant.3
-    c.deref.ensures.value c.in_ok-labels.ensures
+    below_kept (stays_in c.args.sys.now.rows c.from_vec-none.result) label_count _ c.deref.result.now
+    c.in_ok-labels.labels.items c.self.invariant.3 c.deref.ensures.value c.in_ok-labels.ensures
 
 pub returns : goal.returns
 returns c =

@@ -25,7 +25,8 @@ returns c =
     let exact : c.in_ok-value.value *ℤ pos (2 ^ s.twos) ≡ n = simp to_z-of_z at c.in_ok-value.ensures in
     let first : c.low_product.result ≡ int_wrap w64 (a *ℤ s.times_p) = simp to_z-of_z at c.low_product.ensures in
     let second : c.low_product-2.result ≡ int_wrap w64 (k *ℤ s.times_b) = simp to_z-of_z at c.low_product-2.ensures in
-    let is : n ≡ int_wrap w64 (c.low_product.result -ℤ c.low_product-2.result) = simp to_z-of_z at c.difference-n.ensures in
+    let is : n ≡ int_wrap w64 (c.low_product.result -ℤ c.low_product-2.result) =
+    simp to_z-of_z at c.difference-n.ensures in
     let i = c.self.invariant in
     rw (← c.self.view_is, ← c.a.view_is, ← c.c.view_is) (
       cross_quotient s.p s.b s.divisor s.odd (pos (2 ^ s.twos)) s.times_p s.times_b a k n q i.whole i.over_p i.over_b
