@@ -1,7 +1,8 @@
 -- One cell more of a column, and one column more.
-use Rattle.std.proofs.Common.{◌≡◌, ◌≢◌, ℕ, ℤ, ◌+◌, ◌<◌, ◌≤◌, ◌*ℤ◌, ◌+ℤ◌, ◌-ℤ◌, neg_ℤ, ◌*◌, pos, List, length, get_or, set, arith, ◌∙◌, sym, subst, refl, ap, get_or-set_same, get_or-set_other, below_more, ⊎_elim}
+use Rattle.std.proofs.Common.{◌≡◌, ◌≢◌, ℕ, ℤ, ◌+◌, ◌<◌, ◌≤◌, ◌*ℤ◌, ◌+ℤ◌, ◌-ℤ◌, neg_ℤ, ◌*◌, pos, List, length, get_or, set, arith, ◌∙◌, sym, subst, refl, ap, get_or-set_same, get_or-set_other, below_more, ⊎_elim, mul_comm as nat_mul_comm}
 use Rattle.std.specs.Prelude.{unsigned_abs, ◌<ℤ◌}
 use Rattle.std.proofs.lemmas.Bool.{cases_eq}
+use Rattle.std.proofs.lemmas.Nat.{mul-add-lt}
 use Rattle.std.proofs.lemmas.Nat.Gcd.{dvd_refl, dvd_trans}
 use Rattle.std.proofs.lemmas.List.{length-set}
 use Rattle.poly_num.specs.Divisors.{IsGcdOf}
@@ -9,7 +10,7 @@ use Rattle.poly_num.proofs.Ring.{expand, lin, mul_comm, mul_assoc, zero_mul}
 use Rattle.columns.specs.declared.exchange.Exchange.{Exchange}
 use Rattle.columns.specs.declared.parts.Parts.{Parts}
 use Rattle.columns.specs.Cells.{cell_at}
-use Rattle.columns.specs.Steps.{IsNumerator, IsColumnWritten, DividesColumn, AreKept, IsLeftOfRow, IsLeftOfColumn, IsColumnDone, IsScaled, IsRescaled}
+use Rattle.columns.specs.Steps.{IsOtherColumn, IsNumerator, IsColumnWritten, DividesColumn, AreKept, IsLeftOfRow, IsLeftOfColumn, IsColumnDone, IsShrunk, IsScaled, IsRescaled}
 use Rattle.columns.proofs.DivisorLemmas.{positive_gcd}
 
 -- a number is written behind those that are kept
@@ -24,6 +25,13 @@ kept_twice n old mid new u v = record {
   same_length = v.same_length ∙ u.same_length;
   kept = λ k l. v.kept k l ∙ u.kept k l;
 }
+
+-- a row of a column that is written is one of the numbers there
+pub place_there : (x : Exchange) (j i : ℕ) (old new : List ℤ) → IsOtherColumn x j old → AreKept (j * x.height) old new →
+    i < x.height → j * x.height + i < length new
+place_there x j i old new inside kept lt =
+    let l = mul-add-lt j x.height i x.width inside.within lt in
+    rw (kept.same_length ∙ inside.room, nat_mul_comm x.width x.height) l
 
 -- what is true of the cells of a column down to row i is true of one more
 pub column_more : (x : Exchange) (j : ℕ) (P : ℕ → ℤ → Type 0) (i : ℕ) (new : List ℤ) (q : ℤ) →
@@ -75,6 +83,17 @@ module _ (cells : List ℤ) (parts : Parts ℤ) (j : ℕ) where
         column_more parts.x.now j (λ k z. IsNumerator cells parts j k (z *ℤ g)) i new q lt
         (subst (λ (z : ℤ). IsNumerator cells parts j i z) (sym e) is) u
 
+    -- the next cell is written, behind what is kept
+    pub cell_written : (i : ℕ) (old new : List ℤ) (q n : ℤ) → IsOtherColumn parts.x.now j old → i < parts.x.now.height →
+        q *ℤ g ≡ n → IsNumerator cells parts j i n → IsColumnWritten cells parts j i g new →
+        AreKept (j * parts.x.now.height) old new →
+        IsColumnWritten cells parts j (i + 1) g (set new (j * parts.x.now.height + i) q)
+        × AreKept (j * parts.x.now.height) old (set new (j * parts.x.now.height + i) q)
+    cell_written i old new q n inside lt e is written kept = (
+      written_more i new q n (place_there parts.x.now j i old new inside kept lt) e is written,
+      kept_more (j * parts.x.now.height) old new (j * parts.x.now.height + i) q (omega arith) kept,
+    )
+
     pub left_start : pos 0 <ℤ g → IsLeftOfColumn cells parts j 0 g g
     left_start lt = record { positive = lt; divides = dvd_refl (unsigned_abs g); greatest = λ k d _. d }
 
@@ -85,6 +104,38 @@ module _ (cells : List ℤ) (parts : Parts ℤ) (j : ℕ) where
       divides = dvd_trans _ r.divides u.divides;
       greatest = λ k kg all.
           r.greatest k (u.greatest k kg (λ a l m im. all a (omega arith) m im)) (λ n is. all i (omega arith) n is);
+    }
+
+    -- what is left where one row is to be divided is left where all are
+    pub left_by_row : (i m : ℕ) (h : ℤ) → i < m → IsLeftOfRow cells parts j i g h → IsLeftOfColumn cells parts j m g h
+    left_by_row i m h lt r = record {
+      positive = r.positive;
+      divides = r.divides;
+      greatest = λ k kg all. r.greatest k kg (λ n is. all i lt n is);
+    }
+
+    -- the divisor has not shrunk yet
+    pub shrunk_start : (old : List ℤ) → pos 0 <ℤ g → IsShrunk cells parts j g g old old
+    shrunk_start old lt = record {
+      left = record { positive = lt; divides = dvd_refl (unsigned_abs g); greatest = λ k d _. d };
+      rescaled = record { same_length = refl; scaled = λ k l. refl };
+    }
+
+    -- it shrinks once more, when the column was written anew
+    pub shrunk_more : (h e : ℤ) (old now mid new : List ℤ) → IsShrunk cells parts j g h old now →
+        AreKept (j * parts.x.now.height) now mid → IsShrunk cells parts j h e mid new →
+        IsShrunk cells parts j g e old new
+    shrunk_more h e old now mid new u kept v = record {
+      left = record {
+        positive = v.left.positive;
+        divides = dvd_trans _ v.left.divides u.left.divides;
+        greatest = λ k kg all. v.left.greatest k (u.left.greatest k kg all) all;
+      };
+      rescaled = record {
+        same_length = v.rescaled.same_length ∙ kept.same_length ∙ u.rescaled.same_length;
+        scaled = λ k l.
+            v.rescaled.scaled k l ∙ ap (λ (z : ℤ). z *ℤ h) (kept.kept k l) ∙ u.rescaled.scaled k l;
+      };
     }
 
     -- the divisor divides the whole column
@@ -117,6 +168,12 @@ module _ (cells : List ℤ) (parts : Parts ℤ) (j : ℕ) where
       written = w;
       rescaled = λ k l. ap (λ (z : ℤ). z *ℤ h) (kept.kept k l) ∙ r.scaled k l;
     }
+
+    -- the column is written over what is left
+    pub shrunk_done : (h : ℤ) (old now new : List ℤ) → IsShrunk cells parts j g h old now →
+        AreKept (j * parts.x.now.height) now new → IsColumnWritten cells parts j parts.x.now.height h new →
+        IsColumnDone cells parts j g h old new
+    shrunk_done h old now new u kept w = done_less h old now new u.left u.rescaled kept w
 
 -- in the exchange's row, where the exchange's column has p + u
 leaving_equation : (p u r : ℤ) → r *ℤ p -ℤ (p +ℤ u) *ℤ r ≡ neg_ℤ (u *ℤ r)

@@ -11,7 +11,7 @@ use Rattle.poly_num.proofs.Ring.{lin}
 use Rattle.poly_num.proofs.Order.{mul_nonzero, positive_nonzero}
 use Rattle.poly_num.proofs.DivisorLemmas.{gcd_of_is, gcd_same, gcd_of-times, quotient_times}
 use Rattle.poly_num.proofs.PrimitiveLemmas.{zero_from_size}
-use Rattle.poly_num.proofs.FractionLemmas as fractions
+use Rattle.poly_num.proofs.FractionLemmas.{size_positive}
 use Rattle.columns.specs.Steps.{IsSignOf}
 
 -- what divides k times a and k times b divides k times their greatest common divisor
@@ -37,9 +37,6 @@ positive_gcd a b (negsuc g) lt h = absurd (let l = h.0 in omega (arith, ints))
 pub gcd_divides : (g n : ℤ) → pos 0 <ℤ g → unsigned_abs g ∣ unsigned_abs n → IsGcdOf g n g
 gcd_divides g n lt d = (omega (arith, lin), (dvd_refl (unsigned_abs g), d, λ k p q. p))
 
-pub size_positive : (d : ℤ) → pos 0 <ℤ d → 0 < unsigned_abs d
-size_positive d lt = fractions.size_positive d (positive_nonzero d lt)
-
 -- the quotient times the divisor
 pub quotient_exact : (h a : ℤ) → pos 0 <ℤ h → unsigned_abs h ∣ unsigned_abs a → int_div a h *ℤ h ≡ a
 quotient_exact (pos h) a lt d = quotient_times h a d
@@ -52,7 +49,7 @@ at_least n (suc m) lt = omega arith
 -- a quotient is not larger
 quotient_size : (q h a : ℤ) → pos 0 <ℤ h → q *ℤ h ≡ a → unsigned_abs q ≤ unsigned_abs a
 quotient_size q h a lt e =
-    let l = at_least (unsigned_abs q) (unsigned_abs h) (size_positive h lt) in
+    let l = at_least (unsigned_abs q) (unsigned_abs h) (size_positive h (positive_nonzero h lt)) in
     let f : unsigned_abs a ≡ unsigned_abs q * unsigned_abs h = ap unsigned_abs (sym e) ∙ unsigned_abs-mul q h in
     omega arith
 

@@ -7,9 +7,10 @@ use Rattle.std.proofs.lemmas.Int.{ints, unsigned_abs-mul}
 use Rattle.std.proofs.Math.Nat.{one-mul, eq-one_of_dvd-one, dvd_of_mul-dvd-mul_right}
 use Rattle.poly_num.specs.Vectors.{DividesEach, IsPrimitive}
 use Rattle.poly_num.proofs.Ring.{expand, lin, one_mul, zero_mul, mul_assoc}
-use Rattle.poly_num.proofs.Order.{positive_product, positive_factor}
+use Rattle.poly_num.proofs.FractionLemmas.{size_positive}
+use Rattle.poly_num.proofs.Order.{positive_product, positive_factor, positive_nonzero}
 use Rattle.poly_num.proofs.DivisorLemmas.{quotient_times, unsigned_abs-neg, dvd-multiple}
-use Rattle.columns.proofs.DivisorLemmas.{size_positive, turned_size}
+use Rattle.columns.proofs.DivisorLemmas.{turned_size}
 use Rattle.columns.specs.declared.exchange.Exchange.{Exchange}
 use Rattle.columns.specs.declared.parts.Parts.{Parts}
 use Rattle.columns.specs.Cells.{cell_at, place, pivot_of, IsNewCell, IsTableAfter}
@@ -59,21 +60,18 @@ module _ (old new : List ℤ) (parts : Parts ℤ) (z g f : ℤ) (are : AreParts 
   abbrev x : Exchange
   x = parts.x.now
 
-  abbrev t : ℤ
-  t = parts.factors.now.sign
-
   abbrev h : ℤ
   h = parts.factors.now.common
 
   abbrev y : ℤ
   y = parts.p *ℤ f
 
-  over : (t *ℤ h) *ℤ (g *ℤ y) ≡ pivot_of x old *ℤ x.denominator
+  over : factor_of parts *ℤ (g *ℤ y) ≡ pivot_of x old *ℤ x.denominator
   over = denominator_is old parts z are g f whole
 
   positive : pos 0 <ℤ y
   positive =
-      positive_pivot t h g y (pivot_of x old) x.denominator are.factors.turned.square over
+      positive_pivot parts.factors.now.sign h g y (pivot_of x old) x.denominator are.factors.turned.square over
       (are.factors.turned.positive are.can.nonzero) are.can.denominator are.factors.greatest.positive u.positive
 
   module _ (d : ℕ) (divides : DividesEach d (y ∷ new)) where
@@ -81,11 +79,12 @@ module _ (old new : List ℤ) (parts : Parts ℤ) (z g f : ℤ) (are : AreParts 
     more = d * unsigned_abs g
 
     -- each new cell is over the factors and more
-    new_multiple : (i j : ℕ) → i < x.height → j < x.width → (q : ℤ) × IsNewCell x old i j ((t *ℤ h) *ℤ (pos more *ℤ q))
+    new_multiple : (i j : ℕ) → i < x.height → j < x.width →
+        (q : ℤ) × IsNewCell x old i j (factor_of parts *ℤ (pos more *ℤ q))
     new_multiple i j hi hj =
         let q = multiple_at d new (place x.height i j) (divides.1) in (
           q.0,
-          subst (λ (n : ℤ). IsNewCell x old i j ((t *ℤ h) *ℤ n))
+          subst (λ (n : ℤ). IsNewCell x old i j (factor_of parts *ℤ n))
               (ap (λ (n : ℤ). g *ℤ n) q.1 ∙ both_out d g q.0 u.positive)
               (u.done i j hi hj),
         )
@@ -95,8 +94,8 @@ module _ (old new : List ℤ) (parts : Parts ℤ) (z g f : ℤ) (are : AreParts 
     divides_new_cell i j hi hj n is =
         let q = new_multiple i j hi hj in
         subst (λ (k : ℤ). more * unsigned_abs h ∣ unsigned_abs k)
-        (one_new_cell x old i j ((t *ℤ h) *ℤ (pos more *ℤ q.0)) n q.1 is)
-        (divides_product more t h q.0 are.factors.turned.size)
+        (one_new_cell x old i j (factor_of parts *ℤ (pos more *ℤ q.0)) n q.1 is)
+        (divides_product more parts.factors.now.sign h q.0 are.factors.turned.size)
 
     -- what divides a product with the denominator
     turn : (a b : ℤ) → more * unsigned_abs h ∣ unsigned_abs (a *ℤ b) →
@@ -110,8 +109,8 @@ module _ (old new : List ℤ) (parts : Parts ℤ) (z g f : ℤ) (are : AreParts 
         let e : g *ℤ y ≡ pos more *ℤ q =
         ap (λ (n : ℤ). g *ℤ n) (sym (quotient_times d y (divides.0))) ∙ both_out d g q u.positive in
         turn (pivot_of x old) x.denominator
-        (subst (λ (n : ℤ). more * unsigned_abs h ∣ unsigned_abs n) (ap (λ (n : ℤ). (t *ℤ h) *ℤ n) (sym e) ∙ over)
-        (divides_product more t h q are.factors.turned.size))
+        (subst (λ (n : ℤ). more * unsigned_abs h ∣ unsigned_abs n) (ap (λ (n : ℤ). factor_of parts *ℤ n) (sym e) ∙ over)
+        (divides_product more parts.factors.now.sign h q are.factors.turned.size))
 
     in_corner : more * unsigned_abs h ∣ unsigned_abs x.denominator * unsigned_abs x.denominator
     in_corner =
@@ -163,12 +162,12 @@ module _ (old new : List ℤ) (parts : Parts ℤ) (z g f : ℤ) (are : AreParts 
 
     is_one : d ≡ 1
     is_one =
-        let common = size_positive h are.factors.greatest.positive in
+        let common = size_positive h (positive_nonzero h are.factors.greatest.positive) in
         let l : more ∣ unsigned_abs x.denominator =
         dvd_of_mul-dvd-mul_right more common
         (are.factors.greatest.greatest (more * unsigned_abs h) (unsigned_abs x.denominator) in_all) in
         let k : d * unsigned_abs g ∣ 1 * unsigned_abs g = rw one-mul (u.greatest more l new_multiple) in
-        eq-one_of_dvd-one (dvd_of_mul-dvd-mul_right d (size_positive g u.positive) k)
+        eq-one_of_dvd-one (dvd_of_mul-dvd-mul_right d (size_positive g (positive_nonzero g u.positive)) k)
 
   primitive : IsPrimitive (y ∷ new)
   primitive = (λ n. let e = n.0 in let l = positive in absurd (omega (arith, lin)), λ d _ divides. is_one d divides)
@@ -176,10 +175,10 @@ module _ (old new : List ℤ) (parts : Parts ℤ) (z g f : ℤ) (are : AreParts 
   pub table_after : IsTableAfter x old y new
   table_after = record {
     same_length = u.same_length;
-    factor = (t *ℤ h) *ℤ g;
-    denominator = mul_assoc (t *ℤ h) g y ∙ over;
+    factor = factor_of parts *ℤ g;
+    denominator = mul_assoc (factor_of parts) g y ∙ over;
     cells = λ i j hi hj.
-        subst (IsNewCell x old i j) (sym (mul_assoc (t *ℤ h) g (cell_at x.height new i j))) (u.done i j hi hj);
+        subst (IsNewCell x old i j) (sym (mul_assoc (factor_of parts) g (cell_at x.height new i j))) (u.done i j hi hj);
     positive = positive;
     least = primitive;
   }

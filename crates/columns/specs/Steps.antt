@@ -157,6 +157,12 @@ pub record IsLeftOfColumn (cells : List ℤ) (parts : Parts ℤ) (j m : ℕ) (g 
   pub greatest : (k : ℕ) → k ∣ unsigned_abs g →
       ((i : ℕ) → i < m → (n : ℤ) → IsNumerator cells parts j i n → k ∣ unsigned_abs n) → k ∣ unsigned_abs h
 
+-- h is what is left of the divisor g where it is to divide column j too, and the columns before it, which were over g,
+-- are over h
+pub record IsShrunk (cells : List ℤ) (parts : Parts ℤ) (j : ℕ) (g h : ℤ) (old new : List ℤ) : Type 0 where
+  pub left : IsLeftOfColumn cells parts j parts.x.now.height g h
+  pub rescaled : IsRescaled (j * parts.x.now.height) g h old new
+
 -- column j is written over h, and the columns before it, which were over g, are over h too
 pub record IsColumnDone (cells : List ℤ) (parts : Parts ℤ) (j : ℕ) (g h : ℤ) (old new : List ℤ) : Type 0 where
   pub same_length : length new ≡ length old

@@ -3,6 +3,7 @@ ghost use Rattle.std.specs.Option.{IfSome};
 ghost use Rattle.std.specs.Prelude.{◌≡◌, ◌≢◌, ◌<◌, ◌*◌, ◌+◌, ◌*ℤ◌, ℤ, List, IsTrue, pos, length};
 ghost use Rattle.std.specs.List.{slice_index_or};
 ghost use Rattle.columns.specs.Cells.{cell_at};
+ghost use Rattle.poly_num.specs.Halves.{IsHalf};
 ghost use Rattle.columns.specs.HalfCells.{AreHalvesTo};
 ghost use Rattle.columns.specs.Steps.{AreWordParts, IsOtherColumn, IsScale, AreHalfFactors, IsColumnWritten, AreKept};
 
@@ -26,17 +27,6 @@ fn own_number(parts: &Parts<Word>, i: usize) -> Word
     }
 }
 
-// `a factor`; `None` where that is no word. By 1 nothing is multiplied.
-#[inline(always)]
-fn grown(a: Word, factor: Word) -> Option<Word>
-    ensures { IfSome result (λ w. w ≡ a *ℤ factor) }
-{
-    if factor == Word::ONE {
-        return Some(a);
-    }
-    product(a, factor)
-}
-
 // The new cells of the exchange's column: whether all are halves; `None` where one does not fit.
 fn own_column(parts: &Parts<Word>, new: &mut [Word], factor: Word) -> Option<bool>
     requires own { length parts.now.own.now ≡ parts.now.x.now.height }
@@ -54,7 +44,7 @@ fn own_column(parts: &Parts<Word>, new: &mut [Word], factor: Word) -> Option<boo
     let mut halves = true;
     // new(i) = own(i) factor
     'cells: for i in 0..height {
-        match grown(own_number(parts, i), factor) {
+        match product(own_number(parts, i), factor) {
             Some(q) => {
                 halves = stay_halves(halves, q);
                 new[base + i] = q;
@@ -63,6 +53,35 @@ fn own_column(parts: &Parts<Word>, new: &mut [Word], factor: Word) -> Option<boo
         }
     }
     Some(halves)
+}
+
+// Whether the word is 1.
+fn is_one(a: Word) -> bool
+    ensures { IsTrue result → a ≡ pos 1 }
+{
+    a == Word::ONE
+}
+
+// The new cells of the exchange's column where the factor is 1.
+fn same_own_column(parts: &Parts<Word>, new: &mut [Word])
+    requires own { length parts.now.own.now ≡ parts.now.x.now.height }
+    requires room { length new.old ≡ parts.now.x.now.width * parts.now.x.now.height }
+    requires within { parts.now.x.now.column < parts.now.x.now.width }
+    ensures written { (cells : List ℤ) →
+        IsColumnWritten cells parts.now parts.now.x.now.column parts.now.x.now.height parts.now.x.now.denominator
+        new.new }
+    ensures kept { AreKept (parts.now.x.now.column * parts.now.x.now.height) new.old new.new }
+    ensures halves { IsHalf parts.now.u → AreHalvesTo parts.now.x.now.height parts.now.own.now →
+        AreHalvesTo (parts.now.x.now.column * parts.now.x.now.height) new.old →
+        AreHalvesTo (parts.now.x.now.column * parts.now.x.now.height + parts.now.x.now.height) new.new }
+{
+    let height = parts.x.height;
+    let base = parts.x.column * height;
+    // new(i) = own(i)
+    'cells: for i in 0..height {
+        let c = own_number(parts, i);
+        new[base + i] = c;
+    }
 }
 
 // The cells of a column of which the exchange takes nothing, and which it multiplies by what it divides by.
@@ -131,7 +150,7 @@ fn is_written_in_halves(
 
 // The new cells of another column than the exchange's: whether they are known to be halves; `None` where the divisor
 // does not divide it, or a cell does not fit.
-pub(crate) fn other_column(
+fn other_column(
     cells: &[Word],
     parts: &Parts<Word>,
     new: &mut [Word],
@@ -182,6 +201,10 @@ pub(crate) fn write_column(
 {
     if column != parts.x.column {
         return other_column(cells, parts, new, column, &scale.divisor);
+    }
+    if is_one(scale.factor) {
+        same_own_column(parts, new);
+        return Some(stay_halves(parts.halves, parts.u));
     }
     own_column(parts, new, scale.factor)
 }

@@ -8,7 +8,7 @@ ghost use Rattle.columns.specs.Steps.{AreWordParts, IsScale, IsColumnDone};
 use crate::cells::both;
 use crate::column::write_column;
 use crate::parts::{Parts, Scale, Written};
-use crate::rescale::column_over_less;
+use crate::rescale::shrink_scale;
 use words::{Word, WordDivisor, product};
 
 // The new cells of a column; where the divisor does not divide it, it shrinks, and the columns before grow. Whether
@@ -31,18 +31,20 @@ fn exchange_column(
         IsTrue scale.old.halves × (AreHalvesTo (column * parts.now.x.now.height) new.old →
         AreHalvesTo (column * parts.now.x.now.height + parts.now.x.now.height) new.new) }
 {
-    match write_column(cells, parts, new, column, scale) {
-        Some(halves) => {
+    // each time that it shrinks, the divisor is half as large at most
+    'tries: for _ in 0..64 {
+        if let Some(halves) = write_column(cells, parts, new, column, scale) {
             scale.halves = both(scale.halves, halves);
-            true
+            return true;
         }
-        None => {
-            if column == parts.x.column {
-                return false;
-            }
-            column_over_less(cells, parts, new, column, scale)
+        if column == parts.x.column {
+            return false;
+        }
+        if !shrink_scale(cells, parts, new, column, scale) {
+            return false;
         }
     }
+    false
 }
 
 /// Writes the table after the exchange into `new`, where all of it fits; else the numbers there say nothing.

@@ -60,14 +60,15 @@ pub(crate) fn half_column(
         AreHalvesTo (column * parts.now.x.now.height + result) new.new }
 {
     let own = parts.own;
-    let p = parts.p;
     let b = word_at(cells, parts.x, parts.x.row, column);
-    let by = half_divisor.copied();
+    let Some(cross) = half_divisor.half_cross(parts.p, b) else {
+        return 0;
+    };
     let height = parts.x.height;
     let base = column * height;
     // new(i) = (cells(i) p - own(i) b) / half_divisor
     'halves: for i in 0..height {
-        match by.exact_half_cross(at_place(cells, base + i), p, at_place(own, i), b) {
+        match cross.exact(at_place(cells, base + i), at_place(own, i)) {
             Some(q) => new[base + i] = q,
             None => return i,
         }

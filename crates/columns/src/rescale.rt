@@ -2,10 +2,9 @@
 ghost use Rattle.std.specs.Option.{IfSome};
 ghost use Rattle.std.specs.Prelude.{◌≡◌, ◌≢◌, ◌<◌, ◌*◌, ◌+◌, IsTrue, length};
 ghost use Rattle.columns.specs.HalfCells.{AreHalvesTo};
-ghost use Rattle.columns.specs.Steps.{AreWordParts, IsOtherColumn, IsScale, IsNumerator, IsLeftOfRow, IsLeftOfColumn, IsColumnDone, IsScaled};
+ghost use Rattle.columns.specs.Steps.{AreWordParts, IsOtherColumn, IsScale, IsNumerator, IsLeftOfRow, IsLeftOfColumn, IsShrunk, IsScaled};
 
 use crate::cells::{both, stay_halves};
-use crate::column::other_column;
 use crate::common::shrink;
 use crate::exchange::{Exchange, at_place, word_at};
 use crate::parts::{Parts, Scale};
@@ -30,34 +29,34 @@ fn word_numerator(cells: &[Word], parts: &Parts<Word>, column: usize, i: usize) 
     )
 }
 
-// Makes of a divisor what is left of it where it is to divide row i of another column than the exchange's; no division
-// is made where it does. Whether that is known to be a positive word.
-#[inline(always)]
-fn leave_in_row(
+// What is left of a divisor where it is to divide row i of another column than the exchange's, if that is less; `None`
+// where it is not known to be a positive word.
+#[cold]
+#[inline(never)]
+fn left_in_row(
     cells: &[Word],
     parts: &Parts<Word>,
     column: usize,
     i: usize,
-    divisor: &mut WordDivisor,
-) -> bool
+    divisor: &WordDivisor,
+) -> Option<WordDivisor>
     requires parts { AreWordParts cells.now parts.now }
     requires within { column < parts.now.x.now.width }
     requires other { column ≢ parts.now.x.now.column }
     requires row { i < parts.now.x.now.height }
-    ensures { IsTrue result → IsLeftOfRow cells.now parts.now column i divisor.old divisor.new }
+    ensures { IfSome result (λ h. IsLeftOfRow cells.now parts.now column i divisor.now h) }
 {
     // a divisor is positive
     let g = divisor.word();
-    let x = parts.x;
-    let e = word_at(cells, x, i, column);
-    let b = word_at(cells, x, x.row, column);
-    match divisor.exact_cross(e, parts.p, at_place(parts.own, i), b) {
-        Some(_) => true,
-        None => shrink(divisor, word_numerator(cells, parts, column, i)),
+    let mut less = divisor.copied();
+    if !shrink(&mut less, word_numerator(cells, parts, column, i)) {
+        return None;
     }
+    if less.word() == g { None } else { Some(less) }
 }
 
-// What is left of the divisor where it is to divide a column; `None` where that is not known to be a positive word.
+// What is left of a divisor where it is to divide the first row of a column that it does not divide; `None` where there
+// is none, or that is not known to be a positive word.
 fn left_of_words(
     cells: &[Word],
     parts: &Parts<Word>,
@@ -70,16 +69,18 @@ fn left_of_words(
     ensures { IfSome result (λ h.
         IsLeftOfColumn cells.now parts.now column parts.now.x.now.height divisor.now h) }
 {
-    // a divisor is positive
-    let g = divisor.word();
-    let mut common = divisor.copied();
-    // common = gcd(common, numerator(i))
-    'cells: for i in 0..parts.x.height {
-        if !leave_in_row(cells, parts, column, i, &mut common) {
-            return None;
+    let x = parts.x;
+    let b = word_at(cells, x, x.row, column);
+    // a row that it does not divide: cells(i, column) p - own(i) b
+    'rows: for i in 0..x.height {
+        let e = word_at(cells, x, i, column);
+        let c = at_place(parts.own, i);
+        match divisor.exact_cross(e, parts.p, c, b) {
+            Some(_) => {}
+            None => return left_in_row(cells, parts, column, i, divisor),
         }
     }
-    Some(common)
+    None
 }
 
 // The words of the columns before a column times a factor, where all fit: whether all are halves; else they are lost.
@@ -104,10 +105,11 @@ fn scale_words(new: &mut [Word], x: &Exchange, column: usize, factor: Word) -> O
     Some(halves)
 }
 
-// A column over what is left of the divisor where it is to divide that too, and so the columns before. Whether all fit.
+// Makes the divisor what is left of it where it is to divide another row of a column, and the columns before grow.
+// Whether there is such a row, and all fit.
 #[cold]
 #[inline(never)]
-pub(crate) fn column_over_less(
+pub(crate) fn shrink_scale(
     cells: &[Word],
     parts: &Parts<Word>,
     new: &mut [Word],
@@ -117,11 +119,11 @@ pub(crate) fn column_over_less(
     requires parts { AreWordParts cells.now parts.now }
     requires inside { IsOtherColumn parts.now.x.now column new.old }
     requires scale { IsScale parts.now.x.now shrinking.old.divisor shrinking.old.factor }
-    ensures done { IsTrue result →
-        IsColumnDone cells.now parts.now column shrinking.old.divisor shrinking.new.divisor new.old new.new }
+    ensures shrunk { IsTrue result →
+        IsShrunk cells.now parts.now column shrinking.old.divisor shrinking.new.divisor new.old new.new }
     ensures scale { IsTrue result → IsScale parts.now.x.now shrinking.new.divisor shrinking.new.factor }
-    ensures halves { IsTrue result → IsTrue shrinking.new.halves → IsTrue shrinking.old.halves ×
-        AreHalvesTo (column * parts.now.x.now.height + parts.now.x.now.height) new.new }
+    ensures halves { IsTrue result → IsTrue shrinking.new.halves →
+        IsTrue shrinking.old.halves × AreHalvesTo (column * parts.now.x.now.height) new.new }
 {
     let g = shrinking.divisor.word();
     let Some(less) = left_of_words(cells, parts, column, &shrinking.divisor) else {
@@ -136,15 +138,10 @@ pub(crate) fn column_over_less(
     let Some(before) = scale_words(new, parts.x, column, k) else {
         return false;
     };
-    match other_column(cells, parts, new, column, &less) {
-        Some(here) => {
-            *shrinking = Scale {
-                divisor: less,
-                factor: grown,
-                halves: both(shrinking.halves, both(before, here)),
-            };
-            true
-        }
-        None => false,
-    }
+    *shrinking = Scale {
+        divisor: less,
+        factor: grown,
+        halves: both(shrinking.halves, before),
+    };
+    true
 }

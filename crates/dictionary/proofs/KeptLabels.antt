@@ -1,6 +1,7 @@
 -- The labels of a key that pass a test.
-use Rattle.std.proofs.Common.{ℕ, suc, ◌≤◌, Bool, List, [], ◌∷◌, length, arith}
-use Rattle.std.specs.List.{filter}
+use Rattle.std.proofs.Common.{◌≡◌, ℕ, suc, ◌≤◌, Bool, List, [], ◌∷◌, length, subst, arith}
+use Rattle.std.specs.List.{Contains, filter}
+use Rattle.dictionary.specs.Positions.{AreBelow}
 use Rattle.std.proofs.lemmas.Bool.{cond_both}
 use Rattle.poly_model.specs.Keys.{IsKey}
 use Rattle.dictionary_laws.specs.Keys.{HaveSameLabels}
@@ -25,3 +26,10 @@ same_filter test ks ls h = record {
   there = λ k c. let m = filter_only test ks k c in filter_kept test ls k (h.there k m.0) m.1;
   back = λ k c. let m = filter_only test ls k c in filter_kept test ks k (h.back k m.0) m.1;
 }
+
+-- the labels that pass a test are below what all are below
+pub below_kept : (test : ℕ → Bool) (n : ℕ) (all old kept : List ℕ) → AreBelow all n → old ≡ all →
+    kept ≡ filter test old → AreBelow kept n
+below_kept test n all old kept below same filtered k m =
+    let there = subst (λ (ks : List ℕ). Contains ks k) filtered m in
+    below k (subst (λ (ks : List ℕ). Contains ks k) same (filter_only test old k there).0)

@@ -4,7 +4,7 @@ ghost use Rattle.std.specs.List.{Contains};
 ghost use Rattle.poly_model.specs.Systems.{row_of};
 ghost use Rattle.hull_lift.specs.Facets.{IsColumn, HasPointRows};
 
-use crate::tests::poly_of;
+use crate::tests::{File, poly_of};
 use crate::{facet_row, is_shown, system_of};
 use dictionary::{Dict, Steps};
 use poly_model::{Kind, Label, OutOfMemory, Phase, System};
@@ -27,10 +27,7 @@ enum Named {
 #[derive(Clone, Copy)]
 struct Case {
     name: &'static str,
-    kind: Kind,
-    n: u32,
-    entries: &'static [i128],
-    linear: &'static [bool],
+    file: File,
     exchanges: &'static [[u32; 2]],
     col: Named,
     vector: &'static [i128],
@@ -39,10 +36,12 @@ struct Case {
 
 const SQUARE: Case = Case {
     name: "the corner (0, 0) of a square",
-    kind: Kind::H,
-    n: 3,
-    entries: &[0, 1, 0, 0, 0, 1, 1, -1, 0, 1, 0, -1],
-    linear: &[false, false, false, false],
+    file: File {
+        kind: Kind::H,
+        n: 3,
+        entries: &[0, 1, 0, 0, 0, 1, 1, -1, 0, 1, 0, -1],
+        linear: &[false, false, false, false],
+    },
     exchanges: &[],
     col: Named::Constants,
     vector: &[1, 0, 0],
@@ -51,10 +50,12 @@ const SQUARE: Case = Case {
 
 const WEDGE: Case = Case {
     name: "the corner (-1/2, 0) of a wedge",
-    kind: Kind::H,
-    n: 3,
-    entries: &[1, 2, -3, 0, 0, 1],
-    linear: &[false, false],
+    file: File {
+        kind: Kind::H,
+        n: 3,
+        entries: &[1, 2, -3, 0, 0, 1],
+        linear: &[false, false],
+    },
     exchanges: &[[1, 1]],
     col: Named::Constants,
     vector: &[2, -1, 0],
@@ -63,10 +64,12 @@ const WEDGE: Case = Case {
 
 const SEGMENT: Case = Case {
     name: "1 - x >= 0, which only the second point of a segment touches",
-    kind: Kind::V,
-    n: 2,
-    entries: &[1, 0, 1, 1],
-    linear: &[false, false],
+    file: File {
+        kind: Kind::V,
+        n: 2,
+        entries: &[1, 0, 1, 1],
+        linear: &[false, false],
+    },
     exchanges: &[[1, 0], [2, 1]],
     col: Named::Row(1),
     vector: &[1, -1],
@@ -75,10 +78,12 @@ const SEGMENT: Case = Case {
 
 const HALF_LINE: Case = Case {
     name: "1 >= 0, which only the ray of a half line touches",
-    kind: Kind::V,
-    n: 2,
-    entries: &[1, 0, 0, 1],
-    linear: &[false, false],
+    file: File {
+        kind: Kind::V,
+        n: 2,
+        entries: &[1, 0, 0, 1],
+        linear: &[false, false],
+    },
     exchanges: &[[1, 0], [2, 1]],
     col: Named::Row(1),
     vector: &[1, 0],
@@ -121,9 +126,12 @@ const CASES: [Case; 13] = [
     },
     Case {
         name: "the end 1/2 of a half line, whose column is 4 and 2",
-        n: 2,
-        entries: &[2, -4],
-        linear: &[false],
+        file: File {
+            kind: Kind::H,
+            n: 2,
+            entries: &[2, -4],
+            linear: &[false],
+        },
         vector: &[2, 1],
         ..WEDGE
     },
@@ -163,7 +171,7 @@ fn reads_columns(rt: HostRuntime) -> Result<(), Fail> {
 
 /// The vector of the column, and whether it is shown.
 fn column(alloc: Global, case: Case) -> Result<(Vec<i128>, Option<bool>), Fail> {
-    let poly = poly_of(alloc, case.kind, case.n, case.entries, case.linear)?;
+    let poly = poly_of(alloc, &case.file)?;
     let sys = system_of(alloc, &poly)?;
     let dict = dictionary_at(alloc, &sys, case.exchanges)?;
     let col = label_of(case.col).ok_or("a label")?;

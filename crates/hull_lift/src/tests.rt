@@ -7,15 +7,21 @@ use poly_num::Num;
 use std::alloc::{AllocFailed, Global};
 use std::test::Fail;
 
-/// A file, its rows one after the other, and what its cone has behind or beside them: the added
-/// entries, and which rows are linear and which are points.
+/// A file: its rows one after the other, and which of them are linear.
+#[derive(Clone, Copy)]
+pub(crate) struct File {
+    pub(crate) kind: Kind,
+    pub(crate) n: u32,
+    pub(crate) entries: &'static [i128],
+    pub(crate) linear: &'static [bool],
+}
+
+/// A file, and what its cone has behind or beside its rows: the added entries, and which rows are linear and which are
+/// points.
 #[derive(Clone, Copy)]
 struct Case {
     name: &'static str,
-    kind: Kind,
-    n: u32,
-    entries: &'static [i128],
-    linear: &'static [bool],
+    file: File,
     added: &'static [i128],
     cone_linear: &'static [bool],
     points: &'static [bool],
@@ -24,80 +30,96 @@ struct Case {
 const CASES: [Case; 8] = [
     Case {
         name: "a square",
-        kind: Kind::H,
-        n: 3,
-        entries: &[0, 1, 0, 0, 0, 1, 1, -1, 0, 1, 0, -1],
-        linear: &[false, false, false, false],
+        file: File {
+            kind: Kind::H,
+            n: 3,
+            entries: &[0, 1, 0, 0, 0, 1, 1, -1, 0, 1, 0, -1],
+            linear: &[false, false, false, false],
+        },
         added: &[1, 0, 0],
         cone_linear: &[false, false, false, false, false],
         points: &[false, false, false, false, false],
     },
     Case {
         name: "a ray on the line x = 2",
-        kind: Kind::H,
-        n: 3,
-        entries: &[0, 0, 1, 2, -1, 0],
-        linear: &[false, true],
+        file: File {
+            kind: Kind::H,
+            n: 3,
+            entries: &[0, 0, 1, 2, -1, 0],
+            linear: &[false, true],
+        },
         added: &[1, 0, 0],
         cone_linear: &[false, true, false],
         points: &[false, false, false],
     },
     Case {
         name: "a point, a ray and a line",
-        kind: Kind::V,
-        n: 3,
-        entries: &[0, 1, 0, 2, 3, 1, 0, 0, 1],
-        linear: &[false, false, true],
+        file: File {
+            kind: Kind::V,
+            n: 3,
+            entries: &[0, 1, 0, 2, 3, 1, 0, 0, 1],
+            linear: &[false, false, true],
+        },
         added: &[],
         cone_linear: &[false, false, true],
         points: &[false, true, false],
     },
     Case {
         name: "a ray and a line without a point",
-        kind: Kind::V,
-        n: 4,
-        entries: &[0, 1, 0, 0, 0, 0, 1, -1],
-        linear: &[false, true],
+        file: File {
+            kind: Kind::V,
+            n: 4,
+            entries: &[0, 1, 0, 0, 0, 0, 1, -1],
+            linear: &[false, true],
+        },
         added: &[1, 0, 0, 0],
         cone_linear: &[false, true, false],
         points: &[false, false, true],
     },
     Case {
         name: "the point of no coordinates, by no inequality",
-        kind: Kind::H,
-        n: 1,
-        entries: &[],
-        linear: &[],
+        file: File {
+            kind: Kind::H,
+            n: 1,
+            entries: &[],
+            linear: &[],
+        },
         added: &[1],
         cone_linear: &[false],
         points: &[false],
     },
     Case {
         name: "nothing, by an inequality -1 >= 0",
-        kind: Kind::H,
-        n: 1,
-        entries: &[-1],
-        linear: &[false],
+        file: File {
+            kind: Kind::H,
+            n: 1,
+            entries: &[-1],
+            linear: &[false],
+        },
         added: &[1],
         cone_linear: &[false, false],
         points: &[false, false],
     },
     Case {
         name: "the point of no coordinates, as a point",
-        kind: Kind::V,
-        n: 1,
-        entries: &[1],
-        linear: &[false],
+        file: File {
+            kind: Kind::V,
+            n: 1,
+            entries: &[1],
+            linear: &[false],
+        },
         added: &[],
         cone_linear: &[false],
         points: &[true],
     },
     Case {
         name: "the point of no coordinates, by a row that is zero",
-        kind: Kind::V,
-        n: 1,
-        entries: &[0],
-        linear: &[false],
+        file: File {
+            kind: Kind::V,
+            n: 1,
+            entries: &[0],
+            linear: &[false],
+        },
         added: &[1],
         cone_linear: &[false, false],
         points: &[false, true],
@@ -118,12 +140,12 @@ struct Cone {
 fn gives_the_rows_of_the_cone(rt: HostRuntime) -> Result<(), Fail> {
     let alloc = rt.alloc();
     for case in CASES {
-        let poly = poly_of(alloc, case.kind, case.n, case.entries, case.linear)?;
+        let poly = poly_of(alloc, &case.file)?;
         let found = cone_of(alloc, &system_of(alloc, &poly)?)?;
         let want = Cone {
-            kind: case.kind,
-            n: case.n,
-            entries: joined(alloc, case.entries, case.added)?,
+            kind: case.file.kind,
+            n: case.file.n,
+            entries: joined(alloc, case.file.entries, case.added)?,
             linear: Vec::from_slice(alloc, case.cone_linear)?,
             points: Vec::from_slice(alloc, case.points)?,
         };
@@ -142,25 +164,20 @@ fn cone_of(alloc: Global, system: &System) -> Result<Cone, Fail> {
     })
 }
 
-pub(crate) fn poly_of(
-    alloc: Global,
-    kind: Kind,
-    n: u32,
-    entries: &[i128],
-    linear: &[bool],
-) -> Result<Poly, Fail> {
+pub(crate) fn poly_of(alloc: Global, file: &File) -> Result<Poly, Fail> {
+    let n = file.n;
     let mut cells = Vec::new(alloc);
-    for x in entries {
+    for x in file.entries {
         cells.push(Num::new(*x).ok_or("a number of 127 bits")?)?;
     }
-    let linear = Vec::from_slice(alloc, linear)?;
+    let linear = Vec::from_slice(alloc, file.linear)?;
     if n == 0 || n > MOST_COLUMNS || linear.len() > MOST_FILE_ROWS as usize {
         return Err("few rows, and narrow ones")?;
     }
     if cells.len() != linear.len() * n as usize {
         return Err("n entries for each mark")?;
     }
-    Ok(Poly::new(kind, n, cells, linear, Vec::new(alloc)))
+    Ok(Poly::new(file.kind, n, cells, linear, Vec::new(alloc)))
 }
 
 fn joined(alloc: Global, front: &[i128], back: &[i128]) -> Result<Vec<i128>, Fail> {

@@ -14,8 +14,8 @@ use Rattle.dictionary.specs.Views.{Dictionary, IsDictionaryIn, table_of}
 use Rattle.linearity.specs.declared.eliminate.Pass.TheVariants.{Linear, Others}
 use Rattle.linearity.specs.Elimination.{IsDictionaryOf, IsEliminated}
 
--- the lines, by ascending free column, and the dictionary of the start cobasis in the main space, which has a point. The rows and columns
--- are few enough for labels
+-- the lines, by ascending free column, and the dictionary of the start cobasis in the main space, which has a point.
+-- The rows and columns are few enough for labels
 pub record IsPrepared (p : Polyhedron) (lines : List Vector) (free : List ℕ) (d : Dictionary) : Type 0 where
   pub few : length (cone_of p).rows < coordinates_from
   pub narrow : p.n ≤ most_columns

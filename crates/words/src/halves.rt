@@ -1,60 +1,81 @@
 //! Exact division where all numbers fit half a machine word: no product takes more than one word.
 ghost use Rattle.std.specs.Int.{w64, int_wrap};
 ghost use Rattle.std.specs.Option.{IfSome};
-ghost use Rattle.std.specs.Prelude.{◌≡◌, ◌*ℤ◌, ◌-ℤ◌, FitsSigned};
+ghost use Rattle.std.specs.Prelude.{◌≡◌, ◌<◌, ◌-◌, ◌^◌, ◌*ℤ◌, ◌-ℤ◌, pos};
 ghost use Rattle.poly_num.specs.Halves.{IsHalf};
+ghost use Rattle.words.specs.Crosses.{IsCrossOf};
 
 use crate::divisor::WordDivisor;
 use crate::word::Word;
+use std::marker::Model;
 
-impl WordDivisor {
+/// `a p - c b` over a divisor for many `a` and `c`, where all of it fits half a machine word. With the inverse of the
+/// divisor's odd part modulo 2^64, `p` and `b` are multiplied once, so that two products give the quotient times the
+/// divisor's twos. Where that has these twos and the quotient is a half, it is right: times the odd part it has the
+/// same low word as `a p - c b`, and both fit a word.
+#[derive(Drop)]
+pub struct HalfCross {
+    p: i64,
+    b: i64,
+    divisor: i64,
+    odd: i64,
+    twos: u32,
+    mask: u64,
+    // p and b times the inverse
+    times_p: i64,
+    times_b: i64,
+}
+
+impl Model for HalfCross {
+    ghost use Rattle.words.specs.Crosses.{Cross, IsInverted};
+
+    ghost Value = { Cross };
+
+    ghost view = { λ h. record { p = h.p; b = h.b; divisor = h.divisor } };
+
+    ghost invariant = { λ h. IsInverted h.p h.b h.divisor h.odd h.twos h.mask h.times_p h.times_b };
+}
+
+impl HalfCross {
     /// `a p - c b` over the divisor, where that is a half; `None` says nothing.
     #[inline(always)]
-    pub fn exact_half_cross(&self, a: Word, p: Word, c: Word, b: Word) -> Option<Word>
-        requires divisor { IsHalf self.now }
+    pub fn exact(&self, a: Word, c: Word) -> Option<Word>
         requires a { IsHalf a }
-        requires p { IsHalf p }
         requires c { IsHalf c }
-        requires b { IsHalf b }
-        ensures { IfSome result (λ q. (q *ℤ self.now ≡ a *ℤ p -ℤ c *ℤ b) × IsHalf q) }
+        ensures { IfSome result (λ q.
+            (q *ℤ self.now.divisor ≡ a *ℤ self.now.p -ℤ c *ℤ self.now.b) × IsHalf q) }
     {
-        let n = half_cross(a, p, c, b);
-        let q = self.tested_half(n)?;
+        let n = difference(
+            low_product(a.value, self.times_p),
+            low_product(c.value, self.times_b),
+        );
+        let value = without_twos(n, self.twos, self.mask)?;
+        let q = half(value)?;
         Some(q)
     }
-
-    // The word over the divisor, where that is a half; `None` says nothing.
-    #[inline(always)]
-    fn tested_half(&self, n: i64) -> Option<Word>
-        requires { IsHalf self.now }
-        ensures { IfSome result (λ q. (q *ℤ self.now ≡ n) × IsHalf q) }
-    {
-        let guess = (n >> (self.twos % 64)).wrapping_mul(self.inverse);
-        let value = tested_guess(guess, self.value, n)?;
-        Some(Word { value })
-    }
 }
 
-// The guess, where it is a half and its product with the divisor is `n`. It is quicker to test the product first.
+// The number over so many twos, where it has them; the mask has as many ones.
 #[inline(always)]
-fn tested_guess(guess: i64, divisor: i64, n: i64) -> Option<i64>
-    requires { IsHalf divisor }
-    ensures { IfSome result (λ q. (q *ℤ divisor ≡ n) × IsHalf q) }
+fn without_twos(n: i64, twos: u32, mask: u64) -> Option<i64>
+    requires few { twos < 32 }
+    requires mask { mask ≡ 2 ^ twos - 1 }
+    ensures { IfSome result (λ q. q *ℤ pos (2 ^ twos) ≡ n) }
 {
-    if low_product(guess, divisor) != n {
-        return None;
+    if n.cast_unsigned() & mask == 0 {
+        Some(n >> twos)
+    } else {
+        None
     }
-    let q = half(guess)?;
-    Some(q)
 }
 
-// The value, where it is a half.
+// The word of this value, where it is a half.
 #[inline(always)]
-fn half(value: i64) -> Option<i64>
+fn half(value: i64) -> Option<Word>
     ensures { IfSome result (λ h. (h ≡ value) × IsHalf h) }
 {
     if -(1 << 31) < value && value < 1 << 31 {
-        Some(value)
+        Some(Word { value })
     } else {
         None
     }
@@ -68,35 +89,64 @@ fn low_product(a: i64, b: i64) -> i64
     a.wrapping_mul(b)
 }
 
-// `a p - c b`.
-#[inline(always)]
-#[tactic(auto, using(poly_num::proofs::HalfLemmas::halves_cross))]
-fn half_cross(a: Word, p: Word, c: Word, b: Word) -> i64
-    requires a { IsHalf a }
-    requires p { IsHalf p }
-    requires c { IsHalf c }
-    requires b { IsHalf b }
-    ensures { result ≡ a *ℤ p -ℤ c *ℤ b }
-{
-    difference(half_product(a, p), half_product(c, b))
-}
-
-// `a b`.
-#[inline(always)]
-#[tactic(auto, using(poly_num::proofs::HalfLemmas::halves_product))]
-fn half_product(a: Word, b: Word) -> i64
-    requires a { IsHalf a }
-    requires b { IsHalf b }
-    ensures { result ≡ a *ℤ b }
-{
-    a.value * b.value
-}
-
-// `a - b`, where it is known to fit.
+// The low word of `a - b`.
 #[inline(always)]
 fn difference(a: i64, b: i64) -> i64
-    requires { FitsSigned w64 (a -ℤ b) }
-    ensures { result ≡ a -ℤ b }
+    ensures { result ≡ int_wrap w64 (a -ℤ b) }
 {
-    a - b
+    a.wrapping_sub(b)
+}
+
+impl WordDivisor {
+    /// What takes `a p - c b` over the divisor, where all that it takes fits half a machine word; `None` says nothing.
+    #[inline(always)]
+    pub fn half_cross(&self, p: Word, b: Word) -> Option<HalfCross>
+        requires divisor { IsHalf self.now }
+        requires p { IsHalf p }
+        requires b { IsHalf b }
+        ensures { IfSome result (λ h. IsCrossOf h p b self.now) }
+    {
+        let twos = self.twos;
+        if twos >= 32 {
+            return None;
+        }
+        let odd = self.value >> twos;
+        let times_p = low_product(p.value, self.inverse);
+        let times_b = low_product(b.value, self.inverse);
+        if low_product(odd, times_p) != p.value {
+            return None;
+        }
+        if low_product(odd, times_b) != b.value {
+            return None;
+        }
+        if with_twos(odd, twos) != self.value {
+            return None;
+        }
+        Some(HalfCross {
+            p: p.value,
+            b: b.value,
+            divisor: self.value,
+            odd,
+            twos,
+            mask: ones(twos),
+            times_p,
+            times_b,
+        })
+    }
+}
+
+// The low word of the number times so many twos.
+fn with_twos(odd: i64, twos: u32) -> i64
+    requires { twos < 32 }
+    ensures { result ≡ int_wrap w64 (odd *ℤ pos (2 ^ twos)) }
+{
+    odd << twos
+}
+
+// So many ones.
+fn ones(count: u32) -> u64
+    requires { count < 32 }
+    ensures { result ≡ 2 ^ count - 1 }
+{
+    (1 << count) - 1
 }

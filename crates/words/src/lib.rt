@@ -8,4 +8,5 @@ mod tests;
 mod word;
 
 pub use divisor::WordDivisor;
+pub use halves::HalfCross;
 pub use word::{Word, product, wide_cross};

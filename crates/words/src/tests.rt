@@ -21,7 +21,7 @@ fn positive(value: i128) -> Word
 
 fn half_quotient(divisor: &WordDivisor, a: Word, p: Word, c: Word, b: Word) -> Option<i128> {
     if divisor.word().is_half() && a.is_half() && p.is_half() && c.is_half() && b.is_half() {
-        value_of(divisor.exact_half_cross(a, p, c, b))
+        value_of(divisor.half_cross(p, b)?.exact(a, c))
     } else {
         None
     }

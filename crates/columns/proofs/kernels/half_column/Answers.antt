@@ -1,5 +1,5 @@
-use Rattle.std.proofs.Common.{refl, ap, sym, ℤ, ◌*ℤ◌, ◌∙◌, rules, arith, ◌<◌, ◌+◌, ◌*◌, length}
-use Rattle.columns.proofs.ColumnLemmas.{written_more, kept_more, inside_is}
+use Rattle.std.proofs.Common.{refl, rules, arith, ◌<◌, ◌*◌}
+use Rattle.columns.proofs.ColumnLemmas.{place_there, written_more, kept_more, inside_is}
 use Rattle.columns.proofs.HalfCellLemmas.{halves_more}
 use Rattle.columns.proofs.kernels.half_column.Goals as goal
 
@@ -7,16 +7,19 @@ pub halves-preserved : goal.halves-preserved
 halves-preserved c =
     let parts = c.args.parts.now in
     let j = c.args.column in
-    let q = c.in-Some.q in
-    let lt : j * parts.x.now.height + c.halves.i < length c.halves.new = search rules in
+    let q = c.in-Some-exact.q in
+    let is = c.in-Some.ensures in
+    let here : c.halves.i < parts.x.now.height = search rules in
+    let lt =
+    place_there parts.x.now j c.halves.i c.args.new.now c.halves.new c.requires.inside c.halves.invariant.kept here in
     record {
       kept = kept_more _ c.args.new.now c.halves.new _ q (omega arith) c.halves.invariant.kept;
       halves = λ first.
-          halves_more (j * parts.x.now.height) c.halves.i c.halves.new q lt c.in-Some.ensures.1
+          halves_more (j * parts.x.now.height) c.halves.i c.halves.new q lt c.in-Some-exact.ensures.1
           (c.halves.invariant.halves first);
       written =
           written_more c.args.cells.now parts j c.args.half_divisor.now c.halves.i c.halves.new q _ lt
-          (ap (λ (z : ℤ). q *ℤ z) (sym c.copied-by.ensures) ∙ c.in-Some.ensures.0)
+          (rw (← is.0, ← is.1, ← is.2) c.in-Some-exact.ensures.0)
           (inside_is c.args.cells.now parts j c.requires.parts.are.own.leaving c.requires.inside.other c.halves.i _ _ _ _
           c.at_place.ensures c.at_place-in-halves.ensures c.word_at-b.ensures refl)
           c.halves.invariant.written;

@@ -1,5 +1,5 @@
-use Rattle.std.proofs.Common.{refl, rules, arith, ◌<◌, ◌+◌, ◌*◌, length}
-use Rattle.columns.proofs.ColumnLemmas.{written_more, kept_more, stays_is}
+use Rattle.std.proofs.Common.{refl, rules}
+use Rattle.columns.proofs.ColumnLemmas.{cell_written, stays_is}
 use Rattle.columns.proofs.wide_column.same_column.Goals as goal
 
 pub cells-preserved : goal.cells-preserved
@@ -9,11 +9,8 @@ cells-preserved c =
     let j = c.args.column in
     let g = c.args.divisor.now in
     let e = c.at-e.result in
-    let lt : j * parts.x.now.height + c.cells.i < length c.cells.new = search rules in
-    record {
-      written =
-          written_more old parts j g c.cells.i c.cells.new e _ lt refl
-          (stays_is old parts j c.requires.inside.other g c.requires.nothing c.requires.same c.cells.i e c.at-e.ensures)
-          c.cells.invariant.written;
-      kept = kept_more _ c.args.new.now c.cells.new _ e (omega arith) c.cells.invariant.kept;
-    }
+    let more =
+    cell_written old parts j g c.cells.i c.args.new.now c.cells.new e _ c.requires.inside (search rules) refl
+    (stays_is old parts j c.requires.inside.other g c.requires.nothing c.requires.same c.cells.i e c.at-e.ensures)
+    c.cells.invariant.written c.cells.invariant.kept in
+    record { written = more.0; kept = more.1 }

@@ -6,8 +6,8 @@ use Rattle.dictionary.specs.Views.{Dictionary, IsWhole}
 use Rattle.dictionary.specs.MainPhase.{kept_rows, kept}
 use Rattle.dictionary.specs.Arrangements.{IsWithoutDivisor}
 use Rattle.dictionary.specs.FirstPhase.{is_other}
-use Rattle.dictionary_laws.proofs.Filters.{filter_only}
-use Rattle.dictionary.proofs.KeptLabels.{key_filter}
+use Rattle.dictionary.specs.Positions.{label_count}
+use Rattle.dictionary.proofs.KeptLabels.{key_filter, below_kept}
 use Rattle.dictionary.proofs.KeptNumbers.{rows_are_labels, staying_in_key, whole_kept}
 use Rattle.dictionary.proofs.WithoutDivisor.{at_labels, kept_at}
 use Rattle.dictionary.proofs.DroppedT.{other_rows, drops_t}
@@ -70,10 +70,9 @@ part-requires-clause-whole c =
     (whole_kept c.args.self is_other is_other (whole all) (λ k e. e))
 
 pub part-requires-clause-below : goal.part-requires-clause-below
-part-requires-clause-below c k m =
-    let there = subst (λ (ks : List ℕ). Contains ks k) c.in_ok-labels.ensures m in
-    let old = (filter_only is_other c.deref.result.now k there).0 in
-    c.self.invariant.3 k (subst (λ (ks : List ℕ). Contains ks k) c.deref.ensures.value old)
+part-requires-clause-below c =
+    below_kept is_other label_count _ c.deref.result.now c.in_ok-labels.labels.items c.self.invariant.3
+    c.deref.ensures.value c.in_ok-labels.ensures
 
 pub returns : goal.returns
 returns c =
