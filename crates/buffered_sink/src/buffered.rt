@@ -1,0 +1,79 @@
+//! A sink with a buffer in front of it.
+ghost use Rattle.std.specs.Prelude.{◌≡◌, [], IsOk, OnOk};
+ghost use Rattle.std.specs.Io.KnownBytes.{Keeps, append_known};
+ghost use Rattle.poly_io.specs.Written.{Prints};
+ghost use Rattle.buffered_sink.specs.Growth.{HasGrown, HasGrown-prop};
+
+use crate::Base;
+use crate::hand::hand_on;
+use crate::held::Held;
+use poly_io::{Failed, Sink, WriteFault};
+use std::marker::PhantomData;
+
+/// A sink that holds up to 8 KiB of what is written to it, and hands them on to the sink `inner`.
+pub struct Buffered<B: Base, S: Sink> {
+    inner: S,
+    held: Held,
+    of: PhantomData<B>,
+    ghost grown: { HasGrown B.base (S.written inner) } by { HasGrown-prop B.base (S.written inner) },
+}
+
+impl<B: Base, S: Sink> Buffered<B, S> {
+    pub fn new(inner: S) -> Buffered<B, S>
+        requires { HasGrown B.base (S.written inner) }
+        ensures inner { result.inner ≡ inner }
+        ensures held { result.held ≡ [] }
+    {
+        Buffered {
+            inner,
+            held: Held::new(),
+            of: PhantomData,
+        }
+    }
+
+    pub fn flush(&mut self) -> Result<(), WriteFault>
+        ensures prints { Prints S.Sink self.old.inner self.new.inner result self.old.held }
+        ensures kept { Keeps (append_known (S.written self.old.inner) self.old.held)
+            (append_known (S.written self.new.inner) self.new.held) }
+        ensures empty { OnOk result (self.new.held ≡ []) }
+        ensures idle { self.old.held ≡ [] → (self.new.inner ≡ self.old.inner) × IsOk result }
+    {
+        let (count, end) = hand_on(self.held.as_slice(), &mut self.inner);
+        self.held.remove_front(count);
+        end
+    }
+
+    pub fn finish(self) -> (S, Result<(), WriteFault>)
+        ensures prints { Prints S.Sink self.inner result.0 result.1 self.held }
+        ensures grown { HasGrown B.base (S.written result.0) }
+        ensures idle { self.held ≡ [] → (result.0 ≡ self.inner) × IsOk result.1 }
+    {
+        let mut sink = self;
+        let end = sink.flush();
+        let Buffered {
+            inner,
+            held: _,
+            of: _,
+        } = sink;
+        (inner, end)
+    }
+}
+
+impl<B: Base, S: Sink> Sink for Buffered<B, S> {
+    ghost written = { λ s. append_known (S.written s.inner) s.held };
+
+    ghost faults = { λ s. S.faults s.inner };
+
+    fn write(&mut self, bytes: &[u8]) -> Result<usize, Failed> {
+        if self.held.append(bytes) {
+            return Ok(bytes.len());
+        }
+        if self.flush().is_err() {
+            return Err(Failed);
+        }
+        if self.held.append(bytes) {
+            return Ok(bytes.len());
+        }
+        self.inner.write(bytes)
+    }
+}
