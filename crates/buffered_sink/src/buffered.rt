@@ -1,7 +1,8 @@
 //! A sink with a buffer in front of it.
-ghost use Rattle.std.specs.Prelude.{◌≡◌, [], IsOk, OnOk};
+ghost use Rattle.std.specs.Prelude.{◌≡◌, ℕ, List, [], IsOk, OnOk};
 ghost use Rattle.std.specs.Io.KnownBytes.{Keeps, append_known};
-ghost use Rattle.poly_io.specs.Written.{Prints};
+ghost use Rattle.poly_io.specs.Causes.{HasCause};
+ghost use Rattle.poly_io.specs.Written.{AppendsPart, Prints};
 ghost use Rattle.buffered_sink.specs.Growth.{HasGrown, HasGrown-prop};
 
 use crate::Base;
@@ -23,6 +24,7 @@ impl<B: Base, S: Sink> Buffered<B, S> {
         requires { HasGrown B.base (S.written inner) }
         ensures inner { result.inner ≡ inner }
         ensures held { result.held ≡ [] }
+        ensures told { append_known (S.written result.inner) result.held ≡ S.written inner }
     {
         Buffered {
             inner,
@@ -44,8 +46,10 @@ impl<B: Base, S: Sink> Buffered<B, S> {
     }
 
     pub fn finish(self) -> (S, Result<(), WriteFault>)
-        ensures prints { Prints S.Sink self.inner result.0 result.1 self.held }
-        ensures grown { HasGrown B.base (S.written result.0) }
+        ensures whole { OnOk result.1 (Keeps (append_known (S.written self.inner) self.held) (S.written result.0)) }
+        ensures part { (text : List ℕ) → AppendsPart B.base (append_known (S.written self.inner) self.held) text
+            → AppendsPart B.base (S.written result.0) text }
+        ensures cause { HasCause (S.faults self.inner) (S.faults result.0) result.1 }
         ensures idle { self.held ≡ [] → (result.0 ≡ self.inner) × IsOk result.1 }
     {
         let mut sink = self;

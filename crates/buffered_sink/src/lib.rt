@@ -5,6 +5,11 @@ mod base;
 mod buffered;
 mod hand;
 mod held;
+mod through;
 
 pub use base::Base;
 pub use buffered::Buffered;
+pub use through::write_through;
+
+#[cfg(test)]
+mod tests;

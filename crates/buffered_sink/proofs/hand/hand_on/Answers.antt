@@ -11,11 +11,11 @@ loop-count-preserved g c =
     let rest = take_rest bytes count in
     record {
       within =
-        let bound = rw rest at c.in-Ok.ensures.bound in
-        omega (arith, bound, c.loop-count-test.true, length-drop count bytes);
+          let bound = rw rest at c.in-Ok.ensures.bound in
+          omega (arith, bound, c.loop-count-test.true, length-drop count bytes);
       bytes =
-        rw (take-add count c.in-Ok.taken bytes)
-        (Appends-trans _ _ _ _ _ c.loop-count.invariant.bytes (rw rest at c.in-Ok.ensures.bytes));
+          rw (take-add count c.in-Ok.taken bytes)
+          (Appends-trans _ _ _ _ _ c.loop-count.invariant.bytes (rw rest at c.in-Ok.ensures.bytes));
       same = c.in-Ok.ensures.cause.same ∙ c.loop-count.invariant.same;
       idle = λ e. let h : ⊥ = omega (arith, c.loop-count-test.true, ap length e) in absurd h;
     }
