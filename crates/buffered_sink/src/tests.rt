@@ -68,7 +68,7 @@ const CASES: [Case; 6] = [
     },
 ];
 
-/// A text in which no byte stands where another one of its neighbours might.
+/// A text of bytes that count from 0 to 250, again and again.
 fn text() -> [u8; 9012] {
     let mut text = [0; 9012];
     let mut next = 0u8;
@@ -101,5 +101,7 @@ fn hands_on_what_was_written(rt: HostRuntime) -> Result<(), Fail> {
         let first = text.get(..case.written).unwrap_or_default();
         assert_eq!(rt; found, (case.end, first, case.faults), "{}", case.name);
     }
+    let (out, end) = write_through(b"abc", MemSink::new(rt.alloc(), &[]));
+    assert_eq!(rt; (end, out.written()), (Ok(()), b"abc".as_slice()));
     Ok(())
 }
