@@ -1,8 +1,8 @@
 -- What a sink has, once what is held for it was handed on.
-use Rattle.std.proofs.Common.{◌≡◌, ℕ, List, [], ◌++◌, None, Some, Option, Result, Ok, Err, OnOk, refl, sym, ap, ◌∙◌, append_assoc, append-nil, length, drop}
+use Rattle.std.proofs.Common.{◌≡◌, ℕ, List, [], ◌++◌, None, Some, Option, Result, Ok, Err, refl, sym, ap, ◌∙◌, append_assoc, append-nil, length, drop}
 use Rattle.std.proofs.lemmas.List.{append_cancel_left}
 use Rattle.std.proofs.KnownBytes.{starts_with_rest}
-use Rattle.std.specs.Io.KnownBytes.{Appends, Keeps, append_known}
+use Rattle.std.specs.Io.KnownBytes.{append_known}
 use Rattle.poly_io.specs.declared.sink.Sink.{Ghosts as Sink}
 use Rattle.poly_io.specs.Written.{AppendsPart, Prints}
 use Rattle.buffered_sink.specs.Growth.{HasGrown}

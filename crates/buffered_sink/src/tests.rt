@@ -74,7 +74,7 @@ fn text() -> [u8; 9012] {
     let mut next = 0u8;
     for byte in &mut text {
         *byte = next;
-        next = if next == 250 { 0 } else { next + 1 };
+        next = if next >= 250 { 0 } else { next + 1 };
     }
     text
 }

@@ -1,4 +1,4 @@
-use Rattle.std.proofs.Common.{◌≡◌, ◌≤◌, ℕ, ◌+◌, ◌-◌, ◌∙◌, ap, length, take, drop, take-add, arith}
+use Rattle.std.proofs.Common.{◌∙◌, ap, length, take-add, arith}
 use Rattle.std.proofs.lemmas.List.{take_rest, length-drop}
 use Rattle.std.proofs.KnownBytes.{Appends-trans, Appends-kept}
 use Rattle.buffered_sink.proofs.HandLemmas.{failed_later, prints_first}
