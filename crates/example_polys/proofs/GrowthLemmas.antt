@@ -1,5 +1,5 @@
 -- Lists of rows, and their cells, that grow by what one turn of a loop puts behind them.
-use Rattle.std.proofs.Common.{◌≡◌, ℕ, zero, suc, ◌+◌, ℤ, List, [], ◌∷◌, ◌++◌, map, replicate, refl, sym, ap, ◌∙◌, append-nil, append_assoc, add-one, arith}
+use Rattle.std.proofs.Common.{◌≡◌, ℕ, zero, suc, ◌+◌, ℤ, List, [], ◌∷◌, ◌++◌, map, replicate, sym, ap, ◌∙◌, append-nil, append_assoc, add-one, arith}
 use Rattle.std.specs.List.{flat_map, range_with_len}
 use Rattle.std.proofs.lemmas.List.{map-append, replicate-append-replicate}
 use Rattle.std.proofs.lemmas.Grind.{flat_map-append}

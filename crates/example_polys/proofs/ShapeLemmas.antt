@@ -1,5 +1,5 @@
 -- How many rows an example has, how wide they are, and that its cells are read as its rows.
-use Rattle.std.proofs.Common.{◌≡◌, ℕ, zero, suc, ◌+◌, ◌-◌, ◌*◌, ◌<◌, ◌≤◌, ℤ, pos, Bool, false, List, [], ◌∷◌, ◌++◌, map, replicate, length, take, drop, refl, sym, ap, subst, ◌∙◌, length-append, arith}
+use Rattle.std.proofs.Common.{◌≡◌, ℕ, zero, suc, ◌+◌, ◌-◌, ◌*◌, ◌<◌, ◌≤◌, ℤ, pos, false, List, [], ◌∷◌, ◌++◌, map, replicate, length, take, drop, refl, ap, subst, length-append, arith}
 use Rattle.std.specs.List.{flat_map, range_with_len, AllByRecursion}
 use Rattle.std.proofs.lemmas.List.{length-replicate}
 use Rattle.std.proofs.lemmas.List.FromFn.{length-map-range_with_len}
@@ -12,7 +12,7 @@ use Rattle.poly_model.specs.Tables.{file_rows_in, IsShaped}
 use Rattle.example_polys.specs.declared.kind.ExampleKind.{ExampleKind}
 use Rattle.example_polys.specs.declared.kind.ExampleKind.TheVariants.{Cube, Cross, Product, Pyramid}
 use Rattle.example_polys.specs.Cells.{joined}
-use Rattle.example_polys.specs.Examples.{one, minus_one, one_at, unit_rows, cube, cross, product, side, sides, pyramid, rows_of, width_of, file_kind, plain_row, example_of}
+use Rattle.example_polys.specs.Examples.{one, minus_one, one_at, unit_rows, side, sides, rows_of, width_of, file_kind, plain_row, example_of}
 
 abbrev pub HasWidth : ℕ → Vector → Type 0
 HasWidth w row = length row ≡ w

@@ -1,6 +1,5 @@
-use Rattle.std.proofs.Common.{◌≡◌, ◌∙◌, sym, ap, ◌++◌}
 use Rattle.example_polys.proofs.GrowthLemmas.{groups_more, two_behind}
-use Rattle.example_polys.specs.Examples.{side, sides}
+use Rattle.example_polys.specs.Examples.{sides}
 use Rattle.example_polys.proofs.rows.push_sides.Goals as goal
 
 pub loop-i-preserved : goal.loop-i-preserved
