@@ -8,8 +8,8 @@ use Rattle.poly_io.specs.Written.{AppendsPart, Prints}
 use Rattle.buffered_sink.specs.Growth.{HasGrown}
 
 -- whatever the end is, first bytes of what was held went on
-pub part_went_on : {I T E : Type 0} {sink : Sink I} {a b : I} {r : Result T E} {held : List ℕ} → Prints sink a b r held →
-    AppendsPart (sink.written a) (sink.written b) held
+pub part_went_on : {I T E : Type 0} {sink : Sink I} {a b : I} {r : Result T E} {held : List ℕ} →
+    Prints sink a b r held → AppendsPart (sink.written a) (sink.written b) held
 part_went_on {r = Err e} p = p.part
 part_went_on {r = Ok x} {held = held} p =
     record { sent = held; unsent = []; split = sym (append-nil held); bytes = p.whole }

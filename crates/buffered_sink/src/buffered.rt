@@ -50,9 +50,9 @@ impl<B: Base, S: Sink> Buffered<B, S> {
         end
     }
 
-    /// Hands on what is held, and gives the inner sink back. At Ok it has written all that was written to this one. At
-    /// a fault the bytes that did not go on are lost: of a text that was written since the base, or of which first bytes
-    /// were, it has written first bytes.
+    /// Hands on what is held, and gives the inner sink back. At Ok it has written all that was written to this one.
+    /// At a fault the bytes that did not go on are lost: of a text that was written since the base, or of which first
+    /// bytes were, it has written first bytes.
     pub fn finish(self) -> (S, Result<(), WriteFault>)
         ensures whole { OnOk result.1
             (Keeps (append_known (S.written self.inner) self.held) (S.written result.0)) }

@@ -49,9 +49,9 @@ rows_count Cross n =
       unit_count one n minus_one,
     )
 rows_count Product n =
-    let halves : List Vector =
-    (one ∷ (replicate n minus_one ++ replicate n (pos 0))) ∷ (one ∷ (replicate n (pos 0) ++ replicate n minus_one)) ∷ [] in
-    omega (arith, length-append (unit_rows (pos 0) (2 * n) one) halves, unit_count (pos 0) (2 * n) one)
+    let first : Vector = one ∷ (replicate n minus_one ++ replicate n (pos 0)) in
+    let second : Vector = one ∷ (replicate n (pos 0) ++ replicate n minus_one) in
+    omega (arith, length-append (unit_rows (pos 0) (2 * n) one) (first ∷ second ∷ []), unit_count (pos 0) (2 * n) one)
 rows_count Pyramid n = omega (arith, sides_count n 0 n)
 
 -- ---- widths
@@ -133,8 +133,9 @@ pub read_back : (w : ℕ) (rows : List Vector) → AllByRecursion (HasWidth w) r
 read_back w [] p = refl
 read_back w (row ∷ rows) p =
     let rest = joined rows in
-    let first : take w (row ++ rest) ≡ row = subst (λ k. take k (row ++ rest) ≡ row) p.0 (take-append_seam row rest) in
-    let behind : drop w (row ++ rest) ≡ rest = subst (λ k. drop k (row ++ rest) ≡ rest) p.0 (drop-append_seam row rest) in
+    let all = row ++ joined rows in
+    let first : take w all ≡ row = subst (λ k. take k all ≡ row) p.0 (take-append_seam row rest) in
+    let behind : drop w all ≡ rest = subst (λ k. drop k all ≡ rest) p.0 (drop-append_seam row rest) in
     rw (first, behind) (ap (λ l. plain_row row ∷ l) (read_back w rows p.1))
 
 few_rows : (kind : ExampleKind) (n : ℕ) → n ≤ 20 → length (rows_of kind n) ≤ most_file_rows
@@ -160,7 +161,8 @@ few_columns Pyramid n few = omega (arith, few)
 
 -- the cells of an example are rows of its width
 pub shaped : (kind : ExampleKind) (n : ℕ) → n ≤ 20 →
-    IsShaped most_file_rows (length (replicate (length (rows_of kind n)) false)) (width_of kind n) (joined (rows_of kind n))
+    IsShaped most_file_rows (length (replicate (length (rows_of kind n)) false)) (width_of kind n)
+    (joined (rows_of kind n))
 shaped kind n few =
     let rows = rows_of kind n in
     rw (length-replicate (length rows) false) (record {

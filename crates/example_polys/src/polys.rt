@@ -7,8 +7,8 @@ use crate::families::cells_of;
 use poly_model::{Kind, OutOfMemory, Poly};
 use std::alloc::Global;
 
-/// The polyhedron of a family at n, as if a file had given its rows in this order: rows of `width_of` whole numbers, none
-/// of them linear. It has no text. An error comes only where memory was refused.
+/// The polyhedron of a family at n, as if a file had given its rows in this order: `example_of`. Its rows have as many
+/// whole numbers as `width_of` says, and none is linear; it has no text. An error comes where memory was refused.
 pub fn example(alloc: Global, kind: ExampleKind, n: u32) -> Result<Poly, OutOfMemory>
     requires { n ≤ 20 }
     ensures { IfOk result (λ p. p ≡ example_of kind n) }
