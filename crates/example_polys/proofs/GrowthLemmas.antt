@@ -1,0 +1,54 @@
+-- Lists of rows, and their cells, that grow by what one turn of a loop puts behind them.
+use Rattle.std.proofs.Common.{◌≡◌, ℕ, zero, suc, ◌+◌, ℤ, List, [], ◌∷◌, ◌++◌, map, replicate, sym, ap, ◌∙◌, append-nil, append_assoc, add-one, arith}
+use Rattle.std.specs.List.{flat_map, range_with_len}
+use Rattle.std.proofs.lemmas.List.{map-append, replicate-append-replicate}
+use Rattle.std.proofs.lemmas.Grind.{flat_map-append}
+use Rattle.poly_num.specs.Vectors.{Vector}
+use Rattle.example_polys.specs.Cells.{joined}
+
+pub replicate_more : {X : Type 0} (n : ℕ) (x : X) → replicate (n + 1) x ≡ replicate n x ++ x ∷ []
+replicate_more n x = sym (replicate-append-replicate n 1 x)
+
+range_suc : (a n : ℕ) → range_with_len a (suc n) ≡ range_with_len a n ++ (a + n) ∷ []
+range_suc a zero = let same : a ≡ a + 0 = omega arith in ap (λ k. k ∷ []) same
+range_suc a (suc n) =
+    let next : a + 1 + n ≡ a + suc n = omega arith in
+    ap (λ l. a ∷ l) (range_suc (a + 1) n ∙ ap (λ k. range_with_len (a + 1) n ++ k ∷ []) next)
+
+pub range_more : (a n : ℕ) → range_with_len a (n + 1) ≡ range_with_len a n ++ (a + n) ∷ []
+range_more a n = ap (range_with_len a) (add-one n) ∙ range_suc a n
+
+pub joined-append : (rows more : List Vector) → joined (rows ++ more) ≡ joined rows ++ joined more
+joined-append rows more = flat_map-append (λ row. row) rows more
+
+-- one more row
+pub rows_more : (f : ℕ → Vector) (n : ℕ) →
+    joined (map f (range_with_len 0 (n + 1))) ≡ joined (map f (range_with_len 0 n)) ++ f n
+rows_more f n =
+    let here = map f (range_with_len 0 n) in
+    let last : 0 + n ≡ n = omega arith in
+    ap (λ l. joined (map f l)) (range_more 0 n) ∙ ap joined (map-append f (range_with_len 0 n) _) ∙
+    joined-append here _ ∙ ap (λ l. joined here ++ l) (append-nil (f (0 + n)) ∙ ap f last)
+
+-- one more group of rows
+pub groups_more : (f : ℕ → List Vector) (n : ℕ) →
+    joined (flat_map f (range_with_len 0 (n + 1))) ≡ joined (flat_map f (range_with_len 0 n)) ++ joined (f n)
+groups_more f n =
+    let here = flat_map f (range_with_len 0 n) in
+    let last : 0 + n ≡ n = omega arith in
+    ap (λ l. joined (flat_map f l)) (range_more 0 n) ∙ ap joined (flat_map-append f (range_with_len 0 n) _) ∙
+    joined-append here _ ∙ ap (λ l. joined here ++ joined l) (append-nil (f (0 + n)) ∙ ap f last)
+
+-- a list that grew twice
+pub two_behind : (old now mid new here s t : Vector) → now ≡ old ++ here → mid ≡ now ++ s → new ≡ mid ++ t →
+    new ≡ old ++ (here ++ (s ++ (t ++ [])))
+two_behind old now mid new here s t first second third =
+    third ∙ ap (λ l. l ++ t) (second ∙ ap (λ l. l ++ s) first) ∙ append_assoc (old ++ here) s t ∙
+    append_assoc old here (s ++ t) ∙ ap (λ l. old ++ (here ++ (s ++ l))) (sym (append-nil t))
+
+-- a list that grew by one number, and by others
+pub one_behind : (old now mid new here : Vector) (x : ℤ) (t : Vector) → now ≡ old ++ here → mid ≡ now ++ x ∷ [] →
+    new ≡ mid ++ t → new ≡ old ++ (here ++ x ∷ t)
+one_behind old now mid new here x t first second third =
+    third ∙ ap (λ l. l ++ t) (second ∙ ap (λ l. l ++ x ∷ []) first) ∙ append_assoc (old ++ here) (x ∷ []) t ∙
+    append_assoc old here (x ∷ t)

@@ -1,0 +1,13 @@
+//! Example polyhedra, a family for each kind, made without a file.
+#![tactic(auto)]
+
+mod families;
+mod kind;
+mod polys;
+mod rows;
+
+pub use kind::ExampleKind;
+pub use polys::example;
+
+#[cfg(test)]
+mod tests;
