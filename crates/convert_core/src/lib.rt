@@ -11,4 +11,4 @@ mod rows;
 mod search;
 mod walk;
 
-pub use listing::convert;
+pub use listing::{convert, list};

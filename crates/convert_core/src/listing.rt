@@ -1,5 +1,5 @@
 //! The listing of a file.
-ghost use Rattle.std.specs.Prelude.{◌≡◌, ◌≤◌, length, IsErrOf};
+ghost use Rattle.std.specs.Prelude.{◌≡◌, ◌≤◌, ◌<◌, length, IsErrOf};
 ghost use Rattle.poly_model.specs.declared.overflow.Overflow.{Overflow as Passed};
 ghost use Rattle.poly_model.specs.Due.{IsDue, IsAskedInMain};
 ghost use Rattle.poly_model.specs.FreeColumns.{AreLines};
@@ -17,7 +17,8 @@ use poly_io::{Sink, WriteFault};
 use poly_model::{Listed, Poly, Vector};
 use row_printer::{ListStop, Listing, Shown};
 use std::alloc::Global;
-use std::sync::ledger::Ledger;
+use std::marker::Brand;
+use std::sync::ledger::{Blank, Ledger};
 
 /// Writes the listing of a file that is feasible: its head, the lines by ascending free column, a row for each extreme
 /// vector in the order of a reverse search (Avis and Fukuda 1992), its end. The answer says how many rows and lines it
@@ -51,6 +52,34 @@ pub fn convert<S: Sink, L: Ledger>(
         Err(BeginStop::Overflow(overflow)) => Err(ListStop::Overflow(overflow)),
         Err(BeginStop::Memory) => Err(ListStop::Memory),
     }
+}
+
+/// The same with a counter of its own, of which nothing is said.
+pub fn list<S: Sink>(alloc: Global, poly: &Poly, out: &mut S) -> Result<Listed, ListStop>
+    ensures listed { ListsIfFeasible poly.now (S.written out.old) (S.written out.new) (out.new ≡ out.old)
+        (IsDueInSearch poly.now) result }
+    ensures infeasible { IsErrOf result ListStop.Infeasible → out.new ≡ out.old }
+    ensures memory { IsErrOf result ListStop.Memory → out.new ≡ out.old }
+    ensures cause { RisesAt ListStop.WriteFault (S.faults out.old) (S.faults out.new) result }
+{
+    list_counted::<S, Brand>(alloc, poly, out, Blank::new(1))
+}
+
+// The same with a blank for the counter.
+fn list_counted<S: Sink, L: Ledger>(
+    alloc: Global,
+    poly: &Poly,
+    out: &mut S,
+    blank: Blank,
+) -> Result<Listed, ListStop>
+    requires blank { (blank.name ≡ L.name) × (blank.parts ≡ L.parts) × (0 < blank.parts) }
+    ensures listed { ListsIfFeasible poly.now (S.written out.old) (S.written out.new) (out.new ≡ out.old)
+        (IsDueInSearch poly.now) result }
+    ensures infeasible { IsErrOf result ListStop.Infeasible → out.new ≡ out.old }
+    ensures memory { IsErrOf result ListStop.Memory → out.new ≡ out.old }
+    ensures cause { RisesAt ListStop.WriteFault (S.faults out.old) (S.faults out.new) result }
+{
+    convert(alloc, poly, out, &mut Steps::<L>::new(blank))
 }
 
 // Writes the listing of a file with these lines, from the root of its search.

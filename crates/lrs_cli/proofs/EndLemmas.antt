@@ -5,7 +5,7 @@ use Rattle.poly_model.specs.declared.overflow.Overflow.{Overflow as Passed}
 use Rattle.poly_model.specs.Systems.{Polyhedron}
 use Rattle.poly_reader.specs.declared.bad.BadFile.{BadFile as Fault}
 use Rattle.poly_reader.specs.Reading.{reading}
-use Rattle.plain_enum.specs.Plain.{PassesInCone}
+use Rattle.convert_core.specs.Listed.{IsDueInSearch}
 use Rattle.lrs_cli.specs.declared.status.Status.{Status}
 use Rattle.lrs_cli.specs.declared.status.Status.TheVariants.{Done, Usage, BadFile, Infeasible, Overflow, ReadFault, WriteFault, OutOfMemory}
 use Rattle.lrs_cli.specs.Answers.{Told, Knows, HasNoObstacle, IsBadFile, HasOverflow, ComesOfPolyhedron, Ends}
@@ -27,7 +27,7 @@ not_bad (Some text) k f t = not_both k.polyhedron f (sym k.read ∙ t)
 not_overflow : (source : Option (List ℕ)) → Knows source HasNoObstacle → (o : Passed) → Told source (HasOverflow o) → ⊥
 not_overflow None k o t = k
 not_overflow (Some text) k o t =
-    k.holds o (subst (λ p. PassesInCone p o) (same_polyhedron text t.polyhedron k.polyhedron t.read k.read) t.holds)
+    k.holds o (subst (λ p. IsDueInSearch p o) (same_polyhedron text t.polyhedron k.polyhedron t.read k.read) t.holds)
 
 -- of a polyhedron's answers those are left that end
 module _ (source : Option (List ℕ)) (known : Knows source HasNoObstacle) where

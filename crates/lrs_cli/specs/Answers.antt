@@ -8,7 +8,8 @@ use Rattle.poly_model.specs.Listing.{IsListing}
 use Rattle.poly_io.specs.Written.{AppendsPart}
 use Rattle.poly_reader.specs.declared.bad.BadFile.{BadFile as Fault}
 use Rattle.poly_reader.specs.Reading.{IsFileOf, IsFirstFault}
-use Rattle.plain_enum.specs.Plain.{IsCountedListing, PassesInCone}
+use Rattle.row_printer.specs.Listings.{IsCountedListing}
+use Rattle.convert_core.specs.Listed.{IsDueInSearch}
 use Rattle.lrs_cli.specs.declared.status.Status.{Status}
 use Rattle.lrs_cli.specs.declared.status.Status.TheVariants.{Done, Usage, BadFile, Infeasible, Overflow, ReadFault, WriteFault, OutOfMemory}
 
@@ -36,9 +37,9 @@ IsFeasibleFile text = Describes (λ p. IsFeasible (cone_of p)) text
 abbrev pub IsInfeasibleFile : List ℕ → Type 0
 IsInfeasibleFile text = Describes (λ p. IsFeasible (cone_of p) → ⊥) text
 
--- a product that a pivot needs passes, at a dictionary of the cone of the polyhedron that the text describes
+-- a product passes, of a pivot that the search of the polyhedron that the text describes cannot do without
 abbrev pub HasOverflow : Passed → List ℕ → Type 0
-HasOverflow o text = Describes (λ p. PassesInCone p o) text
+HasOverflow o text = Describes (λ p. IsDueInSearch p o) text
 
 -- the text describes no polyhedron, and this is the first fault
 abbrev pub IsBadFile : Fault → List ℕ → Type 0
@@ -76,9 +77,9 @@ Ends (BadFile f) = ⊥
 Ends Usage = ⊥
 Ends ReadFault = ⊥
 
--- the text describes a polyhedron, and at no dictionary of its cone a product passes
+-- the text describes a polyhedron, and of no pivot that its search cannot do without a product passes
 abbrev pub HasNoObstacle : List ℕ → Type 0
-HasNoObstacle text = Describes (λ p. (o : Passed) → PassesInCone p o → ⊥) text
+HasNoObstacle text = Describes (λ p. (o : Passed) → IsDueInSearch p o → ⊥) text
 
 -- the answers that come once a polyhedron was read
 abbrev pub ComesOfPolyhedron : Status → Type 0

@@ -36,7 +36,7 @@ pub record AnswersConvert (before after : Streams) (Unwritten : Type 0) (answer 
       IsAtEnd after.left × Told before.left (IsListed before.written after.written rows lines)
   -- infeasible: the polyhedron has no point
   pub infeasible : answer ≡ Infeasible → Told before.left IsInfeasibleFile
-  -- overflow: a product that a pivot needs passes, at a dictionary of its cone
+  -- overflow: a product passes, of a pivot that the search cannot do without
   pub overflow : (o : Passed) → answer ≡ Overflow o → Told before.left (HasOverflow o)
   -- an overflow, a write fault: what was written is the beginning of a listing. It is none, or the polyhedron has a
   -- point

@@ -6,16 +6,16 @@ ghost use Rattle.poly_model.specs.declared.overflow.Overflow.{Overflow as Passed
 ghost use Rattle.poly_model.specs.Systems.{cone_of};
 ghost use Rattle.poly_model.specs.Extreme.{IsFeasible};
 ghost use Rattle.poly_reader.specs.Limits.{most_file_bytes};
-ghost use Rattle.plain_enum.specs.Plain.{PassesInCone};
+ghost use Rattle.convert_core.specs.Listed.{IsDueInSearch};
 ghost use Rattle.lrs_cli.specs.Answers.{WritesWhole, WritesPart, ComesOfPolyhedron, StopsListing, WritesNothing};
 ghost use Rattle.lrs_cli.specs.Convert.{AnswersConvert, streams};
 
 use crate::status::Status;
-use hull_lift::system_of;
-use plain_enum::{ListStop, list_feasible};
+use convert_core::list;
 use poly_io::{Sink, Source};
 use poly_model::Poly;
 use poly_reader::{ReadStop, read_poly};
+use row_printer::ListStop;
 use std::alloc::Global;
 
 /// Reads a file to its end and prints its listing.
@@ -41,17 +41,14 @@ fn print_listing<O: Sink>(alloc: Global, poly: &Poly, out: &mut O) -> Status
     ensures done { (rows lines : ℕ) → result ≡ Status.Done rows lines →
         WritesWhole (O.written out.old) (O.written out.new) rows lines poly.now }
     ensures infeasible { result ≡ Status.Infeasible → IsFeasible (cone_of poly.now) → ⊥ }
-    ensures overflow { (o : Passed) → result ≡ Status.Overflow o → PassesInCone poly.now o }
+    ensures overflow { (o : Passed) → result ≡ Status.Overflow o → IsDueInSearch poly.now o }
     ensures stopped { StopsListing result → WritesPart (O.written out.old) (O.written out.new) poly.now }
     ensures printed { StopsListing result → (out.new ≡ out.old) ⊎ IsFeasible (cone_of poly.now) }
     ensures write_fault { result ≡ Status.WriteFault → Rose (O.faults out.old) (O.faults out.new) }
     ensures writes { ¬ (result ≡ Status.WriteFault) → O.faults out.new ≡ O.faults out.old }
     ensures unwritten { WritesNothing result → out.new ≡ out.old }
 {
-    let Ok(cone) = system_of(alloc, poly) else {
-        return Status::OutOfMemory;
-    };
-    match list_feasible(alloc, &cone, out) {
+    match list(alloc, poly, out) {
         Ok(listed) => Status::Done {
             rows: listed.rows,
             lines: listed.lines,

@@ -5,7 +5,7 @@ use Rattle.poly_model.specs.Extreme.{IsFeasible}
 use Rattle.poly_reader.specs.declared.bad.BadFile.{BadFile}
 use Rattle.poly_reader.specs.declared.bad.ReadStop.{ReadStop}
 use Rattle.poly_reader.specs.declared.bad.ReadStop.TheVariants.{Fault, Bad}
-use Rattle.plain_enum.specs.Plain.{PassesInCone}
+use Rattle.convert_core.specs.Listed.{IsDueInSearch}
 use Rattle.lrs_cli.specs.Answers.{ComesOfPolyhedron, WritesWhole, WritesPart}
 use Rattle.lrs_cli.proofs.AnswerLemmas.{answers_bad_file}
 use Rattle.lrs_cli.proofs.EndLemmas.{ends}
@@ -26,7 +26,7 @@ returns-in-Ok-clause-answers g c =
         described (WritesWhole old new rows lines) poly source text (listing.done rows lines e),
       );
       infeasible = λ e. described (λ p. IsFeasible (cone_of p) → ⊥) poly source text (listing.infeasible e);
-      overflow = λ o e. described (λ p. PassesInCone p o) poly source text (listing.overflow o e);
+      overflow = λ o e. described (λ p. IsDueInSearch p o) poly source text (listing.overflow o e);
       stopped = λ s. described (WritesPart old new) poly source text (listing.stopped s);
       printed = λ s. ⊎_elim (λ k. inl k)
           (λ f. inr (described (λ p. IsFeasible (cone_of p)) poly source text f)) (listing.printed s);
@@ -37,7 +37,7 @@ returns-in-Ok-clause-answers g c =
       writes = listing.writes;
       unwritten = listing.unwritten;
       complete = λ known n m. ends source known c.print_listing.result listing.lists (λ e. m (listing.write_fault e))
-          (λ o e. described (λ p. PassesInCone p o) poly source text (listing.overflow o e));
+          (λ o e. described (λ p. IsDueInSearch p o) poly source text (listing.overflow o e));
     }
 
 -- a text that describes no polyhedron is no fault of reading
