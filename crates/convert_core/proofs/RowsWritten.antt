@@ -98,10 +98,10 @@ module _ {O : Type 0} (sink : Sink O) (sys : System) (root : List ℕ) (d : Dict
     all = record {
       once = (λ m. Contains-nil c m, tt);
       only = λ y m. (
-          m,
-          ⊎_elim (λ (e : c ≡ y). subst (IsColumnShown sys root d) e x)
-              (λ (k : Contains [] y). absurd (Contains-nil y k)) (Contains-cons_cases y c [] m),
-        );
+        m,
+        ⊎_elim (λ (e : c ≡ y). subst (IsColumnShown sys root d) e x)
+            (λ (k : Contains [] y). absurd (Contains-nil y k)) (Contains-cons_cases y c [] m),
+      );
       each = λ y h. h.0;
     };
     rows = record {
@@ -114,10 +114,10 @@ module _ {O : Type 0} (sink : Sink O) (sys : System) (root : List ℕ) (d : Dict
     shown = c ∷ [];
     once = (λ m. Contains-nil c m, tt);
     only = λ y m. (
-        m,
-        ⊎_elim (λ (e : c ≡ y). subst (IsColumnShown sys root d) e x)
-            (λ (k : Contains [] y). absurd (Contains-nil y k)) (Contains-cons_cases y c [] m),
-      );
+      m,
+      ⊎_elim (λ (e : c ≡ y). subst (IsColumnShown sys root d) e x)
+          (λ (k : Contains [] y). absurd (Contains-nil y k)) (Contains-cons_cases y c [] m),
+    );
     bytes = subst (λ t. AppendsPart (sink.written o) (sink.written q) t) (sym (one_text s.listing (row c))) p.part;
     later = p.cause.later;
     rose = p.cause.failed;

@@ -26,8 +26,8 @@ const OCTAHEDRON: Case = Case {
     kind: Kind::H,
     n: 4,
     entries: &[
-        1, 1, 1, 1, 1, 1, 1, -1, 1, 1, -1, 1, 1, 1, -1, -1, 1, -1, 1, 1, 1, -1, 1, -1, 1, -1, -1, 1,
-        1, -1, -1, -1,
+        1, 1, 1, 1, 1, 1, 1, -1, 1, 1, -1, 1, 1, 1, -1, -1, 1, -1, 1, 1, 1, -1, 1, -1, 1, -1, -1,
+        1, 1, -1, -1, -1,
     ],
     linear: &[],
     listed: (6, 0),
@@ -38,8 +38,8 @@ const CASES: [Case; 8] = [
     Case {
         name: "a cube that is cut at one corner, beside the origin",
         entries: &[
-            -1, 1, 0, 0, -1, 0, 1, 0, -1, 0, 0, 1, 3, -1, 0, 0, 3, 0, -1, 0, 3, 0, 0, -1, 8, -1, -1,
-            -1,
+            -1, 1, 0, 0, -1, 0, 1, 0, -1, 0, 0, 1, 3, -1, 0, 0, 3, 0, -1, 0, 3, 0, 0, -1, 8, -1,
+            -1, -1,
         ],
         listed: (10, 0),
         ..OCTAHEDRON
@@ -84,8 +84,8 @@ const CASES: [Case; 8] = [
         name: "the points of a cube, with its middle",
         kind: Kind::V,
         entries: &[
-            1, 0, 0, 0, 1, 0, 0, 2, 1, 0, 2, 0, 1, 0, 2, 2, 1, 2, 0, 0, 1, 2, 0, 2, 1, 2, 2, 0, 1, 2,
-            2, 2, 1, 1, 1, 1,
+            1, 0, 0, 0, 1, 0, 0, 2, 1, 0, 2, 0, 1, 0, 2, 2, 1, 2, 0, 0, 1, 2, 0, 2, 1, 2, 2, 0, 1,
+            2, 2, 2, 1, 1, 1, 1,
         ],
         listed: (6, 0),
         ..OCTAHEDRON
@@ -93,9 +93,7 @@ const CASES: [Case; 8] = [
     Case {
         name: "a square in space, and a ray that leaves its plane",
         kind: Kind::V,
-        entries: &[
-            1, 0, 0, 0, 1, 1, 0, 0, 1, 0, 1, 0, 1, 1, 1, 0, 0, 1, 2, 3,
-        ],
+        entries: &[1, 0, 0, 0, 1, 1, 0, 0, 1, 0, 1, 0, 1, 1, 1, 0, 0, 1, 2, 3],
         listed: (5, 0),
         ..OCTAHEDRON
     },
@@ -120,7 +118,12 @@ fn both_listings_have_the_same_rows(rt: HostRuntime) -> Result<(), Fail> {
         let wanted = sizes_of(list_feasible(alloc, &cone, &mut by_subsets))?;
         let search = answered(alloc, found, by_search.written())?;
         let subsets = answered(alloc, wanted, by_subsets.written())?;
-        assert_eq!(rt; (&search, search.listed), (&subsets, case.listed), "{}", case.name);
+        assert_eq!(rt;
+            (&search, search.listed),
+            (&subsets, case.listed),
+            "{}",
+            case.name
+        );
     }
     Ok(())
 }
