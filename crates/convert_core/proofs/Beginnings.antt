@@ -1,14 +1,11 @@
 -- What a search begins with is one at the root.
-use Rattle.std.proofs.Common.{◌≡◌, ℕ, ◌+◌, ◌<◌, ◌≤◌, List, [], ◌∷◌, length, refl, sym, ap, subst, ◌∙◌, None, arith}
-use Rattle.std.specs.List.{Contains, range_with_len}
+use Rattle.std.proofs.Common.{◌≡◌, ℕ, ◌≤◌, List, [], ◌∷◌, length, refl, sym, subst, None, arith}
+use Rattle.std.specs.List.{range_with_len}
 use Rattle.std.proofs.lemmas.List.FromFn.{length-range_with_len}
 use Rattle.poly_num.specs.Vectors.{Vector}
-use Rattle.poly_model.specs.FreeColumns.{AreFreeColumns, AreLinesOf, AreLines}
-use Rattle.poly_model.specs.Labels.{coordinates_from}
-use Rattle.poly_model.specs.Limits.{most_columns}
-use Rattle.poly_model.specs.LexOrder.{rows_in}
+use Rattle.poly_model.specs.FreeColumns.{AreFreeColumns, AreLinesOf}
 use Rattle.poly_model.specs.Spaces.{Space, main_space}
-use Rattle.poly_model.specs.Dictionaries.{Table, IsDictionary}
+use Rattle.poly_model.specs.Dictionaries.{IsDictionary}
 use Rattle.poly_model.specs.Subtrees.{IsSubtreeRoot}
 use Rattle.poly_model.specs.Systems.{System, Polyhedron, cone_of}
 use Rattle.poly_model.specs.Tree.{IsRowDictionary, IsFeasibleRoot, IsLexFeasible}
@@ -23,7 +20,7 @@ use Rattle.search_laws.proofs.SearchRoots.{has_search_root}
 use Rattle.dictionary.specs.Views.{Dictionary, table_of}
 use Rattle.linearity.specs.Prepared.{IsPrepared}
 use Rattle.phase_one.specs.Found.{IsFound}
-use Rattle.reverse_step.specs.Walks.{Walk, Stands, IsWalkIn}
+use Rattle.reverse_step.specs.Walks.{Walk, Stands}
 use Rattle.convert_core.specs.declared.rays.Rays.{Rays}
 use Rattle.convert_core.specs.Rays.{AreShown}
 use Rattle.convert_core.specs.Searches.{IsSearch, IsRootOf}

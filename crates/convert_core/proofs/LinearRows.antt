@@ -1,6 +1,6 @@
 -- The linear rows of a file, at the vectors of its main space: they are 0 there. So the equations of a feasible file have
 -- a common point, and of a V file each ray touches a point row that is linear.
-use Rattle.std.proofs.Common.{◌≡◌, ◌≢◌, ℕ, suc, ◌+◌, ◌-◌, ◌<◌, ◌≤◌, true, List, [], ◌∷◌, ◌++◌, pos, map, length, get_or, refl, sym, ap, subst, ◌∙◌, arith}
+use Rattle.std.proofs.Common.{◌≡◌, ℕ, ◌-◌, ◌<◌, ◌≤◌, true, List, [], ◌∷◌, pos, map, length, get_or, sym, ap, subst, ◌∙◌, arith}
 use Rattle.std.specs.List.{All, Contains}
 use Rattle.std.proofs.lemmas.Bool.{lt-ltb, cond-true}
 use Rattle.std.proofs.lemmas.List.{length-map, length-append}
@@ -11,11 +11,10 @@ use Rattle.poly_model.specs.declared.kind.Kind.TheVariants.{H, V}
 use Rattle.poly_model.specs.Cones.{coordinate, IsTight}
 use Rattle.poly_model.specs.Equations.{HasPointOn, AreConsistent, equation_labels}
 use Rattle.poly_model.specs.Extreme.{TouchesPoint, IsShown, IsFeasible}
-use Rattle.poly_model.specs.FreeColumns.{AreFreeColumns}
 use Rattle.poly_model.specs.Independence.{Vanish}
 use Rattle.poly_model.specs.Labels.{coordinates_from, is_row, coordinate_index}
 use Rattle.poly_model.specs.Spaces.{Space, IsInside, HasPoints, in_front, in_main, main_space, label_form, cut_space}
-use Rattle.poly_model.specs.Systems.{Row, row_of, no_row, Polyhedron, System, file_rows, cone_of, cone_row, added_row}
+use Rattle.poly_model.specs.Systems.{Row, row_of, no_row, Polyhedron, file_rows, cone_of, cone_row, added_row}
 use Rattle.poly_model.proofs.RowLemmas.{row_from_one}
 use Rattle.cone_laws.specs.Faces.{fixed_rows}
 use Rattle.cone_laws.proofs.RowLemmas.{linear_from_fixed}

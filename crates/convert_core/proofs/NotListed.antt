@@ -1,14 +1,13 @@
 -- A file that is not listed: nothing is written, and no pivot is counted; and one that is.
 use Rattle.std.specs.Prelude.{Result}
 use Rattle.std.specs.Result.{IsErrOf}
-use Rattle.std.proofs.Common.{◌≡◌, ◌⊎◌, inl, inr, ℕ, ◌+◌, ◌*◌, ◌≤◌, List, [], ◌∷◌, length, Option, Err, refl, sym, subst, arith}
+use Rattle.std.proofs.Common.{◌≡◌, inl, inr, ℕ, ◌≤◌, List, [], ◌∷◌, length, Option, Err, refl, arith}
 use Rattle.std.specs.List.{Contains}
 use Rattle.poly_model.specs.declared.overflow.Overflow.{Overflow as Passed}
 use Rattle.poly_num.specs.Vectors.{Vector}
 use Rattle.poly_model.specs.declared.listed.Listed.{Listed}
 use Rattle.poly_model.specs.Due.{IsDue, IsAskedInMain}
 use Rattle.poly_model.specs.Extreme.{IsFeasible}
-use Rattle.poly_model.specs.PhaseOne.{IsSearchRoot}
 use Rattle.poly_model.specs.Spaces.{main_space}
 use Rattle.poly_model.specs.Subtrees.{IsSubtreeKey}
 use Rattle.poly_model.specs.Systems.{System, Polyhedron, cone_of}
@@ -18,7 +17,6 @@ use Rattle.cone_laws.proofs.LineLists.{one_list_of_lines}
 use Rattle.tree_laws.proofs.Roots.{root_is_feasible}
 use Rattle.listing_laws.proofs.Completions.{some_extremes}
 use Rattle.listing_laws.proofs.ListingLemmas.{are_extreme}
-use Rattle.search_laws.specs.SharesOfListings.{IsSubtreeWeight}
 use Rattle.search_laws.proofs.FeasibleFiles.{main_has_no_row_zero}
 use Rattle.search_laws.proofs.GivenRoots.{given_feasible}
 use Rattle.search_laws.proofs.SearchRoots.{has_search_root}

@@ -1,5 +1,5 @@
 -- The columns that pass the tests at a cobasis give the vectors that are shown there, each once.
-use Rattle.std.proofs.Common.{◌≡◌, ◌≢◌, ◌⊎◌, inl, inr, ⊎_elim, ℕ, ◌<◌, List, [], ◌∷◌, map, length, Option, Some, None, refl, sym, ap, subst, ◌∙◌}
+use Rattle.std.proofs.Common.{◌≡◌, ◌≢◌, ◌⊎◌, inl, inr, ⊎_elim, ℕ, ◌<◌, List, [], ◌∷◌, map, length, Option, Some, None, refl, sym, subst, ◌∙◌}
 use Rattle.std.specs.List.{Contains}
 use Rattle.poly_num.specs.Vectors.{Vector}
 use Rattle.poly_model.specs.declared.kind.Kind.{Kind}
@@ -7,10 +7,10 @@ use Rattle.poly_model.specs.declared.kind.Kind.TheVariants.{H, V}
 use Rattle.poly_model.specs.Extreme.{IsShown, IsExtreme}
 use Rattle.poly_model.specs.FreeColumns.{AreFreeColumns}
 use Rattle.poly_model.specs.Labels.{coordinates_from, constant_label}
-use Rattle.poly_model.specs.Spaces.{Space, main_space}
+use Rattle.poly_model.specs.Spaces.{main_space}
 use Rattle.poly_model.specs.Subtrees.{IsSubtreeRoot, IsShownAtKey}
 use Rattle.poly_model.specs.Systems.{Polyhedron, cone_of}
-use Rattle.poly_model.specs.Tree.{IsLexFeasible, ShowsPoint, ShowsRay}
+use Rattle.poly_model.specs.Tree.{IsLexFeasible}
 use Rattle.linear_laws.proofs.Members.{Contains-nil, Contains-first, Contains-later, Contains-cons_cases}
 use Rattle.tree_laws.proofs.ListedVectors.{searches_listing}
 use Rattle.search_laws.specs.Shares.{StandOnce, ListsAll}
@@ -20,7 +20,7 @@ use Rattle.hull_lift.specs.Facets.{primitive_column, HasPointRows, IsShownAs, Is
 use Rattle.convert_core.specs.declared.rays.Rays.{Rays}
 use Rattle.convert_core.specs.declared.rays.Rays.TheVariants.{All, Touching}
 use Rattle.convert_core.specs.Rays.{HasLinearPoint, AreShown}
-use Rattle.convert_core.specs.Rows.{IsPointShown, IsRayShown, IsColumnShown, CanTest, columns_of, rows_of}
+use Rattle.convert_core.specs.Rows.{IsColumnShown, CanTest, columns_of, rows_of}
 use Rattle.convert_core.proofs.LinearRows.{shown_by_linear_point}
 use Rattle.convert_core.proofs.RowLists.{value_there, value_of, once_values}
 use Rattle.convert_core.proofs.ShownRows.{no_constant, ray_along, touched_exactly, shown_ray, ray_back, point_back, shown_point, all_shown}

@@ -1,6 +1,6 @@
 -- Rows written column by column: of those that are shown.
 use Rattle.std.specs.Prelude.{Result, IfOk}
-use Rattle.std.proofs.Common.{◌≡◌, ◌⊎◌, ⊎_elim, inl, inr, ℕ, ◌+◌, ◌≤◌, ◌<◌, ◌^◌, List, [], ◌∷◌, ◌++◌, map, length, Option, Ok, Err, refl, sym, ap, subst, ◌∙◌, append-nil, length-append, arith}
+use Rattle.std.proofs.Common.{◌≡◌, ⊎_elim, ℕ, ◌+◌, ◌≤◌, ◌<◌, ◌^◌, List, [], ◌∷◌, ◌++◌, length, Option, Ok, Err, refl, sym, ap, subst, ◌∙◌, append-nil, length-append, arith}
 use Rattle.std.specs.List.{Contains, flat_map}
 use Rattle.std.specs.Io.KnownBytes.{Appends}
 use Rattle.std.proofs.KnownBytes.{Appends-nil, Appends-trans}
@@ -11,8 +11,7 @@ use Rattle.poly_num.specs.Vectors.{Vector}
 use Rattle.poly_model.specs.declared.kind.Kind.{Kind}
 use Rattle.poly_model.specs.ListingText.{row_text}
 use Rattle.poly_model.specs.Systems.{System}
-use Rattle.linear_laws.proofs.Members.{Contains-nil, Contains-first, Contains-cons_cases}
-use Rattle.search_laws.specs.Shares.{ListsAll}
+use Rattle.linear_laws.proofs.Members.{Contains-nil, Contains-cons_cases}
 use Rattle.search_laws.proofs.OnceLists.{once-append}
 use Rattle.dictionary.specs.Views.{Dictionary}
 use Rattle.hull_lift.specs.Facets.{primitive_column}
@@ -98,10 +97,10 @@ module _ {O : Type 0} (sink : Sink O) (sys : System) (root : List ℕ) (d : Dict
     all = record {
       once = (λ m. Contains-nil c m, tt);
       only = λ y m. (
-          m,
-          ⊎_elim (λ (e : c ≡ y). subst (IsColumnShown sys root d) e x)
-              (λ (k : Contains [] y). absurd (Contains-nil y k)) (Contains-cons_cases y c [] m),
-        );
+        m,
+        ⊎_elim (λ (e : c ≡ y). subst (IsColumnShown sys root d) e x)
+            (λ (k : Contains [] y). absurd (Contains-nil y k)) (Contains-cons_cases y c [] m),
+      );
       each = λ y h. h.0;
     };
     rows = record {
@@ -114,10 +113,10 @@ module _ {O : Type 0} (sink : Sink O) (sys : System) (root : List ℕ) (d : Dict
     shown = c ∷ [];
     once = (λ m. Contains-nil c m, tt);
     only = λ y m. (
-        m,
-        ⊎_elim (λ (e : c ≡ y). subst (IsColumnShown sys root d) e x)
-            (λ (k : Contains [] y). absurd (Contains-nil y k)) (Contains-cons_cases y c [] m),
-      );
+      m,
+      ⊎_elim (λ (e : c ≡ y). subst (IsColumnShown sys root d) e x)
+          (λ (k : Contains [] y). absurd (Contains-nil y k)) (Contains-cons_cases y c [] m),
+    );
     bytes = subst (λ t. AppendsPart (sink.written o) (sink.written q) t) (sym (one_text s.listing (row c))) p.part;
     later = p.cause.later;
     rose = p.cause.failed;

@@ -1,20 +1,17 @@
 -- A search on its way: what is listed where it stands, one step further, at its end, and where it stops.
-use Rattle.std.specs.Prelude.{Result}
-use Rattle.std.proofs.Common.{◌≡◌, ◌≢◌, ◌⊎◌, ⊎_elim, ℕ, suc, ◌+◌, ◌*◌, ◌<◌, ◌≤◌, true, false, List, [], ◌∷◌, ◌++◌, length, Option, refl, sym, ap, subst, ◌∙◌, arith}
-use Rattle.std.specs.List.{Contains, flat_map}
+use Rattle.std.proofs.Common.{◌≡◌, ⊎_elim, ℕ, ◌+◌, ◌<◌, ◌≤◌, true, false, List, [], ◌∷◌, ◌++◌, length, Option, refl, sym, subst, ◌∙◌, arith}
+use Rattle.std.specs.List.{Contains}
 use Rattle.std.proofs.lemmas.Bool.{cases_Bool}
 use Rattle.std.proofs.lemmas.List.Elements.{Contains-append_cases}
 use Rattle.poly_num.specs.Vectors.{Vector}
 use Rattle.poly_model.specs.declared.kind.Kind.{Kind}
 use Rattle.poly_model.specs.declared.kind.Kind.TheVariants.{H, V}
 use Rattle.poly_model.specs.Extreme.{IsExtreme, AreExtreme}
-use Rattle.poly_model.specs.FreeColumns.{AreFreeColumns}
 use Rattle.poly_model.specs.Labels.{IsRow, is_row}
-use Rattle.poly_model.specs.ListingText.{row_text}
 use Rattle.poly_model.specs.PhaseOne.{IsSearchRoot}
-use Rattle.poly_model.specs.Spaces.{Space, is_left, labels_of, main_space}
+use Rattle.poly_model.specs.Spaces.{Space, main_space}
 use Rattle.poly_model.specs.Subtrees.{IsSubtreeRoot, IsSubtreeKey, IsShownAtKey}
-use Rattle.poly_model.specs.Systems.{Row, System, row_of, Polyhedron, cone_of}
+use Rattle.poly_model.specs.Systems.{System, row_of, Polyhedron, cone_of}
 use Rattle.dictionary_laws.proofs.Filters.{filter_only}
 use Rattle.tree_laws.proofs.ListedVectors.{searches_listing}
 use Rattle.tree_laws.proofs.MainLabels.{main_in, other_has}
@@ -22,16 +19,14 @@ use Rattle.tree_laws.proofs.OneList.{same_columns}
 use Rattle.search_laws.specs.Shares.{StandOnce, ListsAll, IsFeasibleUnder}
 use Rattle.search_laws.specs.Splits.{IsSplit}
 use Rattle.search_laws.specs.SharesOfListings.{IsShownAtSome, IsRun, IsSubtreeWeight}
-use Rattle.search_laws.proofs.OnceLists.{once-append}
 use Rattle.search_laws.proofs.SearchRoots.{has_search_root}
 use Rattle.search_laws.proofs.SubtreeRuns.{runs_part}
 use Rattle.search_laws.proofs.SubtreeShares as words
 use Rattle.listing_laws.proofs.Completions.{completed}
 use Rattle.listing_laws.proofs.ListingLemmas.{are_extreme}
 use Rattle.countdown.specs.Digits.{enough}
-use Rattle.dictionary.specs.Views.{Dictionary, IsDictionaryIn, table_of}
+use Rattle.dictionary.specs.Views.{IsDictionaryIn}
 use Rattle.hull_lift.specs.Facets.{HasPointRows}
-use Rattle.poly_io.specs.Written.{AppendsPart}
 use Rattle.reverse_step.specs.declared.walker.Visit.{Visit}
 use Rattle.reverse_step.specs.declared.walker.Visit.TheVariants.{New, Back, End}
 use Rattle.reverse_step.specs.Walks.{Walk}
@@ -39,13 +34,12 @@ use Rattle.reverse_step.specs.Moves.{IsVisit}
 use Rattle.reverse_step.specs.Runs.{HasRun}
 use Rattle.linear_laws.proofs.Members.{Contains-nil, Contains-cons_cases}
 use Rattle.reverse_step.proofs.RunLemmas.{run_starts, some_left, not_visited, run_new, run_back, run_ends}
-use Rattle.row_printer.specs.Rows.{HasWritten}
 use Rattle.convert_core.specs.declared.rays.Rays.{Rays}
 use Rattle.convert_core.specs.Rays.{HasLinearPoint, AreShown}
 use Rattle.convert_core.specs.Rows.{IsColumnShown, CanTest, columns_of, rows_of}
 use Rattle.convert_core.specs.Searches.{IsSearch, IsAtRoot}
 use Rattle.convert_core.specs.Listed.{TakesSteps}
-use Rattle.convert_core.proofs.RowLists.{turned, once_before, distinct_vectors, lists_vectors}
+use Rattle.convert_core.proofs.RowLists.{turned, distinct_vectors, lists_vectors}
 use Rattle.convert_core.proofs.RowsOf.{lists_rows, some_rows}
 use Rattle.convert_core.proofs.ShownRows.{no_constant}
 

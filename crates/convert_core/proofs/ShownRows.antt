@@ -1,5 +1,5 @@
 -- The rows that are printed at a cobasis are the vectors that are shown there.
-use Rattle.std.proofs.Common.{◌≡◌, ◌≢◌, ◌⊎◌, ◌↔◌, inl, inr, ⊎_elim, ℕ, suc, ◌<◌, ◌≤◌, true, List, [], ◌∷◌, ◌++◌, ℤ, pos, ◌<ℤ◌, ◌*ℤ◌, map, length, Option, Some, None, refl, sym, ap, subst, ◌∙◌, arith}
+use Rattle.std.proofs.Common.{◌≡◌, ◌≢◌, ◌↔◌, ℕ, ◌<◌, List, [], ◌∷◌, ℤ, pos, ◌<ℤ◌, ◌*ℤ◌, length, Some, None, refl, sym, ap, subst, ◌∙◌, arith}
 use Rattle.std.specs.List.{Contains}
 use Rattle.std.proofs.lemmas.Int.{ints}
 use Rattle.std.proofs.lemmas.Bool.{ltb-true}
@@ -15,7 +15,6 @@ use Rattle.poly_model.specs.declared.overflow.Phase.TheVariants.{Main}
 use Rattle.poly_model.specs.Extreme.{IsShown}
 use Rattle.poly_model.specs.FreeColumns.{AreFreeColumns}
 use Rattle.poly_model.specs.Labels.{coordinates_from, constant_label}
-use Rattle.poly_model.specs.LexOrder.{rows_in}
 use Rattle.poly_model.specs.Spaces.{Space, IsInside, in_main, main_space}
 use Rattle.poly_model.specs.Subtrees.{IsShownAtKey}
 use Rattle.poly_model.specs.Systems.{Polyhedron, cone_of}

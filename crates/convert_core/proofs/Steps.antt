@@ -1,24 +1,19 @@
 -- What is written along a walk: at its beginning, from step to step, and at its end.
-use Rattle.std.specs.Prelude.{Result}
-use Rattle.std.specs.Result.{IsErrOf}
-use Rattle.std.proofs.Common.{◌≡◌, ℕ, ◌+◌, ◌≤◌, List, [], ◌∷◌, ◌++◌, length, Option, Ok, refl, sym, ap, subst, ◌∙◌, arith}
+use Rattle.std.proofs.Common.{◌≡◌, ℕ, ◌+◌, ◌≤◌, List, ◌++◌, length, Option, Ok, refl, sym, ap, subst, ◌∙◌, arith}
 use Rattle.poly_num.specs.Vectors.{Vector}
 use Rattle.poly_model.specs.declared.kind.Kind.{Kind}
 use Rattle.poly_model.specs.Systems.{System, Polyhedron}
-use Rattle.search_laws.specs.Shares.{ListsAll}
-use Rattle.search_laws.specs.SharesOfListings.{IsShownAtSome}
 use Rattle.countdown.specs.Digits.{enough}
 use Rattle.poly_io.specs.declared.sink.Sink.{Ghosts as Sink}
 use Rattle.reverse_step.specs.declared.walker.Visit.{Visit}
 use Rattle.reverse_step.specs.declared.walker.Visit.TheVariants.{New, Back, End}
 use Rattle.reverse_step.specs.Walks.{Walk}
-use Rattle.reverse_step.specs.Moves.{IsVisit}
 use Rattle.row_printer.specs.declared.shown.Shown.{Shown}
 use Rattle.row_printer.specs.Rows.{HasWritten}
 use Rattle.convert_core.specs.declared.rays.Rays.{Rays}
 use Rattle.convert_core.specs.Rows.{WritesShown, columns_of, rows_of}
 use Rattle.convert_core.specs.Searches.{IsSearch, IsAtRoot}
-use Rattle.convert_core.specs.Listed.{RisesAt, IsStep, StepShows, ListsRows}
+use Rattle.convert_core.specs.Listed.{RisesAt, IsStep, ListsRows}
 use Rattle.convert_core.proofs.RowsWritten.{has_more}
 use Rattle.convert_core.proofs.Searching.{IsListedSoFar, starts, rows_here, search_moves, goes_on, goes_back, lists_all}
 

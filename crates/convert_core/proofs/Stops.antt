@@ -1,37 +1,31 @@
 -- What was written where a walk stops: first bytes of the rows of some extreme vectors; and whether its overflow is due.
 use Rattle.std.specs.Prelude.{Result}
 use Rattle.std.specs.Result.{IsErr, IsErrOf}
-use Rattle.std.proofs.Common.{◌≡◌, ⊎_elim, ℕ, ◌+◌, ◌≤◌, true, false, List, [], ◌∷◌, ◌++◌, Option, Ok, Err, refl, sym, ap, subst, ◌∙◌, arith}
-use Rattle.std.specs.List.{Contains, flat_map}
+use Rattle.std.proofs.Common.{◌≡◌, ℕ, ◌≤◌, true, false, List, [], ◌∷◌, ◌++◌, Option, Ok, Err, refl, sym, ap, subst, ◌∙◌, arith}
+use Rattle.std.specs.List.{flat_map}
 use Rattle.std.specs.Io.KnownBytes.{Appends}
 use Rattle.poly_num.specs.Vectors.{Vector}
-use Rattle.poly_model.specs.declared.kind.Kind.{Kind}
 use Rattle.poly_model.specs.declared.overflow.Overflow.{Overflow as Passed}
 use Rattle.poly_model.specs.Due.{IsDue, IsAskedInMain}
-use Rattle.poly_model.specs.Extreme.{IsExtreme, AreExtreme}
+use Rattle.poly_model.specs.Extreme.{AreExtreme}
 use Rattle.poly_model.specs.ListingText.{row_text}
 use Rattle.poly_model.specs.Systems.{System, Polyhedron, cone_of}
-use Rattle.linear_laws.proofs.Members.{Contains-nil, Contains-first, Contains-cons_cases}
-use Rattle.search_laws.specs.Shares.{StandOnce}
-use Rattle.search_laws.specs.SharesOfListings.{IsShownAtSome}
 use Rattle.search_laws.proofs.OnceLists.{once-append}
 use Rattle.listing_laws.proofs.Completions.{completed}
 use Rattle.poly_io.specs.declared.sink.Sink.{Ghosts as Sink}
 use Rattle.poly_io.specs.Causes.{Rose}
 use Rattle.poly_io.specs.Written.{AppendsPart}
-use Rattle.reverse_step.specs.declared.walker.Visit.TheVariants.{New, Back, End}
+use Rattle.reverse_step.specs.declared.walker.Visit.TheVariants.{New}
 use Rattle.reverse_step.specs.Walks.{Walk}
-use Rattle.reverse_step.specs.Children.{StopsWalk}
 use Rattle.reverse_step.specs.Moves.{IsVisit}
 use Rattle.reverse_step.proofs.DueLemmas.{due_in_main}
-use Rattle.reverse_step.proofs.RunLemmas.{run_new}
 use Rattle.row_printer.specs.declared.shown.Shown.{Shown}
 use Rattle.row_printer.specs.Rows.{HasWritten}
 use Rattle.convert_core.specs.declared.rays.Rays.{Rays}
 use Rattle.convert_core.specs.declared.walk.Ended.{Ended}
 use Rattle.convert_core.specs.declared.walk.Ended.TheVariants.{Overflow, WriteFault}
 use Rattle.convert_core.specs.Rows.{FailsShown, columns_of, rows_of}
-use Rattle.convert_core.specs.Searches.{IsSearch, IsAtRoot}
+use Rattle.convert_core.specs.Searches.{IsSearch}
 use Rattle.convert_core.specs.Listed.{RisesAt, EndsStep, ListsRows}
 use Rattle.convert_core.proofs.RowLists.{distinct_vectors}
 use Rattle.convert_core.proofs.RowsWritten.{part_more, part_all}

@@ -9,7 +9,6 @@ use Rattle.poly_model.specs.ListingText.{row_text}
 use Rattle.poly_model.specs.PhaseOne.{IsSearchRoot}
 use Rattle.poly_model.specs.Systems.{System, Polyhedron, cone_of}
 use Rattle.search_laws.specs.SharesOfListings.{IsSubtreeWeight}
-use Rattle.dictionary.specs.Views.{Dictionary}
 use Rattle.poly_io.specs.Causes.{Rose}
 use Rattle.poly_io.specs.Written.{AppendsPart}
 use Rattle.reverse_step.specs.declared.walker.Visit.{Visit}

@@ -2,7 +2,6 @@
 use Rattle.std.specs.Prelude.{◌≡◌, ◌≢◌, ◌⊎◌, ℕ, ◌≤◌, List, ◌∷◌, map, Option, Result, Ok, Err}
 use Rattle.std.specs.List.{Contains, flat_map}
 use Rattle.poly_num.specs.Vectors.{Vector}
-use Rattle.poly_model.specs.declared.kind.Kind.{Kind}
 use Rattle.poly_model.specs.declared.kind.Kind.TheVariants.{H, V}
 use Rattle.poly_model.specs.Labels.{constant_label}
 use Rattle.poly_model.specs.ListingText.{row_text}
@@ -10,7 +9,7 @@ use Rattle.poly_model.specs.Systems.{System}
 use Rattle.poly_model.specs.Tree.{ShowsPoint, ShowsRay}
 use Rattle.search_laws.specs.Shares.{StandOnce, ListsAll}
 use Rattle.dictionary.specs.Views.{Dictionary, table_of}
-use Rattle.hull_lift.specs.Facets.{IsColumn, HasPointRows, IsShownColumn, primitive_column}
+use Rattle.hull_lift.specs.Facets.{HasPointRows, IsShownColumn, primitive_column}
 use Rattle.poly_io.specs.Causes.{Rose}
 use Rattle.poly_io.specs.Written.{AppendsPart}
 use Rattle.row_printer.specs.declared.shown.Shown.{Shown}

@@ -9,6 +9,8 @@ mod listing;
 mod rays;
 mod rows;
 mod search;
+#[cfg(test)]
+mod tests;
 mod walk;
 
 pub use listing::{convert, list};

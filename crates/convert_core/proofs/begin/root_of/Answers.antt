@@ -5,7 +5,6 @@ use Rattle.poly_model.specs.declared.overflow.Overflow.{Overflow as Passed}
 use Rattle.poly_model.specs.Due.{IsDue, IsAskedInFirst}
 use Rattle.poly_model.specs.Systems.{System}
 use Rattle.convert_core.specs.declared.begin.BeginStop.{BeginStop}
-use Rattle.convert_core.specs.declared.begin.BeginStop.TheVariants as BeginStop
 use Rattle.convert_core.specs.Searches.{IsRootOf}
 use Rattle.convert_core.proofs.Beginnings.{is_root_of}
 use Rattle.convert_core.proofs.LinearRows.{feasible_is_consistent}

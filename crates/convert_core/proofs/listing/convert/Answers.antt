@@ -1,10 +1,8 @@
-use Rattle.std.specs.Result.{IsErrOf}
-use Rattle.std.proofs.Common.{◌≡◌, inl, inr, ◌⊎◌, ⊎_elim, Err, refl, sym, ap, subst}
+use Rattle.std.proofs.Common.{◌≡◌, inl, inr, ⊎_elim, refl, sym, subst}
 use Rattle.poly_model.specs.declared.overflow.Overflow.{Overflow as Passed}
 use Rattle.poly_model.specs.Systems.{Polyhedron}
 use Rattle.row_printer.specs.Listings.{ListsIfFeasible}
 use Rattle.row_printer.specs.declared.stop.ListStop.{ListStop}
-use Rattle.row_printer.specs.declared.stop.ListStop.TheVariants as ListStop
 use Rattle.convert_core.specs.Searches.{IsSearch}
 use Rattle.convert_core.specs.Listed.{TakesSteps, IsDueInSearch}
 use Rattle.convert_core.proofs.NotListed.{not_listed, no_steps, is_listed}

@@ -1,18 +1,14 @@
 use Rattle.std.specs.Result.{IsErrOf}
-use Rattle.std.proofs.Common.{◌≡◌, List, ℕ, Err, refl, sym, ap, subst}
+use Rattle.std.proofs.Common.{◌≡◌, List, ℕ, Err, refl, subst}
 use Rattle.std.specs.Io.KnownBytes.{Appends}
 use Rattle.poly_model.specs.declared.overflow.Overflow.{Overflow as Passed}
 use Rattle.poly_model.specs.Due.{IsDue, IsAskedInMain}
 use Rattle.poly_io.specs.Written.{AppendsPart}
 use Rattle.listing_laws.proofs.Completions.{some_extremes}
 use Rattle.listing_laws.proofs.ListingLemmas.{are_extreme}
-use Rattle.row_printer.specs.declared.shown.Shown.{Shown}
 use Rattle.row_printer.specs.Rows.{HasWritten}
 use Rattle.row_printer.proofs.ListingParts.{same_before, stops_in_head, stops_in_rows, stops_in_end, ends_whole}
-use Rattle.convert_core.specs.declared.walk.Ended.{Ended}
-use Rattle.convert_core.specs.declared.walk.Ended.TheVariants as Ended
 use Rattle.row_printer.specs.declared.stop.ListStop.{ListStop}
-use Rattle.row_printer.specs.declared.stop.ListStop.TheVariants as ListStop
 use Rattle.convert_core.proofs.Searching.{steps_at_start}
 use Rattle.convert_core.proofs.listing.print.Goals as goal
 

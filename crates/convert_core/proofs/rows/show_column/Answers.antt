@@ -1,5 +1,4 @@
-use Rattle.std.proofs.Common.{◌≡◌, true, false, length, map, Option, Result, sym, ap, subst, ◌∙◌}
-use Rattle.poly_num.specs.Vectors.{Vector}
+use Rattle.std.proofs.Common.{ap, subst, ◌∙◌}
 use Rattle.poly_model.specs.ListingText.{row_text}
 use Rattle.poly_io.specs.Written.{Prints}
 use Rattle.hull_lift.specs.Facets.{primitive_column}

@@ -1,9 +1,7 @@
-use Rattle.std.proofs.Common.{◌≡◌, ℕ, suc, ◌+◌, ◌<◌, List, [], ◌∷◌, ◌++◌, take, length, get_or, add-one, Err, sym, ap, subst, ◌∙◌, arith}
+use Rattle.std.proofs.Common.{ℕ, [], ◌∷◌, take, sym, subst, ◌∙◌}
 use Rattle.std.specs.List.{Contains}
-use Rattle.std.proofs.Math.Seq.{take-suc}
 use Rattle.std.proofs.lemmas.Result.{err_from_is_err_and}
 use Rattle.poly_model.specs.Labels.{constant_label}
-use Rattle.linear_laws.proofs.Members.{Contains-first, Contains-later, Contains-cons_cases}
 use Rattle.convert_core.specs.Rows.{WritesShown, ShowsColumns, columns_of}
 use Rattle.convert_core.proofs.ColumnsBefore.{not_before, one_more, within_all, here_in_all}
 use Rattle.convert_core.proofs.RowsWritten.{shows_more, fails_more, fails_within}

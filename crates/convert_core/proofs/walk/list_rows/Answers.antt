@@ -1,9 +1,8 @@
 use Rattle.std.specs.Result.{IsErrOf}
-use Rattle.std.proofs.Common.{◌≡◌, ℕ, ◌+◌, Err, refl, sym, ap, subst, ◌∙◌}
+use Rattle.std.proofs.Common.{Err, sym, ap, subst, ◌∙◌}
 use Rattle.std.proofs.lemmas.Result.{err_from_is_err_and}
 use Rattle.poly_model.specs.Systems.{System}
 use Rattle.reverse_step.specs.Walks.{Walk}
-use Rattle.row_printer.specs.declared.shown.Shown.{Shown}
 use Rattle.convert_core.specs.declared.walk.Ended.TheVariants.{Overflow, WriteFault}
 use Rattle.convert_core.specs.Listed.{RisesAt, IsStep, EndsStep}
 use Rattle.convert_core.proofs.Searching.{steps_at_start, takes_steps}

@@ -75,8 +75,7 @@ returns-in-Ok-finish-clause-written g c p last file b same =
     old mid (g.S.Sink.written c.list_rows.new.out) (g.S.Sink.written c.finish.new.out) _ refl
     (subst (λ t. Appends old mid t)
     (same_head p c.args.start.now.sys.now c.args.lines.now c.kind.result c.n.result file c.kind.ensures c.n.ensures.value)
-    c.in-Ok.ensures.prints.whole)
-    (
+    c.in-Ok.ensures.prints.whole) (
       rows.0,
       rows.1,
       subst (λ n. HasWritten c.args.start.now.sys.now.kind mid then n c.in_ok-listing.field-0.rows rows.0)

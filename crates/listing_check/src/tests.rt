@@ -1,0 +1,172 @@
+//! Files that are listed in two ways.
+use convert_core::list;
+use hull_lift::system_of;
+use plain_enum::list_feasible;
+use poly_io::MemSink;
+use poly_model::{Kind, Listed, MOST_COLUMNS, MOST_FILE_ROWS, Poly};
+use poly_num::Num;
+use row_printer::ListStop;
+use std::alloc::{AllocError, Global};
+use std::test::Fail;
+
+/// A file, its rows one after the other, the marks of its first rows that may be linear, and how many rows and lines both
+/// listings have.
+#[derive(Clone, Copy)]
+struct Case {
+    name: &'static str,
+    kind: Kind,
+    n: u32,
+    entries: &'static [i128],
+    linear: &'static [bool],
+    listed: (u64, u32),
+}
+
+const OCTAHEDRON: Case = Case {
+    name: "an octahedron: four rows meet at each vertex",
+    kind: Kind::H,
+    n: 4,
+    entries: &[
+        1, 1, 1, 1, 1, 1, 1, -1, 1, 1, -1, 1, 1, 1, -1, -1, 1, -1, 1, 1, 1, -1, 1, -1, 1, -1, -1,
+        1, 1, -1, -1, -1,
+    ],
+    linear: &[],
+    listed: (6, 0),
+};
+
+const CASES: [Case; 8] = [
+    OCTAHEDRON,
+    Case {
+        name: "a cube that is cut at one corner, beside the origin",
+        entries: &[
+            -1, 1, 0, 0, -1, 0, 1, 0, -1, 0, 0, 1, 3, -1, 0, 0, 3, 0, -1, 0, 3, 0, 0, -1, 8, -1,
+            -1, -1,
+        ],
+        listed: (10, 0),
+        ..OCTAHEDRON
+    },
+    Case {
+        name: "rows that meet at points of fractions, one of them twice, with two rays",
+        n: 3,
+        entries: &[
+            -7, 3, 5, -7, 3, 5, -4, 5, 1, -3, 1, 4, 0, 1, 0, 0, 0, 1, 0, 2, 7,
+        ],
+        listed: (6, 0),
+        ..OCTAHEDRON
+    },
+    Case {
+        name: "a triangle by an equation, times a line",
+        n: 5,
+        entries: &[
+            -2, 1, 1, 1, 0, 0, 1, 0, 0, 0, 0, 0, 1, 0, 0, 0, 0, 0, 1, 0, 9, -1, -1, -1, 0,
+        ],
+        linear: &[true],
+        listed: (3, 1),
+        ..OCTAHEDRON
+    },
+    Case {
+        name: "half a prism: the ray goes from three vertices",
+        entries: &[0, 1, 0, 0, 0, 0, 1, 0, 2, -1, -1, 0, 0, 0, 0, 1],
+        listed: (4, 0),
+        ..OCTAHEDRON
+    },
+    Case {
+        name: "six points of a curve of degree four",
+        kind: Kind::V,
+        n: 5,
+        entries: &[
+            1, 0, 0, 0, 0, 1, 1, 1, 1, 1, 1, 2, 4, 8, 16, 1, 3, 9, 27, 81, 1, 4, 16, 64, 256, 1, 5,
+            25, 125, 625,
+        ],
+        listed: (9, 0),
+        ..OCTAHEDRON
+    },
+    Case {
+        name: "the points of a cube, with its middle",
+        kind: Kind::V,
+        entries: &[
+            1, 0, 0, 0, 1, 0, 0, 2, 1, 0, 2, 0, 1, 0, 2, 2, 1, 2, 0, 0, 1, 2, 0, 2, 1, 2, 2, 0, 1,
+            2, 2, 2, 1, 1, 1, 1,
+        ],
+        listed: (6, 0),
+        ..OCTAHEDRON
+    },
+    Case {
+        name: "a square in space, and a ray that leaves its plane",
+        kind: Kind::V,
+        entries: &[1, 0, 0, 0, 1, 1, 0, 0, 1, 0, 1, 0, 1, 1, 1, 0, 0, 1, 2, 3],
+        listed: (5, 0),
+        ..OCTAHEDRON
+    },
+];
+
+/// How many rows and lines a listing has, and its lines of text in a fixed order.
+#[derive(PartialEq, Eq, Debug, Drop)]
+struct Answer<'a> {
+    listed: (u64, u32),
+    written: Vec<&'a [u8]>,
+}
+
+#[test]
+fn both_listings_have_the_same_rows(rt: HostRuntime) -> Result<(), Fail> {
+    let alloc = rt.alloc();
+    for case in CASES {
+        let poly = poly_of(alloc, case)?;
+        let cone = system_of(alloc, &poly)?;
+        let mut by_search = MemSink::new(alloc, &[]);
+        let mut by_subsets = MemSink::new(alloc, &[]);
+        let found = sizes_of(list(alloc, &poly, &mut by_search))?;
+        let wanted = sizes_of(list_feasible(alloc, &cone, &mut by_subsets))?;
+        let search = answered(alloc, found, by_search.written())?;
+        let subsets = answered(alloc, wanted, by_subsets.written())?;
+        assert_eq!(rt;
+            (&search, search.listed),
+            (&subsets, case.listed),
+            "{}",
+            case.name
+        );
+    }
+    Ok(())
+}
+
+fn answered<'a>(
+    alloc: Global,
+    listed: (u64, u32),
+    text: &'a [u8],
+) -> Result<Answer<'a>, AllocError> {
+    let mut written = text.split(|b| *b == b'\n').collect::<Vec<&[u8]>>(alloc)?;
+    written.sort()?;
+    Ok(Answer { listed, written })
+}
+
+fn sizes_of(ended: Result<Listed, ListStop>) -> Result<(u64, u32), Fail> {
+    match ended {
+        Ok(listed) => Ok((listed.rows, listed.lines)),
+        Err(_) => Err("a listing")?,
+    }
+}
+
+// A row that has no mark is not linear.
+fn poly_of(alloc: Global, case: Case) -> Result<Poly, Fail> {
+    let Case {
+        kind,
+        n,
+        entries,
+        linear: marks,
+        ..
+    } = case;
+    if n == 0 || n > MOST_COLUMNS {
+        return Err("some columns, and not many")?;
+    }
+    let mut cells = Vec::new(alloc);
+    for x in entries {
+        cells.push(Num::new(*x).ok_or("a number of 127 bits")?)?;
+    }
+    let mut linear = Vec::new(alloc);
+    for i in 0..cells.len() / n as usize {
+        linear.push(i < marks.len() && marks[i])?;
+    }
+    if linear.len() > MOST_FILE_ROWS as usize || cells.len() != linear.len() * n as usize {
+        return Err("whole rows, and not many")?;
+    }
+    Ok(Poly::new(kind, n, cells, linear, Vec::new(alloc)))
+}
