@@ -6,6 +6,7 @@ mod process;
 mod status;
 #[cfg(test)]
 mod tests;
+mod through;
 mod top;
 
 use command_line::LineStop;
@@ -16,13 +17,13 @@ use std::process::ExitCode;
 
 fn main(rt: HostRuntime) -> ExitCode {
     let mut input = StdinSource::new(rt.stdin());
-    let mut out = StdoutSink::new(rt.stdout());
+    let out = StdoutSink::new(rt.stdout());
     let mut errors = StdoutSink::new(rt.stderr());
-    let number = respond(
+    let (number, _) = respond(
         rt.alloc(),
         arguments(&rt),
         &mut input,
-        &mut out,
+        out,
         &mut errors,
     );
     ExitCode::from(number)

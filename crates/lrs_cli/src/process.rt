@@ -13,23 +13,23 @@ use std::alloc::Global;
 
 /// Answers the arguments of a process, its program's name first, or the reason why they could not be read. Says on
 /// `errors` how the call ended, and gives the exit status, which says the same: so it matters little where `errors`
-/// takes nothing.
+/// takes nothing. Gives the output back.
 pub fn respond<I: Source, O: Sink, E: Sink>(
     alloc: Global,
     arguments: Result<Vec<String>, LineStop>,
     input: &mut I,
-    out: &mut O,
+    out: O,
     errors: &mut E,
-) -> u8
+) -> (u8, O)
     ensures { Ending (result_map_both (λ v. map string_bytes (drop 1 v.items)) (λ e. e) arguments)
-        (streams (I.left input.old) (I.faults input.old) (O.written out.old) (O.faults out.old))
-        (streams (I.left input.new) (I.faults input.new) (O.written out.new) (O.faults out.new))
-        (input.new ≡ input.old) (out.new ≡ out.old)
-        (IsSaid (E.written errors.old) (E.written errors.new) (E.faults errors.old) (E.faults errors.new)) result }
+        (streams (I.left input.old) (I.faults input.old) (O.written out) (O.faults out))
+        (streams (I.left input.new) (I.faults input.new) (O.written result.1) (O.faults result.1))
+        (input.new ≡ input.old) (result.1 ≡ out)
+        (IsSaid (E.written errors.old) (E.written errors.new) (E.faults errors.old) (E.faults errors.new)) result.0 }
 {
-    let status = answer(alloc, arguments, input, out);
+    let (status, out) = answer(alloc, arguments, input, out);
     let _ = status_line(&status, errors);
-    status.number()
+    (status.number(), out)
 }
 
 // The answer to the arguments.
@@ -37,17 +37,17 @@ fn answer<I: Source, O: Sink>(
     alloc: Global,
     arguments: Result<Vec<String>, LineStop>,
     input: &mut I,
-    out: &mut O,
-) -> Status
+    out: O,
+) -> (Status, O)
     ensures { AnswersArguments (result_map_both (λ v. map string_bytes (drop 1 v.items)) (λ e. e) arguments)
-        (streams (I.left input.old) (I.faults input.old) (O.written out.old) (O.faults out.old))
-        (streams (I.left input.new) (I.faults input.new) (O.written out.new) (O.faults out.new))
-        (input.new ≡ input.old) (out.new ≡ out.old) result }
+        (streams (I.left input.old) (I.faults input.old) (O.written out) (O.faults out))
+        (streams (I.left input.new) (I.faults input.new) (O.written result.1) (O.faults result.1))
+        (input.new ≡ input.old) (result.1 ≡ out) result.0 }
 {
     match arguments {
         Ok(given) => answer_given(alloc, &given, input, out),
-        Err(LineStop::Usage) => Status::Usage,
-        Err(LineStop::Memory) => Status::OutOfMemory,
+        Err(LineStop::Usage) => (Status::Usage, out),
+        Err(LineStop::Memory) => (Status::OutOfMemory, out),
     }
 }
 
@@ -56,16 +56,16 @@ fn answer_given<I: Source, O: Sink>(
     alloc: Global,
     given: &[String],
     input: &mut I,
-    out: &mut O,
-) -> Status
+    out: O,
+) -> (Status, O)
     ensures { Answers (map string_bytes (drop 1 given.now))
-        (streams (I.left input.old) (I.faults input.old) (O.written out.old) (O.faults out.old))
-        (streams (I.left input.new) (I.faults input.new) (O.written out.new) (O.faults out.new))
-        (input.new ≡ input.old) (out.new ≡ out.old) result }
+        (streams (I.left input.old) (I.faults input.old) (O.written out) (O.faults out))
+        (streams (I.left input.new) (I.faults input.new) (O.written result.1) (O.faults result.1))
+        (input.new ≡ input.old) (result.1 ≡ out) result.0 }
 {
     match words_of(alloc, given) {
         Ok(words) => lrs(alloc, &words, input, out),
-        Err(_) => Status::OutOfMemory,
+        Err(_) => (Status::OutOfMemory, out),
     }
 }
 

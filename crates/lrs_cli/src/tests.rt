@@ -416,8 +416,8 @@ fn answers_calls(rt: HostRuntime) -> Result<(), Fail> {
     let cases = LISTED.iter().chain(&WITHOUT_A_LISTING).chain(&STOPPED);
     for case in cases {
         let mut input = MemSource::new(case.file.as_bytes(), case.reads);
-        let mut out = MemSink::new(alloc, case.writes);
-        let status = lrs(alloc, case.words, &mut input, &mut out);
+        let out = MemSink::new(alloc, case.writes);
+        let (status, out) = lrs(alloc, case.words, &mut input, out);
         let found = answered(alloc, end_of(&status), out.written())?;
         let want = answered(alloc, case.end, case.written.as_bytes())?;
         assert_eq!(rt; found, want, "{}", case.name);
@@ -466,9 +466,9 @@ fn a_process_says_how_it_ends(rt: HostRuntime) -> Result<(), Fail> {
             Err(stop) => Err(stop),
         };
         let mut input = MemSource::new(SQUARE.file.as_bytes(), &[]);
-        let mut out = MemSink::new(alloc, &[]);
+        let out = MemSink::new(alloc, &[]);
         let mut errors = MemSink::new(alloc, &[]);
-        let said = respond(alloc, given, &mut input, &mut out, &mut errors);
+        let (said, _) = respond(alloc, given, &mut input, out, &mut errors);
         assert_eq!(rt;
             (said, errors.written()),
             (number, line.as_bytes()),
