@@ -19,13 +19,7 @@ fn main(rt: HostRuntime) -> ExitCode {
     let mut input = StdinSource::new(rt.stdin());
     let out = StdoutSink::new(rt.stdout());
     let mut errors = StdoutSink::new(rt.stderr());
-    let (number, _) = respond(
-        rt.alloc(),
-        arguments(&rt),
-        &mut input,
-        out,
-        &mut errors,
-    );
+    let (number, _) = respond(rt.alloc(), arguments(&rt), &mut input, out, &mut errors);
     ExitCode::from(number)
 }
 
