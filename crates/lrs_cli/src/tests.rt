@@ -48,7 +48,7 @@ const SQUARE: Case = Case {
     written: "V-representation\nbegin\n***** 3 rational\n 1 0 0\n 1 1 0\n 1 0 1\n 1 1 1\nend\n",
 };
 
-const LISTED: [Case; 21] = [
+const LISTED: [Case; 22] = [
     SQUARE,
     Case {
         name: "a row twice, and a row of zeros",
@@ -179,13 +179,18 @@ const LISTED: [Case; 21] = [
         ..SQUARE
     },
     Case {
+        name: "a square in one write: the next would fail",
+        writes: &[Call::AtMost(usize::MAX), Call::Fail],
+        ..SQUARE
+    },
+    Case {
         name: "the square with its rows broken",
         file: "H-representation\r\nbegin\r\n4 3\ninteger 0\n1 0 0\t0 1\n\n1 -1 0 1 0\n-1 end of it\nmaxoutput 3\n",
         ..SQUARE
     },
 ];
 
-const WITHOUT_A_LISTING: [Case; 13] = [
+const WITHOUT_A_LISTING: [Case; 15] = [
     Case {
         name: "5 >= 0 and -5 >= 0",
         file: "H-representation\nbegin\n2 1 integer\n5\n-5\nend\n",
@@ -240,7 +245,25 @@ const WITHOUT_A_LISTING: [Case; 13] = [
         file: "H-representation\nbegin\n4 3 integer\n\
          1 -1267650600228229401496703205376 -1\n\
          1 -1 -1901475900342344102245054808064\n0 1 0\n0 0 1\nend\n",
-        end: End::Overflow(Phase::Cone),
+        end: End::Overflow(Phase::Prepare),
+        written: "",
+        ..SQUARE
+    },
+    Case {
+        name: "the same point, and its rows come after those of the root",
+        file: "H-representation\nbegin\n4 3 integer\n0 1 0\n0 0 1\n\
+         1 -1267650600228229401496703205376 -1\n\
+         1 -1 -1901475900342344102245054808064\nend\n",
+        end: End::Overflow(Phase::Main),
+        written: "V-representation\nbegin\n***** 3 rational\n 1 0 0\n",
+        ..SQUARE
+    },
+    Case {
+        name: "the same point on the way to the root",
+        file: "H-representation\nbegin\n4 3 integer\n0 1 0\n0 0 1\n\
+         -1 1267650600228229401496703205376 1\n\
+         -1 1 1901475900342344102245054808064\nend\n",
+        end: End::Overflow(Phase::First),
         written: "",
         ..SQUARE
     },
@@ -248,7 +271,7 @@ const WITHOUT_A_LISTING: [Case; 13] = [
         name: "two rows whose exchange needs 2^128",
         file: "H-representation\nbegin\n2 3 integer\n\
          0 18446744073709551616 1\n0 1 18446744073709551616\nend\n",
-        end: End::Overflow(Phase::Cone),
+        end: End::Overflow(Phase::Prepare),
         written: "",
         ..SQUARE
     },
