@@ -20,7 +20,7 @@ use Rattle.hull_lift.specs.Facets.{primitive_column, HasPointRows, IsShownAs, Is
 use Rattle.convert_core.specs.declared.rays.Rays.{Rays}
 use Rattle.convert_core.specs.declared.rays.Rays.TheVariants.{All, Touching}
 use Rattle.convert_core.specs.Rays.{HasLinearPoint, AreShown}
-use Rattle.convert_core.specs.Rows.{IsColumnShown, CanTest, columns_of, rows_of}
+use Rattle.convert_core.specs.Rows.{IsColumnShown, CanTest, columns_of, column_rows}
 use Rattle.convert_core.proofs.LinearRows.{shown_by_linear_point}
 use Rattle.convert_core.proofs.RowLists.{value_there, value_of, once_values}
 use Rattle.convert_core.proofs.ShownRows.{no_constant, ray_along, touched_exactly, shown_ray, ray_back, point_back, shown_point, all_shown}
@@ -127,7 +127,7 @@ module _ (p : Polyhedron) (free : List ℕ) (columns : AreFreeColumns (cone_of p
 
       -- so the rows of all columns that pass are the vectors shown here
       pub lists_rows : (cs : List ℕ) → ListsAll IsListed cs →
-          ListsAll (IsShownAtSome p root (d.key ∷ [])) (rows_of (cone_of p) d cs)
+          ListsAll (IsShownAtSome p root (d.key ∷ [])) (column_rows (cone_of p) d cs)
       lists_rows cs l = record {
         once = once_values row cs l.once
             (λ a b c e q. one_column a b (l.only a c) (l.only b e) q);
@@ -146,8 +146,8 @@ module _ (p : Polyhedron) (free : List ℕ) (columns : AreFreeColumns (cone_of p
 
       -- and those of some are some of them
       pub some_rows : (cs : List ℕ) → StandOnce cs → ((c : ℕ) → Contains cs c → IsListed c) →
-          StandOnce (rows_of (cone_of p) d cs)
-          × ((y : Vector) → Contains (rows_of (cone_of p) d cs) y → IsShownAtSome p root (d.key ∷ []) y)
+          StandOnce (column_rows (cone_of p) d cs)
+          × ((y : Vector) → Contains (column_rows (cone_of p) d cs) y → IsShownAtSome p root (d.key ∷ []) y)
       some_rows cs once only = (
         once_values row cs once (λ a b c e q. one_column a b (only a c) (only b e) q),
         λ y c.

@@ -21,12 +21,10 @@ use Rattle.poly_io.specs.Written.{AppendsPart, Prints}
 use Rattle.poly_io.proofs.Parts.{part_after}
 use Rattle.row_printer.specs.declared.shown.Shown.{Shown}
 use Rattle.row_printer.specs.Rows.{counted, HasWritten}
-use Rattle.convert_core.specs.Rows.{IsColumnShown, WritesShown, FailsShown, ShowsColumns, rows_of}
+use Rattle.row_printer.proofs.Counts.{counted_none}
+use Rattle.convert_core.specs.Rows.{IsColumnShown, WritesShown, FailsShown, ShowsColumns, column_rows}
 
 -- ---- rows, and more rows
-pub counted_none : (rows : ℕ) → rows < 2 ^ 64 → rows ≡ counted rows 0
-counted_none rows l = omega arith
-
 counted_more : (rows m n : ℕ) → counted (counted rows m) n ≡ counted rows (m + n)
 counted_more rows m n = omega arith
 
@@ -150,8 +148,8 @@ module _ {O : Type 0} (sink : Sink O) (sys : System) (root : List ℕ) (d : Dict
       rows = subst (λ ys. HasWritten s.listing (sink.written o) (sink.written q) s.rows u.rows ys)
           (sym (map-append row w.shown v.shown))
           (has_more s.listing (sink.written o) (sink.written m) (sink.written q) s.rows t.rows u.rows
-          (rows_of sys d w.shown) (rows_of sys d v.shown) w.rows
-          (subst (λ k. HasWritten k (sink.written m) (sink.written q) t.rows u.rows (rows_of sys d v.shown)) w.kind v.rows));
+          (column_rows sys d w.shown) (column_rows sys d v.shown) w.rows
+          (subst (λ k. HasWritten k (sink.written m) (sink.written q) t.rows u.rows (column_rows sys d v.shown)) w.kind v.rows));
       same = v.same ∙ w.same;
     }
 
@@ -167,9 +165,9 @@ module _ {O : Type 0} (sink : Sink O) (sys : System) (root : List ℕ) (d : Dict
           (Contains-append_cases w.shown v.shown x k);
       bytes = subst (λ ys. AppendsPart (sink.written o) (sink.written q) (flat_map (row_text s.listing) ys))
           (sym (map-append row w.shown v.shown))
-          (part_more s.listing (sink.written o) (sink.written m) (sink.written q) (rows_of sys d w.shown)
-          (rows_of sys d v.shown) w.rows.bytes
-          (subst (λ k. AppendsPart (sink.written m) (sink.written q) (flat_map (row_text k) (rows_of sys d v.shown))) w.kind
+          (part_more s.listing (sink.written o) (sink.written m) (sink.written q) (column_rows sys d w.shown)
+          (column_rows sys d v.shown) w.rows.bytes
+          (subst (λ k. AppendsPart (sink.written m) (sink.written q) (flat_map (row_text k) (column_rows sys d v.shown))) w.kind
           v.bytes));
       later = subst (λ n. n ≤ sink.faults q) w.same v.later;
       rose = subst (λ n. Rose n (sink.faults q)) w.same v.rose;

@@ -6,6 +6,7 @@ use Rattle.std.proofs.lemmas.List.Elements.{Contains-append_cases}
 use Rattle.poly_num.specs.Vectors.{Vector}
 use Rattle.poly_model.specs.declared.kind.Kind.{Kind}
 use Rattle.poly_model.specs.declared.kind.Kind.TheVariants.{H, V}
+use Rattle.poly_model.specs.declared.overflow.Phase.TheVariants.{Main}
 use Rattle.poly_model.specs.Extreme.{IsExtreme, AreExtreme}
 use Rattle.poly_model.specs.Labels.{IsRow, is_row}
 use Rattle.poly_model.specs.PhaseOne.{IsSearchRoot}
@@ -29,14 +30,14 @@ use Rattle.dictionary.specs.Views.{IsDictionaryIn}
 use Rattle.hull_lift.specs.Facets.{HasPointRows}
 use Rattle.reverse_step.specs.declared.walker.Visit.{Visit}
 use Rattle.reverse_step.specs.declared.walker.Visit.TheVariants.{New, Back, End}
-use Rattle.reverse_step.specs.Walks.{Walk}
+use Rattle.reverse_step.specs.Walks.{Walk, IsWalkIn}
 use Rattle.reverse_step.specs.Moves.{IsVisit}
 use Rattle.reverse_step.specs.Runs.{HasRun}
 use Rattle.linear_laws.proofs.Members.{Contains-nil, Contains-cons_cases}
 use Rattle.reverse_step.proofs.RunLemmas.{run_starts, some_left, not_visited, run_new, run_back, run_ends}
 use Rattle.convert_core.specs.declared.rays.Rays.{Rays}
 use Rattle.convert_core.specs.Rays.{HasLinearPoint, AreShown}
-use Rattle.convert_core.specs.Rows.{IsColumnShown, CanTest, columns_of, rows_of}
+use Rattle.convert_core.specs.Rows.{IsColumnShown, CanTest, columns_of, column_rows}
 use Rattle.convert_core.specs.Searches.{IsSearch, IsAtRoot}
 use Rattle.convert_core.specs.Listed.{TakesSteps}
 use Rattle.convert_core.proofs.RowLists.{turned, distinct_vectors, lists_vectors}
@@ -90,19 +91,19 @@ module _ (p : Polyhedron) (cone : System) (rays : Rays) (walk : Walk) (vector : 
   IsListed c = Contains (columns_of walk.dict) c × IsColumnShown cone walk.root walk.dict c
 
   pub rows_here : (cs : List ℕ) → ListsAll IsListed cs →
-      ListsAll (IsShownAtSome p walk.root (walk.dict.key ∷ [])) (rows_of cone walk.dict cs)
+      ListsAll (IsShownAtSome p walk.root (walk.dict.key ∷ [])) (column_rows cone walk.dict cs)
   rows_here cs l =
-      subst (λ s. ListsAll (IsShownAtSome p walk.root (walk.dict.key ∷ [])) (rows_of s walk.dict cs)) (sym x.is_cone)
+      subst (λ s. ListsAll (IsShownAtSome p walk.root (walk.dict.key ∷ [])) (column_rows s walk.dict cs)) (sym x.is_cone)
       (lists_rows p x.free x.columns x.few walk.root walk.dict is_dictionary x.walk_in.stands.feasible rays can_there
       subtree_root cs
       (subst (λ s. ListsAll (λ c. Contains (columns_of walk.dict) c × IsColumnShown s walk.root walk.dict c) cs)
       x.is_cone l))
 
   pub some_rows_here : (cs : List ℕ) → StandOnce cs → ((c : ℕ) → Contains cs c → IsListed c) →
-      StandOnce (rows_of cone walk.dict cs)
-      × ((y : Vector) → Contains (rows_of cone walk.dict cs) y → IsShownAtSome p walk.root (walk.dict.key ∷ []) y)
+      StandOnce (column_rows cone walk.dict cs)
+      × ((y : Vector) → Contains (column_rows cone walk.dict cs) y → IsShownAtSome p walk.root (walk.dict.key ∷ []) y)
   some_rows_here cs once only =
-      subst (λ s. StandOnce (rows_of s walk.dict cs) × ((y : Vector) → Contains (rows_of s walk.dict cs) y →
+      subst (λ s. StandOnce (column_rows s walk.dict cs) × ((y : Vector) → Contains (column_rows s walk.dict cs) y →
       IsShownAtSome p walk.root (walk.dict.key ∷ []) y)) (sym x.is_cone)
       (some_rows p x.free x.columns x.few walk.root walk.dict is_dictionary x.walk_in.stands.feasible rays can_there
       subtree_root cs once
@@ -112,10 +113,10 @@ module _ (p : Polyhedron) (cone : System) (rays : Rays) (walk : Walk) (vector : 
   pub extreme_of_some : (keys : List (List ℕ)) (y : Vector) → IsShownAtSome p walk.root keys y → IsExtreme (cone_of p) y
   extreme_of_some keys y s = (searches_listing p walk.root x.few subtree_root).only_extreme s.0 s.2 y s.3
 
-  -- ---- one step further
-  pub search_moves : (visit : Visit) (new : Walk) (more : Vector) → IsVisit walk visit new → length more ≡ length vector →
-      IsSearch p cone rays new more
-  search_moves visit new more v width = record {
+  -- ---- elsewhere, with other room
+  abbrev elsewhere : (new : Walk) (more : Vector) → IsWalkIn space x.home new → new.dict.phase ≡ Main → IsSearchRoot p new.root →
+      length more ≡ length vector → IsSearch p cone rays new more
+  elsewhere new more w phase root width = record {
     is_cone = x.is_cone;
     are_shown = x.are_shown;
     few = x.few;
@@ -124,10 +125,20 @@ module _ (p : Polyhedron) (cone : System) (rays : Rays) (walk : Walk) (vector : 
     free = x.free;
     columns = x.columns;
     home = x.home;
-    walk_in = v.walk space x.home x.walk_in;
-    phase = v.phase ∙ x.phase;
-    search_root = subst (IsSearchRoot p) (sym v.root) x.search_root;
+    walk_in = w;
+    phase = phase;
+    search_root = root;
   }
+
+  pub another_vector : (more : Vector) → length more ≡ length vector → IsSearch p cone rays walk more
+  another_vector more width = elsewhere walk more x.walk_in x.phase x.search_root width
+
+  -- one step further
+  pub search_moves : (visit : Visit) (new : Walk) (more : Vector) → IsVisit walk visit new → length more ≡ length vector →
+      IsSearch p cone rays new more
+  search_moves visit new more v width =
+      elsewhere new more (v.walk space x.home x.walk_in) (v.phase ∙ x.phase)
+      (subst (IsSearchRoot p) (sym v.root) x.search_root) width
 
 -- ---- so far
 -- the walk began at the root; the rows of the cobases visited were written, so many steps were counted, and some are left

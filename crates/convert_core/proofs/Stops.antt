@@ -24,7 +24,7 @@ use Rattle.row_printer.specs.Rows.{HasWritten}
 use Rattle.convert_core.specs.declared.rays.Rays.{Rays}
 use Rattle.convert_core.specs.declared.walk.Ended.{Ended}
 use Rattle.convert_core.specs.declared.walk.Ended.TheVariants.{Overflow, WriteFault}
-use Rattle.convert_core.specs.Rows.{FailsShown, columns_of, rows_of}
+use Rattle.convert_core.specs.Rows.{FailsShown, columns_of, column_rows}
 use Rattle.convert_core.specs.Searches.{IsSearch}
 use Rattle.convert_core.specs.Listed.{RisesAt, EndsStep, ListsRows}
 use Rattle.convert_core.proofs.RowLists.{distinct_vectors}
@@ -43,7 +43,7 @@ module _ {O : Type 0} (sink : Sink O) (p : Polyhedron) (cone : System) (rays : R
       (o q : O) → FailsShown sink.written sink.faults cone walk.root walk.dict (columns_of walk.dict) s o q →
       (result : Result Shown E) → IsErr result → ListsRows p (sink.written o) (sink.written q) s.rows result
   stops_first walk vector x s kind o q f result r =
-      let ys = rows_of cone walk.dict f.shown in
+      let ys = column_rows cone walk.dict f.shown in
       let some = some_rows_here p cone rays walk vector x f.shown f.once f.only in
       let (rest, e) = completed p ys (distinct_vectors ys some.0)
       (λ y c. extreme_of_some p cone rays walk vector x (walk.dict.key ∷ []) y (some.1 y c)) in
@@ -62,7 +62,7 @@ module _ {O : Type 0} (sink : Sink O) (p : Polyhedron) (cone : System) (rays : R
         FailsShown sink.written sink.faults cone new.root new.dict (columns_of new.dict) t m q →
         (result : Result Shown E) → IsErr result → ListsRows p (sink.written o) (sink.written q) s.rows result
     fails new q v f result r =
-        let ys = rows_of cone new.dict f.shown in
+        let ys = column_rows cone new.dict f.shown in
         let moved = search_moves p cone rays walk vector x.search New new vector v refl in
         let some = some_rows_here p cone rays new vector moved f.shown f.once f.only in
         let (rest, e) = stops_after p cone rays first walk vector left rows before now x ys

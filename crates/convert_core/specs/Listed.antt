@@ -38,7 +38,7 @@ StepShows written faults sys Back walk s old t new = (t ≡ s) × (new ≡ old)
 StepShows written faults sys End walk s old t new = (t ≡ s) × (new ≡ old)
 
 -- the walk moved, and what is shown there was written
-pub record IsStep {O : Type 0} (written : O → Option (List ℕ)) (faults : O → ℕ) (sys : System) (before : Walk)
+pub record WritesStep {O : Type 0} (written : O → Option (List ℕ)) (faults : O → ℕ) (sys : System) (before : Walk)
     (visit : Visit) (after : Walk) (s : Shown) (old : O) (t : Shown) (new : O) : Type 0 where
   pub moved : IsVisit before visit after
   pub shows : StepShows written faults sys visit after s old t new

@@ -43,8 +43,8 @@ pub record CanTest (sys : System) (d : Dictionary) (rays : Rays) : Type 0 where
   pub points : sys.kind ≡ V → (HasLinearPoint sys → ⊥) → HasPointRows sys d
 
 -- the rows of these columns
-abbrev pub rows_of : System → Dictionary → List ℕ → List Vector
-rows_of sys d cs = map (λ c. primitive_column d c sys.n) cs
+abbrev pub column_rows : System → Dictionary → List ℕ → List Vector
+column_rows sys d cs = map (λ c. primitive_column d c sys.n) cs
 
 -- ---- what is written
 -- the rows of those of the columns that are shown
@@ -53,7 +53,7 @@ pub record WritesShown {O : Type 0} (written : O → Option (List ℕ)) (faults 
   pub kind : t.listing ≡ s.listing
   pub shown : List ℕ
   pub all : ListsAll (λ c. Contains columns c × IsColumnShown sys root d c) shown
-  pub rows : HasWritten s.listing (written old) (written new) s.rows t.rows (rows_of sys d shown)
+  pub rows : HasWritten s.listing (written old) (written new) s.rows t.rows (column_rows sys d shown)
   pub same : faults new ≡ faults old
 
 -- first bytes of the rows of some of them, each once, and then a write failed
@@ -62,7 +62,7 @@ pub record FailsShown {O : Type 0} (written : O → Option (List ℕ)) (faults :
   pub shown : List ℕ
   pub once : StandOnce shown
   pub only : (c : ℕ) → Contains shown c → Contains columns c × IsColumnShown sys root d c
-  pub bytes : AppendsPart (written old) (written new) (flat_map (row_text s.listing) (rows_of sys d shown))
+  pub bytes : AppendsPart (written old) (written new) (flat_map (row_text s.listing) (column_rows sys d shown))
   pub later : faults old ≤ faults new
   pub rose : Rose (faults old) (faults new)
 

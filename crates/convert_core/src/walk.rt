@@ -5,7 +5,7 @@ ghost use Rattle.poly_model.specs.declared.overflow.Overflow.{Overflow as Passed
 ghost use Rattle.poly_model.specs.Due.{IsDue, IsAskedInMain};
 ghost use Rattle.convert_core.specs.Rows.{ShowsColumns, columns_of};
 ghost use Rattle.convert_core.specs.Searches.{IsSearch, IsAtRoot};
-ghost use Rattle.convert_core.specs.Listed.{RisesAt, IsStep, EndsStep, ListsRows, TakesSteps};
+ghost use Rattle.convert_core.specs.Listed.{RisesAt, WritesStep, EndsStep, ListsRows, TakesSteps};
 
 use crate::rows::{Basis, show_columns};
 use crate::search::Search;
@@ -63,7 +63,7 @@ fn step<S: Sink, L: Ledger>(
 ) -> Result<(Visit, Shown), Ended>
     requires search { IsSearch search.old.poly.now search.old.cone search.old.rays search.old.walker
         search.old.vector.items }
-    ensures step { IfOk result (λ r. IsStep S.written S.faults search.old.cone search.old.walker r.0 search.new.walker
+    ensures step { IfOk result (λ r. WritesStep S.written S.faults search.old.cone search.old.walker r.0 search.new.walker
         shown out.old r.1 out.new) }
     ensures ends { IfErr result (λ e. EndsStep S.written S.faults search.old.cone search.old.walker search.new.walker
         shown out.old out.new e) }

@@ -4,10 +4,11 @@ use Rattle.std.proofs.lemmas.Result.{err_from_is_err_and}
 use Rattle.poly_model.specs.Systems.{System}
 use Rattle.reverse_step.specs.Walks.{Walk}
 use Rattle.convert_core.specs.declared.walk.Ended.TheVariants.{Overflow, WriteFault}
-use Rattle.convert_core.specs.Listed.{RisesAt, IsStep, EndsStep}
+use Rattle.convert_core.specs.Listed.{RisesAt, WritesStep, EndsStep}
 use Rattle.convert_core.proofs.Searching.{steps_at_start, takes_steps}
-use Rattle.convert_core.proofs.Steps.{Going, begins, goes, ends_rows, ends_kind, ends_cause}
+use Rattle.convert_core.proofs.Steps.{Going, HasEnded, begins, goes, ends}
 use Rattle.convert_core.proofs.Stops.{stops_first, stops_rows, stops_cause, stops_due}
+use Rattle.convert_core.proofs.walk.list_rows.Given.{Over}
 use Rattle.convert_core.proofs.walk.list_rows.Goals as goal
 
 -- ---- at the root
@@ -84,53 +85,33 @@ returns-in_err-visit-clause-cost g c =
     c.steps.left x.rows c.args.steps.now c.steps.steps x.listed c.step.new.steps c.in_err-visit.ensures.counted
 
 -- ---- the end
-pub returns-then-is_end-clause-rows : goal.returns-then-is_end-clause-rows
-returns-then-is_end-clause-rows g c =
+ended : (g : Over) (c : goal.Then-is_end g) →
+    HasEnded g.S.Sink c.args.search.now.poly.now c.args.shown c.args.out.now c.in_ok-visit.next c.step.new.out
+ended g c =
     let search = c.args.search.now in
-    ends_rows g.S.Sink search.poly.now search.cone search.rays search.walker c.steps.search.walker
-    c.steps.search.vector.items c.lower.new.self c.args.steps.now c.steps.steps c.args.shown c.requires.kind c.args.out.now
-    c.steps.shown c.steps.out
+    ends g.S.Sink search.poly.now search.cone search.rays search.walker c.steps.search.walker c.steps.search.vector.items
+    c.lower.new.self c.args.steps.now c.steps.steps c.args.shown c.requires.kind c.args.out.now c.steps.shown c.steps.out
     (subst (λ n. Going g.S.Sink search.poly.now search.cone search.rays search.walker c.steps.search.walker
     c.steps.search.vector.items n c.args.steps.now c.steps.steps c.args.shown c.args.out.now c.steps.shown c.steps.out)
     c.lower.ensures c.steps.invariant.going)
     c.step.new.search.walker c.step.new.search.vector.items c.in_ok-visit.ensures.width c.step.new.steps
     c.in_ok-visit.ensures.counted c.in_ok-visit.next c.step.new.out c.in_ok-visit.visit
     (c.is_end.ensures.0 c.if-is_end.true)
-    (subst (λ (s : System). IsStep g.S.Sink.written g.S.Sink.faults s c.steps.search.walker c.in_ok-visit.visit
+    (subst (λ (s : System). WritesStep g.S.Sink.written g.S.Sink.faults s c.steps.search.walker c.in_ok-visit.visit
     c.step.new.search.walker c.steps.shown c.steps.out c.in_ok-visit.next c.step.new.out) c.steps.invariant.cone
     c.in_ok-visit.ensures.step)
 
+pub returns-then-is_end-clause-rows : goal.returns-then-is_end-clause-rows
+returns-then-is_end-clause-rows g c =
+    let x = ended g c in record { whole = (x.rows, x.extreme, x.written); part = tt }
+
 pub returns-then-is_end-clause-kind : goal.returns-then-is_end-clause-kind
-returns-then-is_end-clause-kind g c =
-    let search = c.args.search.now in
-    ends_kind g.S.Sink search.poly.now search.cone search.rays search.walker c.steps.search.walker
-    c.steps.search.vector.items c.lower.new.self c.args.steps.now c.steps.steps c.args.shown c.requires.kind c.args.out.now
-    c.steps.shown c.steps.out
-    (subst (λ n. Going g.S.Sink search.poly.now search.cone search.rays search.walker c.steps.search.walker
-    c.steps.search.vector.items n c.args.steps.now c.steps.steps c.args.shown c.args.out.now c.steps.shown c.steps.out)
-    c.lower.ensures c.steps.invariant.going)
-    c.step.new.search.walker c.step.new.search.vector.items c.in_ok-visit.ensures.width c.step.new.steps
-    c.in_ok-visit.ensures.counted c.in_ok-visit.next c.step.new.out c.in_ok-visit.visit
-    (c.is_end.ensures.0 c.if-is_end.true)
-    (subst (λ (s : System). IsStep g.S.Sink.written g.S.Sink.faults s c.steps.search.walker c.in_ok-visit.visit
-    c.step.new.search.walker c.steps.shown c.steps.out c.in_ok-visit.next c.step.new.out) c.steps.invariant.cone
-    c.in_ok-visit.ensures.step)
+returns-then-is_end-clause-kind g c = (ended g c).kind
 
 pub returns-then-is_end-clause-cause : goal.returns-then-is_end-clause-cause
 returns-then-is_end-clause-cause g c =
-    let search = c.args.search.now in
-    ends_cause g.S.Sink search.poly.now search.cone search.rays search.walker c.steps.search.walker
-    c.steps.search.vector.items c.lower.new.self c.args.steps.now c.steps.steps c.args.shown c.requires.kind c.args.out.now
-    c.steps.shown c.steps.out
-    (subst (λ n. Going g.S.Sink search.poly.now search.cone search.rays search.walker c.steps.search.walker
-    c.steps.search.vector.items n c.args.steps.now c.steps.steps c.args.shown c.args.out.now c.steps.shown c.steps.out)
-    c.lower.ensures c.steps.invariant.going)
-    c.step.new.search.walker c.step.new.search.vector.items c.in_ok-visit.ensures.width c.step.new.steps
-    c.in_ok-visit.ensures.counted c.in_ok-visit.next c.step.new.out c.in_ok-visit.visit
-    (c.is_end.ensures.0 c.if-is_end.true)
-    (subst (λ (s : System). IsStep g.S.Sink.written g.S.Sink.faults s c.steps.search.walker c.in_ok-visit.visit
-    c.step.new.search.walker c.steps.shown c.steps.out c.in_ok-visit.next c.step.new.out) c.steps.invariant.cone
-    c.in_ok-visit.ensures.step) WriteFault
+    let same = (ended g c).same in
+    record { later = omega (arith, same); failed = λ f. absurd cc; same = λ n. same }
 
 pub returns-then-is_end-clause-cost : goal.returns-then-is_end-clause-cost
 returns-then-is_end-clause-cost g c =
@@ -153,7 +134,7 @@ steps-preserved g c =
           c.step.new.search.walker c.step.new.search.vector.items c.in_ok-visit.ensures.width c.step.new.steps
           c.in_ok-visit.ensures.counted c.in_ok-visit.next c.step.new.out c.in_ok-visit.visit
           (λ e. let t = c.is_end.ensures.1 e in let f = c.if-is_end.false in cc)
-          (subst (λ (s : System). IsStep g.S.Sink.written g.S.Sink.faults s c.steps.search.walker c.in_ok-visit.visit
+          (subst (λ (s : System). WritesStep g.S.Sink.written g.S.Sink.faults s c.steps.search.walker c.in_ok-visit.visit
           c.step.new.search.walker c.steps.shown c.steps.out c.in_ok-visit.next c.step.new.out) c.steps.invariant.cone
           c.in_ok-visit.ensures.step);
       poly = c.in_ok-visit.ensures.poly ∙ c.steps.invariant.poly;
