@@ -1,5 +1,5 @@
 -- The answer of `convert` through a buffer: what holds of the buffered sink, and of its end, holds of the sink below it.
-use Rattle.std.proofs.Common.{◌≡◌, ◌≤◌, ℕ, ◌⊎◌, List, [], Option, None, Some, Result, Ok, Err, OnOk, OnErr, IsOk, arith, inl, inr, refl, subst, append-nil, sym, ◌∙◌}
+use Rattle.std.proofs.Common.{◌≡◌, ℕ, List, [], Option, None, Some, Result, Ok, Err, OnOk, OnErr, IsOk, arith, inl, inr, refl, subst, append-nil, sym, ◌∙◌}
 use Rattle.std.specs.Io.KnownBytes.{Appends, Keeps}
 use Rattle.std.proofs.KnownBytes.{Appends-kept}
 use Rattle.poly_io.specs.Causes.{Rose, HasCause}
@@ -8,7 +8,7 @@ use Rattle.poly_model.specs.Systems.{Polyhedron, cone_of}
 use Rattle.poly_model.specs.Extreme.{IsFeasible}
 use Rattle.lrs_cli.specs.declared.status.Status.{Status}
 use Rattle.lrs_cli.specs.declared.status.Status.TheVariants.{Done, Usage, BadFile, Infeasible, Overflow, ReadFault, WriteFault, OutOfMemory}
-use Rattle.lrs_cli.specs.Answers.{Told, Describes, WritesWhole, WritesPart, IsListed, IsPartlyListed, IsFeasibleFile, StopsListing, WritesNothing}
+use Rattle.lrs_cli.specs.Answers.{Told, Describes, WritesWhole, WritesPart, IsPartlyListed, IsFeasibleFile, WritesNothing}
 use Rattle.lrs_cli.specs.Convert.{Streams, AnswersConvert, streams}
 
 -- a fact of a described polyhedron gives another
