@@ -1,5 +1,5 @@
 use Rattle.std.specs.Result.{IsErrOf}
-use Rattle.std.proofs.Common.{Err, sym, ap, subst, ◌∙◌}
+use Rattle.std.proofs.Common.{Err, sym, ap, subst, ◌∙◌, arith}
 use Rattle.std.proofs.lemmas.Result.{err_from_is_err_and}
 use Rattle.poly_model.specs.Systems.{System}
 use Rattle.reverse_step.specs.Walks.{Walk}
