@@ -99,10 +99,10 @@ const CASES: [Case; 8] = [
     },
 ];
 
-/// How many rows and lines a listing has, and its lines of text in a fixed order.
+/// How many rows and lines were listed, none where there is no listing, and the lines of text in a fixed order.
 #[derive(PartialEq, Eq, Debug, Drop)]
 struct Answer<'a> {
-    listed: (u64, u32),
+    listed: Option<(u64, u32)>,
     written: Vec<&'a [u8]>,
 }
 
@@ -113,14 +113,14 @@ fn both_listings_have_the_same_rows(rt: HostRuntime) -> Result<(), Fail> {
         let poly = poly_of(alloc, case)?;
         let cone = system_of(alloc, &poly)?;
         let mut by_search = MemSink::new(alloc, &[]);
+        let found = sizes_of(list(alloc, &poly, &mut by_search));
         let mut by_subsets = MemSink::new(alloc, &[]);
-        let found = sizes_of(list(alloc, &poly, &mut by_search))?;
-        let wanted = sizes_of(list_feasible(alloc, &cone, &mut by_subsets))?;
+        let wanted = sizes_of(list_feasible(alloc, &cone, &mut by_subsets));
         let search = answered(alloc, found, by_search.written())?;
         let subsets = answered(alloc, wanted, by_subsets.written())?;
         assert_eq!(rt;
             (&search, search.listed),
-            (&subsets, case.listed),
+            (&subsets, Some(case.listed)),
             "{}",
             case.name
         );
@@ -130,7 +130,7 @@ fn both_listings_have_the_same_rows(rt: HostRuntime) -> Result<(), Fail> {
 
 fn answered<'a>(
     alloc: Global,
-    listed: (u64, u32),
+    listed: Option<(u64, u32)>,
     text: &'a [u8],
 ) -> Result<Answer<'a>, AllocError> {
     let mut written = text.split(|b| *b == b'\n').collect::<Vec<&[u8]>>(alloc)?;
@@ -138,10 +138,10 @@ fn answered<'a>(
     Ok(Answer { listed, written })
 }
 
-fn sizes_of(ended: Result<Listed, ListStop>) -> Result<(u64, u32), Fail> {
+fn sizes_of(ended: Result<Listed, ListStop>) -> Option<(u64, u32)> {
     match ended {
-        Ok(listed) => Ok((listed.rows, listed.lines)),
-        Err(_) => Err("a listing")?,
+        Ok(listed) => Some((listed.rows, listed.lines)),
+        Err(_) => None,
     }
 }
 
