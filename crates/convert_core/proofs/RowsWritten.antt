@@ -21,7 +21,6 @@ use Rattle.poly_io.specs.Written.{AppendsPart, Prints}
 use Rattle.poly_io.proofs.Parts.{part_after}
 use Rattle.row_printer.specs.declared.shown.Shown.{Shown}
 use Rattle.row_printer.specs.Rows.{counted, HasWritten}
-use Rattle.row_printer.proofs.Counts.{counted_none}
 use Rattle.convert_core.specs.Rows.{IsColumnShown, WritesShown, FailsShown, ShowsColumns, column_rows}
 
 -- ---- rows, and more rows
@@ -38,7 +37,7 @@ has_more kind a b c rows mid now xs ys f g = record {
 }
 
 pub has_none : (kind : Kind) (a : Option (List ℕ)) (rows : ℕ) → rows < 2 ^ 64 → HasWritten kind a a rows rows []
-has_none kind a rows l = record { bytes = Appends-nil a; count = counted_none rows l }
+has_none kind a rows l = record { bytes = Appends-nil a; count = omega arith }
 
 -- first bytes of more rows
 pub part_more : (kind : Kind) (a b c : Option (List ℕ)) (xs ys : List Vector) → Appends a b (flat_map (row_text kind) xs) →

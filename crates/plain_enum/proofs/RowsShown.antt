@@ -18,7 +18,7 @@ use Rattle.plain_enum.specs.declared.prefix.Ended.{Ended}
 use Rattle.plain_enum.specs.declared.prefix.Ended.TheVariants.{Overflow, Stopped}
 use Rattle.plain_enum.specs.Listed.{HasStopCause, WritesRow, FailsAtRow, WritesRows}
 use Rattle.plain_enum.specs.Visits.{Visited, EndedAtLast, VisitsEach, VisitsSome}
-use Rattle.row_printer.proofs.Counts.{counted_none}
+use Rattle.plain_enum.proofs.ShowUnder.{counted_none}
 
 -- ---- why a listing stopped
 pub not_stopped : {T E : Type 0} (before now : ℕ) (result : Result T (Ended E)) → now ≡ before →

@@ -17,11 +17,16 @@ use Rattle.listing_laws.specs.Prefixes.{IsCornerUnder}
 use Rattle.plain_enum.specs.declared.side.Side.{Side}
 use Rattle.plain_enum.specs.Columns.{IsLeftCoordinate, LeavesNoCoordinate}
 use Rattle.plain_enum.specs.Shown.{IsShownOn, vector_on}
+use Rattle.row_printer.specs.Rows.{counted}
 use Rattle.plain_enum.specs.Listed.{IsAt}
 use Rattle.plain_enum.specs.Standing.{StandsAt, LeavesColumn}
 use Rattle.plain_enum.proofs.FixedLabels.{FixedAre, left_in_key, left_not_free, is_left}
 use Rattle.plain_enum.proofs.OneLeft.{one_is_left}
 use Rattle.plain_enum.proofs.ColumnShown.{one_on, none_on}
+
+-- ---- a count of rows, and none more
+pub counted_none : (rows : ℕ) → rows < 2 ^ 64 → rows ≡ counted rows 0
+counted_none rows l = omega arith
 
 -- ---- the label that is left
 one_only : (left : List ℕ) → length left ≡ 1 → (k : ℕ) × (left ≡ k ∷ [])

@@ -1,3 +1,2 @@
 pub mod ListingTextLemmas
 pub mod ListingParts
-pub mod Counts
