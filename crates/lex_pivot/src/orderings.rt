@@ -1,8 +1,25 @@
-// What an order of two numbers is.
+// What an order of two numbers is, and that of two fractions.
 ghost use Rattle.std.specs.declared.cmp.Ordering.TheVariants.{Less, Equal, Greater};
-ghost use Rattle.std.specs.Prelude.{◌≡◌, ◌≢◌, IsTrue, IsFalse};
+ghost use Rattle.std.specs.Ordering.{int_cmp};
+ghost use Rattle.std.specs.Prelude.{◌≡◌, ◌≢◌, ◌*ℤ◌, ◌<ℤ◌, pos, IsTrue, IsFalse};
 
+use poly_num::{Num, cmp_cross, mul};
 use std::cmp::Ordering;
+
+/// The order of `a / b` and `c / d`, for positive `b` and `d`: by the two products, and only where one of them passes 127
+/// bits by repeated division, which takes longer.
+pub(crate) fn cmp_ratios(a: Num, b: Num, c: Num, d: Num) -> Ordering
+    requires left { pos 0 <ℤ b }
+    requires right { pos 0 <ℤ d }
+    ensures { result ≡ int_cmp (a *ℤ d) (c *ℤ b) }
+{
+    if let Some(x) = mul(a, d)
+        && let Some(y) = mul(c, b)
+    {
+        return x.get().cmp(&y.get());
+    }
+    cmp_cross(a, b, c, d)
+}
 
 /// Whether it is not `Equal`.
 pub fn differs(order: Ordering) -> bool

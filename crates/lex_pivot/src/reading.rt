@@ -5,9 +5,10 @@ ghost use Rattle.poly_num.specs.Signs.{sign_of};
 ghost use Rattle.dictionary.specs.Views.{table_of};
 ghost use Rattle.lex_pivot.specs.Readings.{reading_at, IsReadable};
 
+use crate::orderings::cmp_ratios;
 use dictionary::Dict;
 use poly_model::Label;
-use poly_num::{Num, cmp_cross, neg, sign};
+use poly_num::{Num, neg, sign};
 use std::cmp::Ordering;
 
 /// A number for each row, by its entries.
@@ -72,10 +73,10 @@ fn sum_sign(p: Num, a: Num, f: Num, b: Num) -> Ordering
     ensures { result ≡ sign_of (p *ℤ a +ℤ b *ℤ f) }
 {
     if f.is_positive() {
-        return cmp_cross(a, f, neg(b), p);
+        return cmp_ratios(a, f, neg(b), p);
     }
     if is_negative(f) {
-        return cmp_cross(a, neg(f), b, p);
+        return cmp_ratios(a, neg(f), b, p);
     }
     sign(a)
 }

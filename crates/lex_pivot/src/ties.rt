@@ -9,10 +9,10 @@ ghost use Rattle.dictionary.specs.Views.{table_of};
 ghost use Rattle.lex_pivot.specs.Pairs.{pair_gaps, gap_at, constant_gap, ArePair, IsEnd, IsPastEnd, end_sign};
 
 use crate::Order;
-use crate::orderings::differs;
+use crate::orderings::{cmp_ratios, differs};
 use dictionary::Dict;
 use poly_model::Label;
-use poly_num::{Num, cmp_cross, neg};
+use poly_num::{Num, neg};
 use std::cmp::Ordering;
 
 /// Two rows outside the cobasis, and minus their entries in a column, which are positive.
@@ -44,7 +44,7 @@ fn cmp_constants(dict: &Dict, pair: &Pair) -> Ordering
     requires { ArePair dict.now pair.now }
     ensures { result ≡ sign_of (constant_gap (table_of dict.now) pair.now) }
 {
-    cmp_cross(
+    cmp_ratios(
         dict.constant(pair.row),
         pair.over,
         dict.constant(pair.other),
@@ -123,7 +123,7 @@ fn gap_sign(dict: &Dict, order: &Order, pair: &Pair, k: Label) -> Ordering
     if !order.is_before_root(k) {
         return Ordering::Equal;
     }
-    cmp_cross(
+    cmp_ratios(
         neg(dict.entry(pair.row, k)),
         pair.over,
         neg(dict.entry(pair.other, k)),

@@ -19,11 +19,11 @@ entry-requires-2-clause-row c = (row_only c.args.dict.now.labels c.args.pair.now
 pub returns-clause-value : goal.returns-clause-value
 returns-clause-value c m =
     gap_inside c.args.dict.now.key (table_of c.args.dict.now) c.args.pair.now c.args.k c.neg.result c.neg-2.result
-    c.cmp_cross.result c.requires.inside
+    c.cmp_ratios.result c.requires.inside
     (λ e. c.requires.pair.row.outside (subst (λ (k : ℕ). Contains c.args.dict.now.key k) e c.requires.inside))
     (λ e. c.requires.pair.other.outside (subst (λ (k : ℕ). Contains c.args.dict.now.key k) e c.requires.inside))
     (c.neg.ensures ∙ ap neg_ℤ c.entry.ensures.value) (c.neg-2.ensures ∙ ap neg_ℤ c.entry-2.ensures.value)
-    c.cmp_cross.ensures
+    c.cmp_ratios.ensures
 
 pub returns-clause-outside : goal.returns-clause-outside
 returns-clause-outside c n =
