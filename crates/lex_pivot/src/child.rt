@@ -40,8 +40,9 @@ pub fn is_child_by(dict: &Dict, order: &Order, col: Label, row: Label) -> bool
     none_enters_first(dict, order, col, row)
 }
 
-// Whether the greatest row of the root that is not 0 in the column is positive there.
-fn leads_up(dict: &Dict, order: &Order, col: Label) -> bool
+/// Whether the greatest row of the root that is not 0 in the column is positive there. Where it is not, no neighbour in the
+/// column is a child, and no row has to be found that leaves.
+pub fn leads_up(dict: &Dict, order: &Order, col: Label) -> bool
     requires { Contains dict.now.key col }
     ensures { IsTrue result ↔ LeadsUp dict.now.labels order.now (table_of dict.now) col }
 {

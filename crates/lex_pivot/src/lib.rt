@@ -12,7 +12,7 @@ mod rows;
 mod scan;
 mod ties;
 
-pub use child::{is_child, is_child_by};
+pub use child::{is_child, is_child_by, leads_up};
 pub use feasible::{is_lex_feasible, is_lex_feasible_by};
 pub use parents::{Pivot, parent, parent_by};
 pub use ratio::{is_candidate, leaving, leaving_by};

@@ -8,7 +8,9 @@ use Rattle.poly_model.specs.Tree.{IsRowOutside, Leaves, IsNeighbour, exchanged_k
 use Rattle.std.specs.List.{Contains}
 use Rattle.dictionary_laws.proofs.KeyExchange.{ascending_distinct}
 use Rattle.tree_laws.proofs.Neighbours.{one_neighbour}
+use Rattle.search_laws.specs.ChildTest.{LeadsUp}
 use Rattle.search_laws.specs.Shares.{IsChild}
+use Rattle.search_laws.proofs.ChildTest.{child_by_test}
 use Rattle.dictionary.specs.Views.{Dictionary, table_of}
 use Rattle.lex_pivot.specs.Ratios.{NoneLeaves}
 use Rattle.lex_pivot.specs.Children.{DecidesChild}
@@ -30,6 +32,16 @@ module _ (d : Dictionary) (root : List ℕ) (s : ℕ) where
       let a = n m.r (subst (λ ls. IsRowOutside ls d.key m.r) (sym st.dictionary.labels) m.leaves.row) in
       let b = m.leaves.negative in
       omega (arith, lin)
+
+  -- the greatest row of the root that is not 0 in the column is not positive there
+  pub leads_nowhere : (LeadsUp d.labels root (table_of d) s → ⊥) → HasNoChildAt root d s
+  leads_nowhere n space home st child x =
+      let m = here space home st child x in
+      let law = child_by_test space root d.key home (table_of d)
+      (ascending_distinct (rows_in space.labels) st.ascending) st.feasible_root.dictionary st.feasible s m.r m.column
+      m.leaves in
+      n (subst (λ ls. LeadsUp ls root (table_of d) s) (sym st.dictionary.labels)
+      (law.0 (subst (IsChild space root d.key) m.exchange x.child)).lead)
 
   module _ (r : ℕ) (c : Contains d.key s) (l : Leaves d.labels root d.key (table_of d) s r) where
     pub leads_to_child : DecidesChild d root s r true → LeadsToChild root d s r

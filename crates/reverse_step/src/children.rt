@@ -5,7 +5,7 @@ ghost use Rattle.std.specs.Option.{MatchOption};
 ghost use Rattle.reverse_step.specs.Children.{HasNoChildAt, LeadsToChild, NoneBetween, IsFirstChild};
 
 use dictionary::Dict;
-use lex_pivot::{Order, is_child_by, leaving_by};
+use lex_pivot::{Order, is_child_by, leads_up, leaving_by};
 use poly_model::Label;
 
 /// The pivot that leads to a child: the row that leaves, the column that it enters for, and the place of that in the key.
@@ -31,11 +31,14 @@ pub(crate) fn first_child(dict: &Dict, order: &Order, at: usize) -> Option<Child
     None
 }
 
-/// The row that leaves in a column, if the neighbour there is a child.
+/// The row that leaves in a column, if the neighbour there is a child. About half of the columns need no ratio test for it.
 pub(crate) fn child_at(dict: &Dict, order: &Order, col: Label) -> Option<Label>
     requires { Contains dict.now.key col }
     ensures { MatchOption result (HasNoChildAt order.now dict.now col) (λ r. LeadsToChild order.now dict.now col r) }
 {
+    if !leads_up(dict, order, col) {
+        return None;
+    }
     let Some(row) = leaving_by(dict, order, col) else {
         return None;
     };
