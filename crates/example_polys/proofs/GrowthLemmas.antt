@@ -4,7 +4,7 @@ use Rattle.std.specs.List.{flat_map, range_with_len}
 use Rattle.std.proofs.lemmas.List.{map-append, replicate-append-replicate}
 use Rattle.std.proofs.lemmas.Grind.{flat_map-append}
 use Rattle.poly_num.specs.Vectors.{Vector}
-use Rattle.example_polys.specs.Cells.{joined}
+use Rattle.example_polys.specs.Cells.{end_to_end}
 
 pub replicate_more : {X : Type 0} (n : ℕ) (x : X) → replicate (n + 1) x ≡ replicate n x ++ x ∷ []
 replicate_more n x = sym (replicate-append-replicate n 1 x)
@@ -18,26 +18,27 @@ range_suc a (suc n) =
 pub range_more : (a n : ℕ) → range_with_len a (n + 1) ≡ range_with_len a n ++ (a + n) ∷ []
 range_more a n = ap (range_with_len a) (add-one n) ∙ range_suc a n
 
-pub joined-append : (rows more : List Vector) → joined (rows ++ more) ≡ joined rows ++ joined more
-joined-append rows more = flat_map-append (λ row. row) rows more
+pub end_to_end-append : (rows more : List Vector) → end_to_end (rows ++ more) ≡ end_to_end rows ++ end_to_end more
+end_to_end-append rows more = flat_map-append (λ row. row) rows more
 
 -- one more row
 pub rows_more : (f : ℕ → Vector) (n : ℕ) →
-    joined (map f (range_with_len 0 (n + 1))) ≡ joined (map f (range_with_len 0 n)) ++ f n
+    end_to_end (map f (range_with_len 0 (n + 1))) ≡ end_to_end (map f (range_with_len 0 n)) ++ f n
 rows_more f n =
     let here = map f (range_with_len 0 n) in
     let last : 0 + n ≡ n = omega arith in
-    ap (λ l. joined (map f l)) (range_more 0 n) ∙ ap joined (map-append f (range_with_len 0 n) _) ∙
-    joined-append here _ ∙ ap (λ l. joined here ++ l) (append-nil (f (0 + n)) ∙ ap f last)
+    ap (λ l. end_to_end (map f l)) (range_more 0 n) ∙ ap end_to_end (map-append f (range_with_len 0 n) _) ∙
+    end_to_end-append here _ ∙ ap (λ l. end_to_end here ++ l) (append-nil (f (0 + n)) ∙ ap f last)
 
 -- one more group of rows
 pub groups_more : (f : ℕ → List Vector) (n : ℕ) →
-    joined (flat_map f (range_with_len 0 (n + 1))) ≡ joined (flat_map f (range_with_len 0 n)) ++ joined (f n)
+    end_to_end (flat_map f (range_with_len 0 (n + 1)))
+    ≡ end_to_end (flat_map f (range_with_len 0 n)) ++ end_to_end (f n)
 groups_more f n =
     let here = flat_map f (range_with_len 0 n) in
     let last : 0 + n ≡ n = omega arith in
-    ap (λ l. joined (flat_map f l)) (range_more 0 n) ∙ ap joined (flat_map-append f (range_with_len 0 n) _) ∙
-    joined-append here _ ∙ ap (λ l. joined here ++ joined l) (append-nil (f (0 + n)) ∙ ap f last)
+    ap (λ l. end_to_end (flat_map f l)) (range_more 0 n) ∙ ap end_to_end (flat_map-append f (range_with_len 0 n) _) ∙
+    end_to_end-append here _ ∙ ap (λ l. end_to_end here ++ end_to_end l) (append-nil (f (0 + n)) ∙ ap f last)
 
 -- a list that grew twice
 pub two_behind : (old now mid new here s t : Vector) → now ≡ old ++ here → mid ≡ now ++ s → new ≡ mid ++ t →

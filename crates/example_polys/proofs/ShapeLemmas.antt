@@ -11,8 +11,8 @@ use Rattle.poly_model.specs.Systems.{FileRow, Polyhedron}
 use Rattle.poly_model.specs.Tables.{file_rows_in, IsShaped}
 use Rattle.example_polys.specs.declared.kind.ExampleKind.{ExampleKind}
 use Rattle.example_polys.specs.declared.kind.ExampleKind.TheVariants.{Cube, Cross, Product, Pyramid}
-use Rattle.example_polys.specs.Cells.{joined}
-use Rattle.example_polys.specs.Examples.{one, minus_one, one_at, unit_rows, side, sides, rows_of, width_of, file_kind, plain_row, example_of}
+use Rattle.example_polys.specs.Cells.{end_to_end}
+use Rattle.example_polys.specs.Examples.{one, minus_one, one_at, unit_rows, side, sides, example_rows, example_width, file_kind, plain_row, example_of}
 
 abbrev pub HasWidth : ℕ → Vector → Type 0
 HasWidth w row = length row ≡ w
@@ -33,7 +33,7 @@ count_of Pyramid n = 2 * n + 1
 pub unit_count : (c : ℤ) (n : ℕ) (x : ℤ) → length (unit_rows c n x) ≡ n
 unit_count c n x = length-map-range_with_len (λ i. c ∷ one_at n i x) 0 n
 
-pub rows_count : (kind : ExampleKind) (n : ℕ) → length (rows_of kind n) ≡ count_of kind n
+pub rows_count : (kind : ExampleKind) (n : ℕ) → length (example_rows kind n) ≡ count_of kind n
 rows_count Cube n =
     omega (
       arith,
@@ -101,7 +101,7 @@ half_wide n x y =
     omega (arith, length-append (replicate n x) (replicate n y), length-replicate n x, length-replicate n y)
 
 -- each row has the width of its kind
-pub wide : (kind : ExampleKind) (n : ℕ) → AllByRecursion (HasWidth (width_of kind n)) (rows_of kind n)
+pub wide : (kind : ExampleKind) (n : ℕ) → AllByRecursion (HasWidth (example_width kind n)) (example_rows kind n)
 wide Cube n = all_both (n + 1) _ _ (unit_wide (pos 0) n one) (unit_wide one n minus_one)
 wide Cross n = all_both (n + 1) _ _ (unit_wide one n one) (unit_wide one n minus_one)
 wide Product n =
@@ -121,24 +121,24 @@ wide Pyramid n =
 suc_times : (m w : ℕ) → suc m * w ≡ w + m * w
 suc_times m w = omega (arith, suc-mul m w)
 
-pub joined_length : (w : ℕ) (rows : List Vector) → AllByRecursion (HasWidth w) rows →
-    length (joined rows) ≡ length rows * w
-joined_length w [] p = omega (arith, zero-mul w)
-joined_length w (row ∷ rows) p =
+pub end_to_end_length : (w : ℕ) (rows : List Vector) → AllByRecursion (HasWidth w) rows →
+    length (end_to_end rows) ≡ length rows * w
+end_to_end_length w [] p = omega (arith, zero-mul w)
+end_to_end_length w (row ∷ rows) p =
     let next : suc (length rows) * w ≡ w + length rows * w = suc_times (length rows) w in
-    omega (arith, next, joined_length w rows p.1, p.0, length-append row (joined rows))
+    omega (arith, next, end_to_end_length w rows p.1, p.0, length-append row (end_to_end rows))
 
 pub read_back : (w : ℕ) (rows : List Vector) → AllByRecursion (HasWidth w) rows →
-    file_rows_in w (joined rows) (replicate (length rows) false) ≡ map plain_row rows
+    file_rows_in w (end_to_end rows) (replicate (length rows) false) ≡ map plain_row rows
 read_back w [] p = refl
 read_back w (row ∷ rows) p =
-    let rest = joined rows in
-    let all = row ++ joined rows in
+    let rest = end_to_end rows in
+    let all = row ++ end_to_end rows in
     let first : take w all ≡ row = subst (λ k. take k all ≡ row) p.0 (take-append_seam row rest) in
     let behind : drop w all ≡ rest = subst (λ k. drop k all ≡ rest) p.0 (drop-append_seam row rest) in
     rw (first, behind) (ap (λ l. plain_row row ∷ l) (read_back w rows p.1))
 
-few_rows : (kind : ExampleKind) (n : ℕ) → n ≤ 20 → length (rows_of kind n) ≤ most_file_rows
+few_rows : (kind : ExampleKind) (n : ℕ) → n ≤ 20 → length (example_rows kind n) ≤ most_file_rows
 few_rows kind n few = rw (rows_count kind n) (few_counted kind few)
   where
     few_counted : (kind : ExampleKind) {n : ℕ} → n ≤ 20 → count_of kind n ≤ most_file_rows
@@ -147,13 +147,13 @@ few_rows kind n few = rw (rows_count kind n) (few_counted kind few)
     few_counted Product few = omega (arith, few)
     few_counted Pyramid few = omega (arith, few)
 
-some_columns : (kind : ExampleKind) (n : ℕ) → 0 < width_of kind n
+some_columns : (kind : ExampleKind) (n : ℕ) → 0 < example_width kind n
 some_columns Cube n = omega arith
 some_columns Cross n = omega arith
 some_columns Product n = omega arith
 some_columns Pyramid n = omega arith
 
-few_columns : (kind : ExampleKind) (n : ℕ) → n ≤ 20 → width_of kind n ≤ most_columns
+few_columns : (kind : ExampleKind) (n : ℕ) → n ≤ 20 → example_width kind n ≤ most_columns
 few_columns Cube n few = omega (arith, few)
 few_columns Cross n few = omega (arith, few)
 few_columns Product n few = omega (arith, few)
@@ -161,12 +161,12 @@ few_columns Pyramid n few = omega (arith, few)
 
 -- the cells of an example are rows of its width
 pub shaped : (kind : ExampleKind) (n : ℕ) → n ≤ 20 →
-    IsShaped most_file_rows (length (replicate (length (rows_of kind n)) false)) (width_of kind n)
-    (joined (rows_of kind n))
+    IsShaped most_file_rows (length (replicate (length (example_rows kind n)) false)) (example_width kind n)
+    (end_to_end (example_rows kind n))
 shaped kind n few =
-    let rows = rows_of kind n in
+    let rows = example_rows kind n in
     rw (length-replicate (length rows) false) (record {
-      full = joined_length (width_of kind n) rows (wide kind n);
+      full = end_to_end_length (example_width kind n) rows (wide kind n);
       few = few_rows kind n few;
       some = some_columns kind n;
       narrow = few_columns kind n few;
@@ -174,11 +174,12 @@ shaped kind n few =
 
 -- an example with these rows
 abbrev pub made : ExampleKind → ℕ → List FileRow → Polyhedron
-made kind n rows = record { kind = file_kind kind; n = width_of kind n; rows = rows; text = [] }
+made kind n rows = record { kind = file_kind kind; n = example_width kind n; rows = rows; text = [] }
 
 -- what is read off the cells is the example
 pub is_example : (kind : ExampleKind) (n : ℕ) →
     made kind n
-    (file_rows_in (width_of kind n) (joined (rows_of kind n)) (replicate (length (rows_of kind n)) false))
+    (file_rows_in (example_width kind n) (end_to_end (example_rows kind n))
+    (replicate (length (example_rows kind n)) false))
     ≡ example_of kind n
-is_example kind n = ap (made kind n) (read_back (width_of kind n) (rows_of kind n) (wide kind n))
+is_example kind n = ap (made kind n) (read_back (example_width kind n) (example_rows kind n) (wide kind n))

@@ -4,5 +4,5 @@ use Rattle.std.specs.List.{flat_map}
 use Rattle.poly_num.specs.Vectors.{Vector}
 
 -- the rows, one behind the other
-abbrev pub joined : List Vector → Vector
-joined rows = flat_map (λ row. row) rows
+abbrev pub end_to_end : List Vector → Vector
+end_to_end rows = flat_map (λ row. row) rows

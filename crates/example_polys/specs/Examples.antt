@@ -48,18 +48,18 @@ sides n i = side n i minus_one ∷ side n i one ∷ []
 abbrev pub pyramid : ℕ → List Vector
 pyramid n = (pos 0 ∷ (replicate n (pos 0) ++ one ∷ [])) ∷ flat_map (sides n) (range_with_len 0 n)
 
-abbrev pub rows_of : ExampleKind → ℕ → List Vector
-rows_of Cube n = cube n
-rows_of Cross n = cross n
-rows_of Product n = product n
-rows_of Pyramid n = pyramid n
+abbrev pub example_rows : ExampleKind → ℕ → List Vector
+example_rows Cube n = cube n
+example_rows Cross n = cross n
+example_rows Product n = product n
+example_rows Pyramid n = pyramid n
 
 -- how many numbers a row has
-abbrev pub width_of : ExampleKind → ℕ → ℕ
-width_of Cube n = n + 1
-width_of Cross n = n + 1
-width_of Product n = 2 * n + 1
-width_of Pyramid n = n + 2
+abbrev pub example_width : ExampleKind → ℕ → ℕ
+example_width Cube n = n + 1
+example_width Cross n = n + 1
+example_width Product n = 2 * n + 1
+example_width Pyramid n = n + 2
 
 -- the cross polytope is given by points, the others by inequalities
 abbrev pub file_kind : ExampleKind → Kind
@@ -75,4 +75,4 @@ plain_row v = record { entries = v; linear = false }
 -- the polyhedron; it has no text
 abbrev pub example_of : ExampleKind → ℕ → Polyhedron
 example_of kind n =
-    record { kind = file_kind kind; n = width_of kind n; rows = map plain_row (rows_of kind n); text = [] }
+    record { kind = file_kind kind; n = example_width kind n; rows = map plain_row (example_rows kind n); text = [] }

@@ -1,7 +1,7 @@
 //! The rows of each family, put into a list of cells.
 ghost use Rattle.std.specs.Prelude.{◌≡◌, ◌≤◌, IfOk};
-ghost use Rattle.example_polys.specs.Examples.{cube, cross, product, pyramid, rows_of};
-ghost use Rattle.example_polys.specs.Cells.{joined};
+ghost use Rattle.example_polys.specs.Examples.{cube, cross, product, pyramid, example_rows};
+ghost use Rattle.example_polys.specs.Cells.{end_to_end};
 
 use crate::ExampleKind;
 use crate::rows::{push_sides, push_times, push_unit_rows};
@@ -10,7 +10,7 @@ use poly_num::{Num, neg};
 use std::alloc::Global;
 
 fn cube_cells(alloc: Global, n: usize) -> Result<Vec<Num>, OutOfMemory>
-    ensures { IfOk result (λ v. v.items ≡ joined (cube n)) }
+    ensures { IfOk result (λ v. v.items ≡ end_to_end (cube n)) }
 {
     let mut cells = Vec::new(alloc);
     push_unit_rows(&mut cells, Num::ZERO, n, Num::ONE)?;
@@ -19,7 +19,7 @@ fn cube_cells(alloc: Global, n: usize) -> Result<Vec<Num>, OutOfMemory>
 }
 
 fn cross_cells(alloc: Global, n: usize) -> Result<Vec<Num>, OutOfMemory>
-    ensures { IfOk result (λ v. v.items ≡ joined (cross n)) }
+    ensures { IfOk result (λ v. v.items ≡ end_to_end (cross n)) }
 {
     let mut cells = Vec::new(alloc);
     push_unit_rows(&mut cells, Num::ONE, n, Num::ONE)?;
@@ -29,7 +29,7 @@ fn cross_cells(alloc: Global, n: usize) -> Result<Vec<Num>, OutOfMemory>
 
 fn product_cells(alloc: Global, n: usize) -> Result<Vec<Num>, OutOfMemory>
     requires { n ≤ 20 }
-    ensures { IfOk result (λ v. v.items ≡ joined (product n)) }
+    ensures { IfOk result (λ v. v.items ≡ end_to_end (product n)) }
 {
     let mut cells = Vec::new(alloc);
     push_unit_rows(&mut cells, Num::ZERO, 2 * n, Num::ONE)?;
@@ -43,7 +43,7 @@ fn product_cells(alloc: Global, n: usize) -> Result<Vec<Num>, OutOfMemory>
 }
 
 fn pyramid_cells(alloc: Global, n: usize) -> Result<Vec<Num>, OutOfMemory>
-    ensures { IfOk result (λ v. v.items ≡ joined (pyramid n)) }
+    ensures { IfOk result (λ v. v.items ≡ end_to_end (pyramid n)) }
 {
     let mut cells = Vec::new(alloc);
     cells.push(Num::ZERO)?;
@@ -56,7 +56,7 @@ fn pyramid_cells(alloc: Global, n: usize) -> Result<Vec<Num>, OutOfMemory>
 /// The cells of an example, row by row.
 pub fn cells_of(alloc: Global, kind: ExampleKind, n: usize) -> Result<Vec<Num>, OutOfMemory>
     requires { n ≤ 20 }
-    ensures { IfOk result (λ v. v.items ≡ joined (rows_of kind n)) }
+    ensures { IfOk result (λ v. v.items ≡ end_to_end (example_rows kind n)) }
 {
     match kind {
         ExampleKind::Cube => cube_cells(alloc, n),

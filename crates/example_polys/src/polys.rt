@@ -1,6 +1,6 @@
 //! The example polyhedra.
 ghost use Rattle.std.specs.Prelude.{◌≡◌, ◌≤◌, false, replicate, length, IfOk};
-ghost use Rattle.example_polys.specs.Examples.{rows_of, width_of, file_kind, example_of};
+ghost use Rattle.example_polys.specs.Examples.{example_rows, example_width, file_kind, example_of};
 
 use crate::ExampleKind;
 use crate::families::cells_of;
@@ -8,7 +8,7 @@ use poly_model::{Kind, OutOfMemory, Poly};
 use std::alloc::Global;
 
 /// The polyhedron of a family at n, as if a file had given its rows in this order: `example_of`. Its rows have as many
-/// whole numbers as `width_of` says, and none is linear; it has no text. An error comes where memory was refused.
+/// whole numbers as `example_width` says, and none is linear; it has no text. An error comes where memory was refused.
 pub fn example(alloc: Global, kind: ExampleKind, n: u32) -> Result<Poly, OutOfMemory>
     requires { n ≤ 20 }
     ensures { IfOk result (λ p. p ≡ example_of kind n) }
@@ -31,7 +31,7 @@ fn kind_of_file(kind: ExampleKind) -> Kind
 // How many numbers a row has.
 fn width(kind: ExampleKind, n: u32) -> u32
     requires { n ≤ 20 }
-    ensures { result ≡ width_of kind n }
+    ensures { result ≡ example_width kind n }
 {
     match kind {
         ExampleKind::Cube | ExampleKind::Cross => n + 1,
@@ -43,7 +43,7 @@ fn width(kind: ExampleKind, n: u32) -> u32
 // How many rows there are.
 fn row_count(kind: ExampleKind, n: u32) -> u32
     requires { n ≤ 20 }
-    ensures { result ≡ length (rows_of kind n) }
+    ensures { result ≡ length (example_rows kind n) }
 {
     match kind {
         ExampleKind::Cube | ExampleKind::Cross => 2 * n,

@@ -2,7 +2,7 @@
 ghost use Rattle.std.specs.Prelude.{◌≡◌, ◌<◌, ◌++◌, replicate, OnOk};
 ghost use Rattle.std.specs.List.{range_with_len, flat_map};
 ghost use Rattle.example_polys.specs.Examples.{one_at, unit_rows, side, sides};
-ghost use Rattle.example_polys.specs.Cells.{joined};
+ghost use Rattle.example_polys.specs.Cells.{end_to_end};
 
 use poly_model::OutOfMemory;
 use poly_num::{Num, neg};
@@ -34,7 +34,7 @@ pub fn push_unit_rows(
     n: usize,
     x: Num,
 ) -> Result<(), OutOfMemory>
-    ensures { OnOk result (cells.new.items ≡ cells.old.items ++ joined (unit_rows constant n x)) }
+    ensures { OnOk result (cells.new.items ≡ cells.old.items ++ end_to_end (unit_rows constant n x)) }
 {
     for i in 0..n {
         cells.push(constant)?;
@@ -56,7 +56,7 @@ pub fn push_side(cells: &mut Vec<Num>, n: usize, i: usize, x: Num) -> Result<(),
 
 /// Puts the two rows for each of n places behind the cells, those of the sides of a pyramid.
 pub fn push_sides(cells: &mut Vec<Num>, n: usize) -> Result<(), OutOfMemory>
-    ensures { OnOk result (cells.new.items ≡ cells.old.items ++ joined (flat_map (sides n) (range_with_len 0 n))) }
+    ensures { OnOk result (cells.new.items ≡ cells.old.items ++ end_to_end (flat_map (sides n) (range_with_len 0 n))) }
 {
     for i in 0..n {
         push_side(cells, n, i, neg(Num::ONE))?;
