@@ -21,7 +21,7 @@ use Rattle.lex_pivot.specs.Earlier.{is_before_root}
 use Rattle.lex_pivot.specs.Pairs.{ArePair, pair_gaps, constant_gap, gap_at, IsEnd, IsEndAt, IsPastEnd, end_sign}
 use Rattle.lex_pivot.specs.declared.ties.Pair.{Pair}
 use Rattle.lex_pivot.proofs.EarlierLemmas.{before_has, before_only, row_only, outside_ascending}
-use Rattle.lex_pivot.proofs.SignLemmas.{cross_sign, listed_elsewhere, listed_inside}
+use Rattle.lex_pivot.proofs.SignLemmas.{turned_sign, listed_elsewhere, listed_inside}
 use Rattle.lex_pivot.proofs.FirstSigns.{IsZeroBelow, zero_first, ascending_sign, no_sign, not_below, sign_zero}
 
 positive_gap : (p q x y : ℤ) → pos 0 <ℤ p → pos 0 <ℤ x → y ≡ pos 0 → pos 0 <ℤ (p *ℤ x -ℤ q *ℤ y)
@@ -42,40 +42,41 @@ own_number : (key : List ℕ) (t : Table) (i k : ℕ) → k ≡ i → listed_at 
 own_number key t i k e =
     ap (λ b. cond b t.denominator (cond (is_member k key) (neg_ℤ (t.entry i k)) (pos 0))) (eq-eqb k i e)
 
--- the numbers at a label of the cobasis, as the code compares them
+-- the numbers at a label of the cobasis, as the code compares them: the lists have minus the entries x and y
 pub gap_inside : (key : List ℕ) (t : Table) (pair : Pair) (k : ℕ) (x y : ℤ) (o : Ordering) → Contains key k →
-    k ≢ pair.row → k ≢ pair.other → x ≡ neg_ℤ (t.entry pair.row k) → y ≡ neg_ℤ (t.entry pair.other k) →
-    o ≡ int_cmp (x *ℤ pair.other_over) (y *ℤ pair.over) → o ≡ sign_of (gap_at key t pair k)
+    k ≢ pair.one.row → k ≢ pair.other.row → x ≡ t.entry pair.one.row k → y ≡ t.entry pair.other.row k →
+    o ≡ int_cmp (y *ℤ pair.one.over) (x *ℤ pair.other.over) → o ≡ sign_of (gap_at key t pair k)
 gap_inside key t pair k x y o c m n e f g =
-    g ∙ cross_sign pair.other_over pair.over x y
-    ∙ ap (λ z. sign_of (pair.other_over *ℤ z -ℤ pair.over *ℤ y)) (e ∙ sym (listed_inside key t pair.row k m c))
-    ∙ ap (λ z. sign_of (pair.other_over *ℤ listed_at key t pair.row k -ℤ pair.over *ℤ z))
-    (f ∙ sym (listed_inside key t pair.other k n c))
+    g ∙ turned_sign pair.other.over pair.one.over x y
+    ∙ ap (λ z. sign_of (pair.other.over *ℤ z -ℤ pair.one.over *ℤ neg_ℤ y))
+    (ap neg_ℤ e ∙ sym (listed_inside key t pair.one.row k m c))
+    ∙ ap (λ z. sign_of (pair.other.over *ℤ listed_at key t pair.one.row k -ℤ pair.one.over *ℤ z))
+    (ap neg_ℤ f ∙ sym (listed_inside key t pair.other.row k n c))
 
 -- where the constants are equal the rows outside the root decide, and else the constants
 pub gaps_behind : (d : Dictionary) (root : List ℕ) (pair : Pair) → constant_gap (table_of d) pair ≡ pos 0 →
     lex_sign_of (map (gap_at d.key (table_of d) pair) (outside d.labels root)) ≡ lex_sign_of (pair_gaps d root pair)
 gaps_behind d root pair z =
-    ap lex_sign_of (sym (gaps_of_maps pair.other_over (listed_at d.key (table_of d) pair.row) pair.over
-    (listed_at d.key (table_of d) pair.other) (outside d.labels root)))
-    ∙ sym (zero_first (constant_gap (table_of d) pair) (gaps pair.other_over
-    (map (listed_at d.key (table_of d) pair.row) (outside d.labels root)) pair.over
-    (map (listed_at d.key (table_of d) pair.other) (outside d.labels root))) z)
+    ap lex_sign_of (sym (gaps_of_maps pair.other.over (listed_at d.key (table_of d) pair.one.row) pair.one.over
+    (listed_at d.key (table_of d) pair.other.row) (outside d.labels root)))
+    ∙ sym (zero_first (constant_gap (table_of d) pair) (gaps pair.other.over
+    (map (listed_at d.key (table_of d) pair.one.row) (outside d.labels root)) pair.one.over
+    (map (listed_at d.key (table_of d) pair.other.row) (outside d.labels root))) z)
 
-module _ (d : Dictionary) (root : List ℕ) (pair : Pair) (two : ArePair d pair) (differ : pair.row ≢ pair.other)
+module _ (d : Dictionary) (root : List ℕ) (pair : Pair) (two : ArePair d pair) (differ : pair.one.row ≢ pair.other.row)
     (up : IsAscending d.labels) (key_up : IsAscending d.key) (positive : pos 0 <ℤ d.denominator) where
-  elsewhere : (k : ℕ) → (Contains d.key k → ⊥) → k ≢ pair.row → k ≢ pair.other → gap_at d.key (table_of d) pair k ≡ pos 0
+  elsewhere : (k : ℕ) → (Contains d.key k → ⊥) → k ≢ pair.one.row → k ≢ pair.other.row → gap_at d.key (table_of d) pair k ≡ pos 0
   elsewhere k n a b =
-      no_gap pair.other_over pair.over (listed_at d.key (table_of d) pair.row k)
-      (listed_at d.key (table_of d) pair.other k) (listed_elsewhere d.key (table_of d) pair.row k a n)
-      (listed_elsewhere d.key (table_of d) pair.other k b n)
+      no_gap pair.other.over pair.one.over (listed_at d.key (table_of d) pair.one.row k)
+      (listed_at d.key (table_of d) pair.other.row k) (listed_elsewhere d.key (table_of d) pair.one.row k a n)
+      (listed_elsewhere d.key (table_of d) pair.other.row k b n)
 
   -- the two rows are no labels of the cobasis
-  not_row : (k : ℕ) → Contains d.key k → k ≢ pair.row
-  not_row k c e = two.row.outside (subst (Contains d.key) e c)
+  not_row : (k : ℕ) → Contains d.key k → k ≢ pair.one.row
+  not_row k c e = two.one.at.row.outside (subst (Contains d.key) e c)
 
-  not_other : (k : ℕ) → Contains d.key k → k ≢ pair.other
-  not_other k c e = two.other.outside (subst (Contains d.key) e c)
+  not_other : (k : ℕ) → Contains d.key k → k ≢ pair.other.row
+  not_other k c e = two.other.at.row.outside (subst (Contains d.key) e c)
 
   module _ (n : ℕ) (h : IsZeroBelow (gap_at d.key (table_of d) pair) d.key (outside d.labels root) n) where
     below_or : (p n : ℕ) → (p < n) ⊎ (n ≤ p)
@@ -83,7 +84,7 @@ module _ (d : Dictionary) (root : List ℕ) (pair : Pair) (two : ArePair d pair)
 
     -- below b, which is at most the next label of the cobasis and the end, the lists do not differ
     zero_below : (b : ℕ) → (n < length d.key → b ≤ get_or d.key n 0) →
-        ((k : ℕ) → Contains (outside d.labels root) k → k < b → (k ≢ pair.row) × (k ≢ pair.other)) →
+        ((k : ℕ) → Contains (outside d.labels root) k → k < b → (k ≢ pair.one.row) × (k ≢ pair.other.row)) →
         (k : ℕ) → Contains (outside d.labels root) k → k < b → gap_at d.key (table_of d) pair k ≡ pos 0
     zero_below b far other k c l =
         ⊎_elim
@@ -111,10 +112,10 @@ module _ (d : Dictionary) (root : List ℕ) (pair : Pair) (two : ArePair d pair)
         (λ z. m (v ∙ sign_zero (gap_at d.key (table_of d) pair k) z)))
       where
         by : (end : Option ℕ) → IsEnd root pair end → (IsPastEnd k end → ⊥) → (j : ℕ) → is_before_root root j ≡ true →
-            j < k → (j ≢ pair.row) × (j ≢ pair.other)
+            j < k → (j ≢ pair.one.row) × (j ≢ pair.other.row)
         by (Some x) is b j t l = (
-          (λ e. is.row (subst (λ z. is_before_root root z ≡ true) e t) (nearer x j pair.row l e b)),
-          (λ e. is.other (subst (λ z. is_before_root root z ≡ true) e t) (nearer x j pair.other l e b)),
+          (λ e. is.row (subst (λ z. is_before_root root z ≡ true) e t) (nearer x j pair.one.row l e b)),
+          (λ e. is.other (subst (λ z. is_before_root root z ≡ true) e t) (nearer x j pair.other.row l e b)),
         )
           where
             nearer : (x j i : ℕ) → j < k → j ≡ i → (x < k → ⊥) → i < x
@@ -125,30 +126,30 @@ module _ (d : Dictionary) (root : List ℕ) (pair : Pair) (two : ArePair d pair)
         )
 
     -- at the end
-    row_end : (x : ℕ) → x ≡ pair.row →
+    row_end : (x : ℕ) → x ≡ pair.one.row →
         (end_sign pair (Some x) ≡ sign_of (gap_at d.key (table_of d) pair x)) × (gap_at d.key (table_of d) pair x ≢ pos 0)
     row_end x e =
         let up : pos 0 <ℤ gap_at d.key (table_of d) pair x =
-        positive_gap pair.other_over pair.over (listed_at d.key (table_of d) pair.row x)
-        (listed_at d.key (table_of d) pair.other x) two.other_over
-        (subst (λ z. pos 0 <ℤ z) (sym (own_number d.key (table_of d) pair.row x e)) positive)
-        (listed_elsewhere d.key (table_of d) pair.other x (λ q. differ (sym e ∙ q))
-        (λ m. two.row.outside (subst (Contains d.key) e m))) in (
-          ap (λ b. cond b Greater Less) (eq-eqb x pair.row e)
+        positive_gap pair.other.over pair.one.over (listed_at d.key (table_of d) pair.one.row x)
+        (listed_at d.key (table_of d) pair.other.row x) two.other.over
+        (subst (λ z. pos 0 <ℤ z) (sym (own_number d.key (table_of d) pair.one.row x e)) positive)
+        (listed_elsewhere d.key (table_of d) pair.other.row x (λ q. differ (sym e ∙ q))
+        (λ m. two.one.at.row.outside (subst (Contains d.key) e m))) in (
+          ap (λ b. cond b Greater Less) (eq-eqb x pair.one.row e)
               ∙ int_cmp_is (gap_at d.key (table_of d) pair x) (pos 0) Greater up,
           positive_nonzero (gap_at d.key (table_of d) pair x) up,
         )
 
-    other_end : (x : ℕ) → x ≡ pair.other →
+    other_end : (x : ℕ) → x ≡ pair.other.row →
         (end_sign pair (Some x) ≡ sign_of (gap_at d.key (table_of d) pair x)) × (gap_at d.key (table_of d) pair x ≢ pos 0)
     other_end x e =
         let down : gap_at d.key (table_of d) pair x <ℤ pos 0 =
-        negative_gap pair.other_over pair.over (listed_at d.key (table_of d) pair.row x)
-        (listed_at d.key (table_of d) pair.other x) two.over
-        (subst (λ z. pos 0 <ℤ z) (sym (own_number d.key (table_of d) pair.other x e)) positive)
-        (listed_elsewhere d.key (table_of d) pair.row x (λ q. differ (sym q ∙ e))
-        (λ m. two.other.outside (subst (Contains d.key) e m))) in (
-          ap (λ b. cond b Greater Less) (ne_eqb x pair.row (λ q. differ (sym q ∙ e)))
+        negative_gap pair.other.over pair.one.over (listed_at d.key (table_of d) pair.one.row x)
+        (listed_at d.key (table_of d) pair.other.row x) two.one.over
+        (subst (λ z. pos 0 <ℤ z) (sym (own_number d.key (table_of d) pair.other.row x e)) positive)
+        (listed_elsewhere d.key (table_of d) pair.one.row x (λ q. differ (sym q ∙ e))
+        (λ m. two.other.at.row.outside (subst (Contains d.key) e m))) in (
+          ap (λ b. cond b Greater Less) (ne_eqb x pair.one.row (λ q. differ (sym q ∙ e)))
               ∙ int_cmp_is (gap_at d.key (table_of d) pair x) (pos 0) Less down,
           λ z. not_negative (gap_at d.key (table_of d) pair x) down z,
         )
@@ -160,13 +161,13 @@ module _ (d : Dictionary) (root : List ℕ) (pair : Pair) (two : ArePair d pair)
         × (end_sign pair (Some x) ≡ sign_of (gap_at d.key (table_of d) pair x)) × (gap_at d.key (table_of d) pair x ≢ pos 0)
     end_at x is =
         ⊎_elim
-        (λ (e : x ≡ pair.row). let w = row_end x e in (
-          before_has d.labels root x (subst (Contains d.labels) (sym e) (row_only d.labels pair.row two.row.row).0) is.before,
+        (λ (e : x ≡ pair.one.row). let w = row_end x e in (
+          before_has d.labels root x (subst (Contains d.labels) (sym e) (row_only d.labels pair.one.row two.one.at.row.row).0) is.before,
           w.0,
           w.1,
         ))
-        (λ (e : x ≡ pair.other). let w = other_end x e in (
-          before_has d.labels root x (subst (Contains d.labels) (sym e) (row_only d.labels pair.other two.other.row).0) is.before,
+        (λ (e : x ≡ pair.other.row). let w = other_end x e in (
+          before_has d.labels root x (subst (Contains d.labels) (sym e) (row_only d.labels pair.other.row two.other.at.row.row).0) is.before,
           w.0,
           w.1,
         ))

@@ -10,17 +10,21 @@ use Rattle.std.proofs.lemmas.List.Elements.{Contains-append_left, Contains-appen
 use Rattle.poly_num.proofs.Ring.{lin}
 use Rattle.poly_num.specs.Signs.{lex_sign_of}
 use Rattle.poly_model.specs.Dictionaries.{Table}
-use Rattle.poly_model.specs.LexOrder.{IsNonnegative, list_of}
+use Rattle.poly_model.specs.LexOrder.{IsNonnegative, gaps, list_of}
 use Rattle.poly_model.specs.Tree.{ratio_gaps, Leaves}
 use Rattle.linear_laws.proofs.Members.{Contains-nil, Contains-first, Contains-cons_cases}
 use Rattle.tree_laws.proofs.LexLemmas.{zero_is_nonnegative, positive_is_nonnegative}
 use Rattle.tree_laws.proofs.GapLemmas.{gaps_turned, gaps_of_itself}
 use Rattle.tree_laws.proofs.Least.{at_most_transitive, length_lists}
 use Rattle.dictionary_laws.specs.Keys.{AreDistinct, place_in}
+use Rattle.dictionary.proofs.PlaceLemmas.{place_within, at_place}
 use Rattle.dictionary.specs.Cobases.{AreOutside}
 use Rattle.dictionary.specs.Positions.{IsCellColumn}
 use Rattle.dictionary.specs.Views.{Dictionary, number, table_of}
-use Rattle.lex_pivot.specs.Ratios.{NoneLeaves, IsCandidate, IsLeastOf, IsBest}
+use Rattle.lex_pivot.specs.declared.candidates.Candidate.{Candidate}
+use Rattle.lex_pivot.specs.Pairs.{IsPlaced, pair_gaps}
+use Rattle.lex_pivot.specs.Places.{IsRowAt}
+use Rattle.lex_pivot.specs.Ratios.{NoneLeaves, IsCandidate, IsCandidateAt, IsLeastOf, IsBest, IsBestAt, IsBetter, IsLess, row_of}
 use Rattle.lex_pivot.proofs.EarlierLemmas.{space_of, row_only}
 use Rattle.lex_pivot.proofs.FirstSigns.{less, not_less}
 
@@ -118,10 +122,6 @@ module _ (d : Dictionary) (root : List ℕ) (s : ℕ) where
           (not_less (ratio_gaps d.labels root d.key (table_of d) s r q) n)) (among i c);
     }
 
-  pub best_is_candidate : (rows : List ℕ) (best : Option ℕ) → IsBest d root s rows best → IfSome best (λ r. IsCandidate d s r)
-  best_is_candidate rows None h = tt
-  best_is_candidate rows (Some r) h = h.candidate
-
   -- ---- all rows
   pub best_leaves : (rows : List ℕ) (best : Option ℕ) → AreOutside d rows → IsBest d root s rows best →
       MatchOption best (NoneLeaves d s) (λ r. Leaves d.labels root d.key (table_of d) s r)
@@ -135,7 +135,75 @@ module _ (d : Dictionary) (root : List ℕ) (s : ℕ) where
     least = λ i o n. h.least i (all.there i (row_only d.labels i o.row).0 o.outside) (record { row = o; negative = n });
   }
 
--- the cell of a row in the column is its entry
-pub cell_is_entry : (d : Dictionary) (s j i : ℕ) (cells : List ℤ) → IsCellColumn d j cells → j ≡ suc (place_in d.columns s) →
-    i < length d.rows → get_or cells i (pos 0) ≡ Table.entry (table_of d) (get_or d.rows i 0) s
-cell_is_entry d s j i cells h e l = h.numbers i l ∙ ap (λ n. number d (get_or d.rows i 0) n) e
+-- ---- candidates at their places
+module _ (d : Dictionary) (root : List ℕ) (s : ℕ) where
+  -- the row at a place where the cell of the column is negative
+  pub candidate_here : (i q : ℕ) (cells : List ℤ) (over : ℤ) → IsCellColumn d (suc (place_in d.columns s)) cells →
+      IsRowAt d i q → get_or cells i (pos 0) <ℤ pos 0 → over ≡ neg_ℤ (get_or cells i (pos 0)) →
+      IsCandidateAt d s (record { row = q; place = i; over = over })
+  candidate_here i q cells over h at n o =
+      let same : get_or cells i (pos 0) ≡ Table.entry (table_of d) q s =
+      h.numbers i at.place_is.within ∙ ap (λ z. Table.entry (table_of d) z s) at.place_is.label_is in
+      record { at = at; negative = subst (λ z. z <ℤ pos 0) same n; over = o ∙ ap neg_ℤ same }
+
+  candidate : (c : Candidate) → IsCandidateAt d s c → IsCandidate d s c.row
+  candidate c h = record { row = h.at.row; negative = h.negative }
+
+  -- it can be compared with others
+  pub placed : (c : Candidate) → IsCandidateAt d s c → IsPlaced d c
+  placed c h = record {
+    at = h.at;
+    over = subst (λ z. pos 0 <ℤ z) (sym h.over) (positive d root s c.row (candidate c h));
+  }
+
+  pub placed_if : (best : Option Candidate) → IfSome best (λ c. IsCandidateAt d s c) → IfSome best (λ c. IsPlaced d c)
+  placed_if None h = tt
+  placed_if (Some c) h = placed c h
+
+  same_gaps : (one other : Candidate) → IsCandidateAt d s one → IsCandidateAt d s other →
+      pair_gaps d root (record { one = one; other = other }) ≡ ratio_gaps d.labels root d.key (table_of d) s other.row one.row
+  same_gaps one other h k =
+      ap (λ p. gaps p (list_of d.labels root d.key (table_of d) one.row) one.over (list_of d.labels root d.key (table_of d) other.row)) k.over
+      ∙ ap (λ p. gaps (neg_ℤ (Table.entry (table_of d) other.row s)) (list_of d.labels root d.key (table_of d) one.row) p (list_of d.labels root d.key (table_of d) other.row)) h.over
+
+  module _ (rows : List ℕ) (next : Candidate) (here : IsCandidateAt d s next)
+      (fresh : (k : ℕ) → Contains rows k → k ≢ next.row) where
+    -- the better one is the best of the rows so far with the next one
+    pub better_is_best : (best : Option Candidate) (c : Candidate) → IsBestAt d root s rows best →
+        IsBetter d root best next c → IsBestAt d root s (rows ++ next.row ∷ []) (Some c)
+    better_is_best None c h e = record {
+      at_place = subst (λ x. IsCandidateAt d s x) (sym e) here;
+      least = subst (λ (x : Candidate). IsLeastOf d root s (rows ++ next.row ∷ []) x.row) (sym e)
+          (best_first d root s rows next.row h.least (candidate next here));
+    }
+    better_is_best (Some before) c h e =
+        ⊎_elim
+        (λ (w : IsLess d root next before × (c ≡ next)). record {
+          at_place = subst (λ x. IsCandidateAt d s x) (sym w.1) here;
+          least = subst (λ (x : Candidate). IsLeastOf d root s (rows ++ next.row ∷ []) x.row) (sym w.1)
+              (best_new d root s rows next.row before.row h.least (candidate next here)
+              (subst (λ v. lex_sign_of v ≡ Less) (same_gaps next before here h.at_place) w.0));
+        })
+        (λ (w : (IsLess d root next before → ⊥) × (c ≡ before)). record {
+          at_place = subst (λ x. IsCandidateAt d s x) (sym w.1) h.at_place;
+          least = subst (λ (x : Candidate). IsLeastOf d root s (rows ++ next.row ∷ []) x.row) (sym w.1)
+              (best_old d root s rows next.row before.row h.least
+              (λ l. w.0 (subst (λ v. lex_sign_of v ≡ Less) (sym (same_gaps next before here h.at_place)) l)));
+        })
+        (e (λ f. fresh before.row h.least.member (sym f)))
+
+  -- one row more that is none
+  pub kept_best : (rows : List ℕ) (q : ℕ) (best : Option Candidate) → IsBestAt d root s rows best →
+      (IsCandidate d s q → ⊥) → IsBestAt d root s (rows ++ q ∷ []) best
+  kept_best rows q best h n = record {
+    at_place = h.at_place;
+    least = best_kept d root s rows q (row_of best) h.least n;
+  }
+
+-- no row leaves where none of the rows of cells is a candidate
+pub none_everywhere : (d : Dictionary) (s : ℕ) → AreOutside d d.rows →
+    ((i : ℕ) → i < length d.rows → IsCandidate d s (get_or d.rows i 0) → ⊥) → NoneLeaves d s
+none_everywhere d s all none =
+    best_leaves d [] s d.rows None all
+    (λ i c m. none (place_in d.rows i) (place_within d.rows i c)
+        (subst (λ k. IsCandidate d s k) (sym (at_place d.rows i 0 c)) m))

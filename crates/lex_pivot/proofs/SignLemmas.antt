@@ -26,6 +26,11 @@ sign_of_gap x y z e = sym (int_cmp_is x y (int_cmp z (pos 0)) (by (int_cmp z (po
 pub cross_sign : (p q x y : ℤ) → int_cmp (x *ℤ p) (y *ℤ q) ≡ sign_of (p *ℤ x -ℤ q *ℤ y)
 cross_sign p q x y = sign_of_gap (x *ℤ p) (y *ℤ q) (p *ℤ x -ℤ q *ℤ y) (simp expand (omega (arith, lin)))
 
+-- minus x over p and minus y over q
+pub turned_sign : (p q x y : ℤ) → int_cmp (y *ℤ q) (x *ℤ p) ≡ sign_of (p *ℤ neg_ℤ x -ℤ q *ℤ neg_ℤ y)
+turned_sign p q x y =
+    sign_of_gap (y *ℤ q) (x *ℤ p) (p *ℤ neg_ℤ x -ℤ q *ℤ neg_ℤ y) (simp expand (omega (arith, lin)))
+
 pub over_positive : (a b p f : ℤ) → int_cmp (a *ℤ p) (neg_ℤ b *ℤ f) ≡ sign_of (p *ℤ a +ℤ b *ℤ f)
 over_positive a b p f = sign_of_gap (a *ℤ p) (neg_ℤ b *ℤ f) (p *ℤ a +ℤ b *ℤ f) (simp expand (omega (arith, lin)))
 

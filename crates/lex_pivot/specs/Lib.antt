@@ -1,7 +1,8 @@
 pub mod Earlier
+pub mod Places
 pub mod Readings
-pub mod Ratios
 pub mod Pairs
+pub mod Ratios
 pub mod Above
 pub mod Children
 pub mod Feasible

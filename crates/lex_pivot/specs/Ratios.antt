@@ -1,11 +1,16 @@
 -- The ratio test, row by row.
-use Rattle.std.specs.Prelude.{ℕ, pos, ◌<ℤ◌, ◌≤ℤ◌, List, Option}
+use Rattle.std.specs.Prelude.{◌≡◌, ◌≢◌, ◌⊎◌, ℕ, pos, neg_ℤ, ◌<ℤ◌, ◌≤ℤ◌, List, Option, Some, None, IfSome, option_map}
 use Rattle.std.specs.List.{Contains}
 use Rattle.std.specs.Option.{MatchOption}
 use Rattle.poly_model.specs.Dictionaries.{Table}
 use Rattle.poly_model.specs.LexOrder.{IsNonnegative}
 use Rattle.poly_model.specs.Tree.{IsRowOutside, ratio_gaps}
 use Rattle.dictionary.specs.Views.{Dictionary, table_of}
+use Rattle.std.specs.declared.cmp.Ordering.TheVariants.{Less}
+use Rattle.poly_num.specs.Signs.{lex_sign_of}
+use Rattle.lex_pivot.specs.declared.candidates.Candidate.{Candidate}
+use Rattle.lex_pivot.specs.Pairs.{pair_gaps}
+use Rattle.lex_pivot.specs.Places.{IsRowAt}
 
 -- no row outside the cobasis is negative in the column of s
 abbrev pub NoneLeaves : Dictionary → ℕ → Type 0
@@ -27,3 +32,30 @@ pub record IsLeastOf (d : Dictionary) (root : List ℕ) (s : ℕ) (rows : List �
 abbrev pub IsBest : Dictionary → List ℕ → ℕ → List ℕ → Option ℕ → Type 0
 IsBest d root s rows best =
     MatchOption best ((i : ℕ) → Contains rows i → IsCandidate d s i → ⊥) (λ r. IsLeastOf d root s rows r)
+
+-- ---- candidates at their places
+-- with minus the entry in the column of s
+pub record IsCandidateAt (d : Dictionary) (s : ℕ) (c : Candidate) : Type 0 where
+  pub at : IsRowAt d c.place c.row
+  pub negative : Table.entry (table_of d) c.row s <ℤ pos 0
+  pub over : c.over ≡ neg_ℤ (Table.entry (table_of d) c.row s)
+
+-- the list of `one` is less than that of `other`, each over its own factor
+abbrev pub IsLess : Dictionary → List ℕ → Candidate → Candidate → Type 0
+IsLess d root one other = lex_sign_of (pair_gaps d root (record { one = one; other = other })) ≡ Less
+
+-- of two candidates at different places it is the next one exactly where its list is less
+abbrev pub IsBetter : Dictionary → List ℕ → Option Candidate → Candidate → Candidate → Type 0
+IsBetter d root None next c = c ≡ next
+IsBetter d root (Some before) next c =
+    next.row ≢ before.row →
+    (IsLess d root next before × (c ≡ next)) ⊎ ((IsLess d root next before → ⊥) × (c ≡ before))
+
+-- the row of a candidate
+abbrev pub row_of : Option Candidate → Option ℕ
+row_of best = option_map (λ c. c.row) best
+
+-- the least candidate among these rows, if there is one
+pub record IsBestAt (d : Dictionary) (root : List ℕ) (s : ℕ) (rows : List ℕ) (best : Option Candidate) : Type 0 where
+  pub at_place : IfSome best (λ c. IsCandidateAt d s c)
+  pub least : IsBest d root s rows (row_of best)

@@ -1,6 +1,7 @@
 //! The lexicographic pivots of a search, read off a dictionary: the ratio test, the parent, the test of a child.
 #![tactic(auto)]
 
+mod candidates;
 mod child;
 mod feasible;
 mod orderings;
@@ -15,8 +16,8 @@ mod ties;
 pub use child::{is_child, is_child_by, leads_up};
 pub use feasible::{is_lex_feasible, is_lex_feasible_by};
 pub use parents::{Pivot, parent, parent_by};
-pub use ratio::{is_candidate, leaving, leaving_by};
+pub use ratio::{leaving, leaving_by, none_leaves};
 pub use reading::Reading;
 pub use relative::Order;
-pub use rows::{comes_before, is_outside};
+pub use rows::{comes_before, is_outside, row_at};
 pub use scan::{differs, is_greater, is_less, outside_sign, root_sign};

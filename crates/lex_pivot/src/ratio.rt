@@ -1,20 +1,23 @@
 //! The ratio test: which row leaves in a column.
-ghost use Rattle.std.specs.declared.cmp.Ordering.TheVariants.{Less};
-ghost use Rattle.std.specs.Prelude.{◌≡◌, ◌≢◌, ◌<ℤ◌, ◌↔◌, ◌++◌, ◌∷◌, [], ℕ, List, pos, IsTrue, IfSome};
-ghost use Rattle.std.specs.List.{Contains};
+ghost use Rattle.std.specs.Prelude.{◌≡◌, ◌≢◌, ◌<◌, ◌↔◌, suc, length, IsTrue, IfSome};
+ghost use Rattle.std.specs.List.{Contains, slice_index_or};
 ghost use Rattle.std.specs.Option.{MatchOption};
-ghost use Rattle.poly_num.specs.Signs.{lex_sign_of};
-ghost use Rattle.poly_model.specs.Tree.{Leaves, ratio_gaps};
+ghost use Rattle.poly_model.specs.Tree.{Leaves};
+ghost use Rattle.dictionary_laws.specs.Keys.{place_in};
+ghost use Rattle.dictionary.specs.Positions.{IsCellColumn};
 ghost use Rattle.dictionary.specs.Views.{table_of};
-ghost use Rattle.lex_pivot.specs.Ratios.{NoneLeaves, IsCandidate, IsBest};
+ghost use Rattle.lex_pivot.specs.Pairs.{IsPlaced};
+ghost use Rattle.lex_pivot.specs.Ratios.{NoneLeaves, IsCandidate, IsCandidateAt, IsLess, IsBetter, row_of};
 
 use crate::Order;
+use crate::candidates::Candidate;
 use crate::orderings::is_less;
-use crate::rows::is_outside;
+use crate::rows::row_at;
 use crate::ties::{Pair, compare};
+use columns::Column;
 use dictionary::Dict;
 use poly_model::{Label, Root};
-use poly_num::{Num, neg};
+use poly_num::neg;
 
 /// The row that leaves in the column of a label of the cobasis: of the rows outside the cobasis that are negative there,
 /// the one with the least list over minus its entry. None where no such row is negative.
@@ -33,68 +36,83 @@ pub fn leaving_by(dict: &Dict, order: &Order, col: Label) -> Option<Label>
         (λ r. Leaves dict.now.labels order.now dict.now.key (table_of dict.now) col r) }
 {
     let column = dict.column(dict.column_of(col));
-    let rows = dict.rows();
-    let mut best: Option<Label> = None;
-    'rows: for i in 0..rows.len() {
-        if column.is_negative(i) {
-            best = better(dict, order, col, best, rows[i]);
+    let mut best: Option<Candidate> = None;
+    'rows: for place in 0..dict.rows().len() {
+        if let Some(next) = candidate_at(dict, col, &column, place) {
+            best = Some(better(dict, order, best, next));
         }
     }
-    best
+    row_of(best)
 }
 
-// The better of the best row so far and the next one.
-fn better(dict: &Dict, order: &Order, col: Label, best: Option<Label>, row: Label) -> Option<Label>
+// The row at a place of the rows of cells, if it is a candidate in the column of a label, whose cells these are.
+#[inline(always)]
+fn candidate_at(dict: &Dict, col: Label, cells: &Column, place: usize) -> Option<Candidate>
     requires column { Contains dict.now.key col }
-    requires row { Contains dict.now.labels row }
-    requires best { IfSome best (λ r. IsCandidate dict.now col r) }
-    ensures candidate { IfSome result (λ r. IsCandidate dict.now col r) }
-    ensures best { (rows : List ℕ) → ((k : ℕ) → Contains rows k → k ≢ row) → IsBest dict.now order.now col rows best →
-        IsBest dict.now order.now col (rows ++ row ∷ []) result }
+    requires cells { IsCellColumn dict.now (suc (place_in dict.now.columns col)) cells.now }
+    requires place { place < length dict.now.rows }
+    ensures { MatchOption result (IsCandidate dict.now col (slice_index_or dict.now.rows place 0) → ⊥)
+        (λ c. IsCandidateAt dict.now col c × (c.row ≡ slice_index_or dict.now.rows place 0)) }
 {
-    if !is_candidate(dict, col, row) {
-        return best;
+    if !cells.is_negative(place) {
+        return None;
     }
-    match best {
-        None => Some(row),
-        Some(r) => {
-            if is_less_at(dict, order, col, row, r) {
-                Some(row)
-            } else {
-                Some(r)
-            }
-        }
+    let row = row_at(dict, place)?;
+    Some(Candidate {
+        row,
+        place,
+        over: neg(cells.at(place)),
+    })
+}
+
+// The better of the best candidate so far and the next one: that with the less list over minus its entry.
+fn better(dict: &Dict, order: &Order, best: Option<Candidate>, next: Candidate) -> Candidate
+    requires next { IsPlaced dict.now next }
+    requires best { IfSome best (λ c. IsPlaced dict.now c) }
+    ensures { IsBetter dict.now order.now best next result }
+{
+    let Some(before) = best else {
+        return next;
+    };
+    if is_lesser(dict, order, &next, &before) {
+        return next;
     }
+    before
 }
 
-/// Whether the row is outside the cobasis and negative in the column.
-pub fn is_candidate(dict: &Dict, col: Label, row: Label) -> bool
-    requires column { Contains dict.now.key col }
-    requires row { Contains dict.now.labels row }
-    ensures { IsTrue result ↔ IsCandidate dict.now col row }
-{
-    is_outside(dict, row) && is_negative(dict.entry(row, col))
-}
-
-fn is_negative(a: Num) -> bool
-    ensures { IsTrue result ↔ (a <ℤ pos 0) }
-{
-    a.get() < 0
-}
-
-// Whether the list of `row`, over minus its entry in the column, is less than that of `other`, over its own.
-fn is_less_at(dict: &Dict, order: &Order, col: Label, row: Label, other: Label) -> bool
-    requires column { Contains dict.now.key col }
-    requires row { IsCandidate dict.now col row }
-    requires other { IsCandidate dict.now col other }
-    ensures { row ≢ other → IsTrue result ↔
-        (lex_sign_of (ratio_gaps dict.now.labels order.now dict.now.key (table_of dict.now) col other row) ≡ Less) }
+// Whether the list of the one, over its factor, is less than that of the other.
+fn is_lesser(dict: &Dict, order: &Order, one: &Candidate, other: &Candidate) -> bool
+    requires one { IsPlaced dict.now one.now }
+    requires other { IsPlaced dict.now other.now }
+    ensures { one.now.row ≢ other.now.row → IsTrue result ↔ IsLess dict.now order.now one.now other.now }
 {
     let pair = Pair {
-        row,
-        over: neg(dict.entry(row, col)),
-        other,
-        other_over: neg(dict.entry(other, col)),
+        one: *one,
+        other: *other,
     };
     is_less(compare(dict, order, &pair))
+}
+
+// The row of a candidate.
+fn row_of(best: Option<Candidate>) -> Option<Label>
+    ensures { result ≡ row_of best }
+{
+    match best {
+        Some(candidate) => Some(candidate.row),
+        None => None,
+    }
+}
+
+/// Whether no row leaves in the column of a label of the cobasis: none outside the cobasis is negative there.
+pub fn none_leaves(dict: &Dict, col: Label) -> bool
+    requires { Contains dict.now.key col }
+    ensures { IsTrue result ↔ NoneLeaves dict.now col }
+{
+    let column = dict.column(dict.column_of(col));
+    'rows: for place in 0..dict.rows().len() {
+        if candidate_at(dict, col, &column, place).is_some() {
+            return false;
+        }
+    }
+    true
 }

@@ -1,8 +1,10 @@
 //! Rows outside a cobasis, and rows that come before others.
-ghost use Rattle.std.specs.Prelude.{◌↔◌, IsTrue};
-ghost use Rattle.std.specs.List.{Contains};
+ghost use Rattle.std.specs.Prelude.{◌<◌, ◌↔◌, IsTrue, length};
+ghost use Rattle.std.specs.List.{Contains, slice_index_or};
+ghost use Rattle.std.specs.Option.{MatchOption};
 ghost use Rattle.poly_model.specs.LexOrder.{rows_in, IsEarlier};
 ghost use Rattle.poly_model.specs.Tree.{IsRowOutside};
+ghost use Rattle.lex_pivot.specs.Places.{IsRowAt};
 
 use crate::Order;
 use dictionary::Dict;
@@ -14,6 +16,17 @@ pub fn is_outside(dict: &Dict, row: Label) -> bool
     ensures { IsTrue result ↔ IsRowOutside dict.now.labels dict.now.key row }
 {
     row.is_row() && !dict.in_cobasis(row)
+}
+
+/// The row at a place of the rows of cells; None where a coordinate stands there.
+pub fn row_at(dict: &Dict, place: usize) -> Option<Label>
+    requires { place < length dict.now.rows }
+    ensures { MatchOption result
+        (IsRowOutside dict.now.labels dict.now.key (slice_index_or dict.now.rows place 0) → ⊥)
+        (λ r. IsRowAt dict.now place r) }
+{
+    let row = dict.rows()[place];
+    if row.is_row() { Some(row) } else { None }
 }
 
 /// Whether the label is that of a row which comes before another one in the order.

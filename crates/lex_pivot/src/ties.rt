@@ -1,36 +1,35 @@
 //! The order of the lists of two rows, each over minus its entry in a column: the constants first, and where these are
 //! equal the numbers at the rows outside the root.
 ghost use Rattle.std.specs.declared.cmp.Ordering.TheVariants.{Equal};
-ghost use Rattle.std.specs.Prelude.{◌≡◌, ◌≢◌, ◌<ℤ◌, ◌<◌, ◌↔◌, ℕ, pos, IsTrue};
+ghost use Rattle.std.specs.Ordering.{int_cmp};
+ghost use Rattle.std.specs.Prelude.{◌≡◌, ◌≢◌, ◌<◌, ◌↔◌, ◌*ℤ◌, suc, pos, length, IsTrue};
 ghost use Rattle.std.specs.List.{Contains};
 ghost use Rattle.poly_num.specs.Signs.{sign_of, lex_sign_of};
 ghost use Rattle.poly_model.specs.LexOrder.{outside};
-ghost use Rattle.dictionary.specs.Views.{table_of};
-ghost use Rattle.lex_pivot.specs.Pairs.{pair_gaps, gap_at, constant_gap, ArePair, IsEnd, IsPastEnd, end_sign};
+ghost use Rattle.dictionary.specs.Views.{number, table_of};
+ghost use Rattle.lex_pivot.specs.Pairs.{pair_gaps, gap_at, constant_gap, IsPlaced, ArePair, IsEnd, IsPastEnd, end_sign};
 
 use crate::Order;
+use crate::candidates::Candidate;
 use crate::orderings::{cmp_ratios, differs};
 use dictionary::Dict;
 use poly_model::Label;
-use poly_num::{Num, neg};
 use std::cmp::Ordering;
 
-/// Two rows outside the cobasis, and minus their entries in a column, which are positive.
+/// Two rows that may leave in a column.
 #[derive(Clone, Copy)]
 pub struct Pair {
-    pub row: Label,
-    pub over: Num,
-    pub other: Label,
-    pub other_over: Num,
+    pub one: Candidate,
+    pub other: Candidate,
 }
 
-/// The order of the list of `row` over `over` and that of `other` over `other_over`.
+/// The order of the list of the one row and that of the other, each over minus its entry in the column.
 ///
 /// At a row outside the root that is not in the cobasis both lists are 0, but for the two rows themselves. So the first
 /// difference is at a label of the cobasis, or at the first of the two rows that is outside the root.
 pub fn compare(dict: &Dict, order: &Order, pair: &Pair) -> Ordering
     requires { ArePair dict.now pair.now }
-    ensures { pair.now.row ≢ pair.now.other → result ≡ lex_sign_of (pair_gaps dict.now order.now pair.now) }
+    ensures { pair.now.one.row ≢ pair.now.other.row → result ≡ lex_sign_of (pair_gaps dict.now order.now pair.now) }
 {
     let first = cmp_constants(dict, pair);
     if differs(first) {
@@ -44,18 +43,31 @@ fn cmp_constants(dict: &Dict, pair: &Pair) -> Ordering
     requires { ArePair dict.now pair.now }
     ensures { result ≡ sign_of (constant_gap (table_of dict.now) pair.now) }
 {
+    cmp_in_column(dict, 0, &pair.one, &pair.other)
+}
+
+// The order of the numbers of two rows in column j of the cells, each over its factor.
+fn cmp_in_column(dict: &Dict, j: usize, one: &Candidate, other: &Candidate) -> Ordering
+    requires column { j < suc (length dict.now.columns) }
+    requires one { IsPlaced dict.now one.now }
+    requires other { IsPlaced dict.now other.now }
+    ensures { result ≡ int_cmp (number dict.now one.now.row j *ℤ other.now.over)
+        (number dict.now other.now.row j *ℤ one.now.over) }
+{
+    let column = dict.column(j);
     cmp_ratios(
-        dict.constant(pair.row),
-        pair.over,
-        dict.constant(pair.other),
-        pair.other_over,
+        column.at(one.place),
+        one.over,
+        column.at(other.place),
+        other.over,
     )
 }
 
 // The order by the rows outside the root, where the constants are equal.
 fn compare_behind(dict: &Dict, order: &Order, pair: &Pair) -> Ordering
     requires { ArePair dict.now pair.now }
-    ensures { pair.now.row ≢ pair.now.other → constant_gap (table_of dict.now) pair.now ≡ pos 0 → result ≡ lex_sign_of (pair_gaps dict.now order.now pair.now) }
+    ensures { pair.now.one.row ≢ pair.now.other.row → constant_gap (table_of dict.now) pair.now ≡ pos 0 →
+        result ≡ lex_sign_of (pair_gaps dict.now order.now pair.now) }
 {
     // the labels ascend, and the denominator is positive
     let (_all, _denominator) = (dict.labels(), dict.denominator());
@@ -77,10 +89,11 @@ fn compare_behind(dict: &Dict, order: &Order, pair: &Pair) -> Ordering
 fn end_of(order: &Order, pair: &Pair) -> Option<Label>
     ensures { IsEnd order.now pair.now result }
 {
-    let (less, greater) = if pair.row.number() < pair.other.number() {
-        (pair.row, pair.other)
+    let (one, other) = (pair.one.row, pair.other.row);
+    let (less, greater) = if one.number() < other.number() {
+        (one, other)
     } else {
-        (pair.other, pair.row)
+        (other, one)
     };
     if order.is_before_root(less) {
         Some(less)
@@ -106,7 +119,7 @@ fn end_sign(pair: &Pair, end: &Option<Label>) -> Ordering
     ensures { result ≡ end_sign pair.now end.now }
 {
     match *end {
-        Some(row) if row.is_same(pair.row) => Ordering::Greater,
+        Some(row) if row.is_same(pair.one.row) => Ordering::Greater,
         Some(_) => Ordering::Less,
         None => Ordering::Equal,
     }
@@ -123,10 +136,6 @@ fn gap_sign(dict: &Dict, order: &Order, pair: &Pair, k: Label) -> Ordering
     if !order.is_before_root(k) {
         return Ordering::Equal;
     }
-    cmp_ratios(
-        neg(dict.entry(pair.row, k)),
-        pair.over,
-        neg(dict.entry(pair.other, k)),
-        pair.other_over,
-    )
+    // a list has minus the entry there
+    cmp_in_column(dict, dict.column_of(k), &pair.other, &pair.one)
 }

@@ -1,14 +1,16 @@
 //! Whether the point of a cobasis is shown there.
-ghost use Rattle.std.specs.Prelude.{◌≡◌, ◌↔◌, pos, IsTrue};
-ghost use Rattle.std.specs.List.{Contains};
-ghost use Rattle.poly_model.specs.Tree.{IsRowOutside, ShowsPoint};
+ghost use Rattle.std.specs.Prelude.{◌≡◌, ◌<◌, ◌↔◌, length, pos, IsTrue};
+ghost use Rattle.std.specs.List.{Contains, slice_index_or};
+ghost use Rattle.poly_model.specs.Tree.{ShowsPoint};
+ghost use Rattle.dictionary.specs.Positions.{IsCellColumn};
 ghost use Rattle.dictionary.specs.Views.{table_of};
+ghost use Rattle.lex_pivot.specs.Places.{IsRowAt};
 ghost use Rattle.lexmin_test.specs.Settled.{RowShowsPoint, IsZeroBefore, IsZeroIfEarlier};
 
+use columns::Column;
 use dictionary::Dict;
-use lex_pivot::{Order, comes_before, is_outside};
+use lex_pivot::{Order, comes_before, row_at};
 use poly_model::{Label, Root};
-use poly_num::Num;
 
 /// Whether the point of the cobasis is shown there: each row outside it with the constant 0 is 0 in the column of each
 /// earlier row of the cobasis.
@@ -22,58 +24,54 @@ pub fn shows_point(dict: &Dict, root: &Root) -> bool
 pub fn shows_point_by(dict: &Dict, order: &Order) -> bool
     ensures { IsTrue result ↔ ShowsPoint dict.now.labels order.now dict.now.key (table_of dict.now) }
 {
-    let labels = dict.labels();
-    'rows: for row in labels {
-        if !is_settled(dict, order, *row) {
+    let constants = dict.column(0);
+    'rows: for place in 0..dict.rows().len() {
+        if !is_settled(dict, order, &constants, place) {
             return false;
         }
     }
     true
 }
 
-// Whether the label asks nothing of the cobasis, or has what is asked.
-fn is_settled(dict: &Dict, order: &Order, row: Label) -> bool
-    requires { Contains dict.now.labels row }
-    ensures { IsTrue result ↔ RowShowsPoint dict.now order.now row }
+// Whether the row at a place of the rows of cells asks nothing of the cobasis, or has what is asked. The cells are those of
+// the constants.
+fn is_settled(dict: &Dict, order: &Order, constants: &Column, place: usize) -> bool
+    requires place { place < length dict.now.rows }
+    requires constants { IsCellColumn dict.now 0 constants.now }
+    ensures { IsTrue result ↔ RowShowsPoint dict.now order.now (slice_index_or dict.now.rows place 0) }
 {
-    if !is_outside(dict, row) {
+    if constants.is_nonzero(place) {
         return true;
     }
-    if !is_zero(dict.constant(row)) {
-        return true;
+    match row_at(dict, place) {
+        Some(row) => is_zero_before(dict, order, row, place),
+        None => true,
     }
-    is_zero_before(dict, order, row)
 }
 
-// Whether the row is 0 in the column of each earlier row of the cobasis.
-fn is_zero_before(dict: &Dict, order: &Order, row: Label) -> bool
-    requires { IsRowOutside dict.now.labels dict.now.key row }
+// Whether the row at a place is 0 in the column of each earlier row of the cobasis.
+fn is_zero_before(dict: &Dict, order: &Order, row: Label, place: usize) -> bool
+    requires { IsRowAt dict.now place row }
     ensures { IsTrue result ↔ IsZeroBefore dict.now order.now row }
 {
     let labels = dict.cobasis();
     'columns: for col in labels {
-        if !is_zero_if_earlier(dict, order, row, *col) {
+        if !is_zero_if_earlier(dict, order, row, place, *col) {
             return false;
         }
     }
     true
 }
 
-// Whether the row is 0 in the column, or that is of no earlier row.
-fn is_zero_if_earlier(dict: &Dict, order: &Order, row: Label, col: Label) -> bool
-    requires row { IsRowOutside dict.now.labels dict.now.key row }
+// Whether the row at a place is 0 in the column, or that is of no earlier row.
+fn is_zero_if_earlier(dict: &Dict, order: &Order, row: Label, place: usize, col: Label) -> bool
+    requires row { IsRowAt dict.now place row }
     requires column { Contains dict.now.key col }
     requires label { Contains dict.now.labels col }
     ensures { IsTrue result ↔ IsZeroIfEarlier dict.now order.now row col }
 {
-    if is_zero(dict.entry(row, col)) {
+    if !dict.column(dict.column_of(col)).is_nonzero(place) {
         return true;
     }
     !comes_before(dict, order, col, row)
-}
-
-fn is_zero(a: Num) -> bool
-    ensures { IsTrue result ↔ (a ≡ pos 0) }
-{
-    a.get() == 0
 }

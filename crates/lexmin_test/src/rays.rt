@@ -7,7 +7,7 @@ ghost use Rattle.lex_pivot.specs.Ratios.{NoneLeaves};
 ghost use Rattle.lexmin_test.specs.Zeros.{AreOthersPositive, IsPositiveOnZeros, IsOtherPositive};
 
 use dictionary::Dict;
-use lex_pivot::{Order, Reading, differs, is_candidate, is_greater, outside_sign, root_sign};
+use lex_pivot::{Order, Reading, differs, is_greater, none_leaves, outside_sign, root_sign};
 use poly_model::{Label, Root};
 
 /// Whether the ray along the column of a label of the cobasis is shown there: no row outside the cobasis is negative in
@@ -25,24 +25,10 @@ pub fn shows_ray_by(dict: &Dict, order: &Order, col: Label) -> bool
     requires { Contains dict.now.key col }
     ensures { IsTrue result ↔ ShowsRay dict.now.labels order.now dict.now.key (table_of dict.now) col }
 {
-    if !is_nowhere_negative(dict, col) {
+    if !none_leaves(dict, col) {
         return false;
     }
     are_others_positive(dict, order, col)
-}
-
-// Whether no row outside the cobasis is negative in the column.
-fn is_nowhere_negative(dict: &Dict, col: Label) -> bool
-    requires { Contains dict.now.key col }
-    ensures { IsTrue result ↔ NoneLeaves dict.now col }
-{
-    let labels = dict.labels();
-    'rows: for row in labels {
-        if is_candidate(dict, col, *row) {
-            return false;
-        }
-    }
-    true
 }
 
 // Whether in each other column the greatest row that is 0 in this one, and not 0 there, is positive.

@@ -1,8 +1,10 @@
-use Rattle.lex_pivot.proofs.EarlierLemmas.{row_only}
+use Rattle.std.proofs.Common.{◌∙◌, pos}
+use Rattle.dictionary.specs.Views.{number}
+use Rattle.lex_pivot.proofs.SignLemmas.{cross_sign}
 use Rattle.lex_pivot.proofs.ties.cmp_constants.Goals as goal
 
-pub constant-requires : goal.constant-requires
-constant-requires c = (row_only c.args.dict.now.labels c.args.pair.now.row c.requires.row.row).0
-
-pub constant-requires-2 : goal.constant-requires-2
-constant-requires-2 c = (row_only c.args.dict.now.labels c.args.pair.now.other c.requires.other.row).0
+pub returns : goal.returns
+returns c =
+    c.cmp_in_column.ensures
+    ∙ cross_sign c.args.pair.now.other.over c.args.pair.now.one.over (number c.args.dict.now c.args.pair.now.one.row 0)
+    (number c.args.dict.now c.args.pair.now.other.row 0)

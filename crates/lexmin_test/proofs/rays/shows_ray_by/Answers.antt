@@ -5,7 +5,7 @@ pub returns : goal.returns
 returns c = (
   (λ t. record {
     column = c.requires;
-    none = c.if-not-is_nowhere_negative.ensures.0 refl;
+    none = c.if-not-none_leaves.ensures.0 refl;
     others = c.are_others_positive.ensures.0 t;
   }),
   (λ h. c.are_others_positive.ensures.1 h.others),
