@@ -1,11 +1,11 @@
 //! Listings of files that can be drawn, and where they stop.
 use crate::list;
 use poly_io::{Call, MemSink};
-use poly_model::{Kind, Listed, MOST_COLUMNS, MOST_FILE_ROWS, Phase, Poly};
-use poly_num::Num;
+use poly_model::{Kind, Listed, Phase};
 use row_printer::ListStop;
 use std::alloc::{AllocError, Global};
 use std::test::Fail;
+use test_polys::poly_of;
 
 /// A file, its rows one after the other, the marks of its first rows that may be linear, the limits of the sink's writes,
 /// how the listing ends, and what is written. The rows of a whole listing may stand in any order.
@@ -247,7 +247,7 @@ struct Answer<'a> {
 fn lists_files(rt: HostRuntime) -> Result<(), Fail> {
     let alloc = rt.alloc();
     for case in CASES {
-        let poly = poly_of(alloc, case)?;
+        let poly = poly_of(alloc, case.kind, case.n, case.entries, case.linear)?;
         let mut out = MemSink::new(alloc, case.writes);
         let end = end_of(list(alloc, &poly, &mut out));
         let found = answered(alloc, end, out.written())?;
@@ -276,27 +276,3 @@ fn end_of(listed: Result<Listed, ListStop>) -> End {
 }
 
 // A row that has no mark is not linear.
-fn poly_of(alloc: Global, case: Case) -> Result<Poly, Fail> {
-    let Case {
-        kind,
-        n,
-        entries,
-        linear: marks,
-        ..
-    } = case;
-    if n == 0 || n > MOST_COLUMNS {
-        return Err("some columns, and not many")?;
-    }
-    let mut cells = Vec::new(alloc);
-    for x in entries {
-        cells.push(Num::new(*x).ok_or("a number of 127 bits")?)?;
-    }
-    let mut linear = Vec::new(alloc);
-    for i in 0..cells.len() / n as usize {
-        linear.push(i < marks.len() && marks[i])?;
-    }
-    if linear.len() > MOST_FILE_ROWS as usize || cells.len() != linear.len() * n as usize {
-        return Err("whole rows, and not many")?;
-    }
-    Ok(Poly::new(kind, n, cells, linear, Vec::new(alloc)))
-}

@@ -2,10 +2,10 @@
 ghost use Rattle.std.specs.Prelude.{◌≡◌, ◌<◌};
 
 use crate::system_of;
-use poly_model::{Kind, MOST_COLUMNS, MOST_FILE_ROWS, Poly, System};
-use poly_num::Num;
+use poly_model::{Kind, System};
 use std::alloc::{AllocFailed, Global};
 use std::test::Fail;
+use test_polys::poly_of;
 
 /// A file: its rows one after the other, and which of them are linear.
 #[derive(Clone, Copy)]
@@ -140,7 +140,7 @@ struct Cone {
 fn gives_the_rows_of_the_cone(rt: HostRuntime) -> Result<(), Fail> {
     let alloc = rt.alloc();
     for case in CASES {
-        let poly = poly_of(alloc, &case.file)?;
+        let poly = poly_of(alloc, case.file.kind, case.file.n, case.file.entries, case.file.linear)?;
         let found = cone_of(alloc, &system_of(alloc, &poly)?)?;
         let want = Cone {
             kind: case.file.kind,
@@ -162,22 +162,6 @@ fn cone_of(alloc: Global, system: &System) -> Result<Cone, Fail> {
         linear: marks_of(alloc, system)?,
         points: points_of(alloc, system)?,
     })
-}
-
-pub(crate) fn poly_of(alloc: Global, file: &File) -> Result<Poly, Fail> {
-    let n = file.n;
-    let mut cells = Vec::new(alloc);
-    for x in file.entries {
-        cells.push(Num::new(*x).ok_or("a number of 127 bits")?)?;
-    }
-    let linear = Vec::from_slice(alloc, file.linear)?;
-    if n == 0 || n > MOST_COLUMNS || linear.len() > MOST_FILE_ROWS as usize {
-        return Err("few rows, and narrow ones")?;
-    }
-    if cells.len() != linear.len() * n as usize {
-        return Err("n entries for each mark")?;
-    }
-    Ok(Poly::new(file.kind, n, cells, linear, Vec::new(alloc)))
 }
 
 fn joined(alloc: Global, front: &[i128], back: &[i128]) -> Result<Vec<i128>, Fail> {

@@ -24,7 +24,7 @@ use Rattle.dictionary.specs.Views.{Dictionary, number, table_of}
 use Rattle.lex_pivot.specs.declared.candidates.Candidate.{Candidate}
 use Rattle.lex_pivot.specs.Pairs.{IsPlaced, pair_gaps}
 use Rattle.lex_pivot.specs.Places.{IsRowAt}
-use Rattle.lex_pivot.specs.Ratios.{NoneLeaves, IsCandidate, IsCandidateAt, IsLeastOf, IsBest, IsBestAt, IsBetter, IsLess, row_of}
+use Rattle.lex_pivot.specs.Ratios.{NoneLeaves, IsCandidate, IsCandidateAt, IsLeastOf, IsBest, IsBestAt, IsBetter, IsLess, candidate_row}
 use Rattle.lex_pivot.proofs.EarlierLemmas.{space_of, row_only}
 use Rattle.lex_pivot.proofs.FirstSigns.{less, not_less}
 
@@ -197,7 +197,7 @@ module _ (d : Dictionary) (root : List ℕ) (s : ℕ) where
       (IsCandidate d s q → ⊥) → IsBestAt d root s (rows ++ q ∷ []) best
   kept_best rows q best h n = record {
     at_place = h.at_place;
-    least = best_kept d root s rows q (row_of best) h.least n;
+    least = best_kept d root s rows q (candidate_row best) h.least n;
   }
 
 -- no row leaves where none of the rows of cells is a candidate

@@ -52,10 +52,10 @@ IsBetter d root (Some before) next c =
     (IsLess d root next before × (c ≡ next)) ⊎ ((IsLess d root next before → ⊥) × (c ≡ before))
 
 -- the row of a candidate
-abbrev pub row_of : Option Candidate → Option ℕ
-row_of best = option_map (λ c. c.row) best
+abbrev pub candidate_row : Option Candidate → Option ℕ
+candidate_row best = option_map (λ c. c.row) best
 
 -- the least candidate among these rows, if there is one
 pub record IsBestAt (d : Dictionary) (root : List ℕ) (s : ℕ) (rows : List ℕ) (best : Option Candidate) : Type 0 where
   pub at_place : IfSome best (λ c. IsCandidateAt d s c)
-  pub least : IsBest d root s rows (row_of best)
+  pub least : IsBest d root s rows (candidate_row best)

@@ -7,7 +7,7 @@ ghost use Rattle.dictionary_laws.specs.Keys.{place_in};
 ghost use Rattle.dictionary.specs.Positions.{IsCellColumn};
 ghost use Rattle.dictionary.specs.Views.{table_of};
 ghost use Rattle.lex_pivot.specs.Pairs.{IsPlaced};
-ghost use Rattle.lex_pivot.specs.Ratios.{NoneLeaves, IsCandidate, IsCandidateAt, IsLess, IsBetter, row_of};
+ghost use Rattle.lex_pivot.specs.Ratios.{NoneLeaves, IsCandidate, IsCandidateAt, IsLess, IsBetter, candidate_row};
 
 use crate::Order;
 use crate::candidates::Candidate;
@@ -42,7 +42,7 @@ pub fn leaving_by(dict: &Dict, order: &Order, col: Label) -> Option<Label>
             best = Some(better(dict, order, best, next));
         }
     }
-    row_of(best)
+    candidate_row(best)
 }
 
 // The row at a place of the rows of cells, if it is a candidate in the column of a label, whose cells these are.
@@ -94,8 +94,8 @@ fn is_lesser(dict: &Dict, order: &Order, one: &Candidate, other: &Candidate) -> 
 }
 
 // The row of a candidate.
-fn row_of(best: Option<Candidate>) -> Option<Label>
-    ensures { result ≡ row_of best }
+fn candidate_row(best: Option<Candidate>) -> Option<Label>
+    ensures { result ≡ candidate_row best }
 {
     match best {
         Some(candidate) => Some(candidate.row),

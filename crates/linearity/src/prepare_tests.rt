@@ -3,10 +3,10 @@ ghost use Rattle.std.specs.Prelude.{◌≡◌, ◌<◌};
 
 use crate::{PrepareStop, Prepared, prepare};
 use hull_lift::system_of;
-use poly_model::{Key, Kind, Lines, MOST_COLUMNS, MOST_FILE_ROWS, OutOfMemory, Poly};
-use poly_num::Num;
+use poly_model::{Key, Kind, Lines, OutOfMemory};
 use std::alloc::Global;
 use std::test::Fail;
+use test_polys::poly_of;
 
 /// A file, its rows one after the other, and what is prepared from it: how that ends, the labels of the start cobasis,
 /// the free columns, and the lines one after the other.
@@ -314,25 +314,4 @@ fn entries_of(alloc: Global, lines: &Lines) -> Result<Vec<i128>, OutOfMemory> {
         }
     }
     Ok(entries)
-}
-
-fn poly_of(
-    alloc: Global,
-    kind: Kind,
-    n: u32,
-    entries: &[i128],
-    linear: &[bool],
-) -> Result<Poly, Fail> {
-    let mut cells = Vec::new(alloc);
-    for x in entries {
-        cells.push(Num::new(*x).ok_or("a number of 127 bits")?)?;
-    }
-    let linear = Vec::from_slice(alloc, linear)?;
-    if n == 0 || n > MOST_COLUMNS || linear.len() > MOST_FILE_ROWS as usize {
-        return Err("few rows, and narrow ones")?;
-    }
-    if cells.len() != linear.len() * n as usize {
-        return Err("n entries for each mark")?;
-    }
-    Ok(Poly::new(kind, n, cells, linear, Vec::new(alloc)))
 }

@@ -3,11 +3,11 @@ use convert_core::list;
 use hull_lift::system_of;
 use plain_enum::list_feasible;
 use poly_io::MemSink;
-use poly_model::{Kind, Listed, MOST_COLUMNS, MOST_FILE_ROWS, Poly};
-use poly_num::Num;
+use poly_model::{Kind, Listed, Poly};
 use row_printer::ListStop;
 use std::alloc::{AllocError, Global};
 use std::test::Fail;
+use test_polys::poly_of;
 
 /// A file, its rows one after the other, the marks of its first rows that may be linear, and how many rows and lines both
 /// listings have.
@@ -110,7 +110,7 @@ struct Answer {
 fn both_listings_have_the_same_rows(rt: HostRuntime) -> Result<(), Fail> {
     let alloc = rt.alloc();
     for case in CASES {
-        let poly = poly_of(alloc, case)?;
+        let poly = poly_of(alloc, case.kind, case.n, case.entries, case.linear)?;
         let search = by_search(alloc, &poly)?;
         let subsets = by_subsets(alloc, &poly)?;
         let listed = search.listed;
@@ -157,27 +157,3 @@ fn sizes_of(ended: Result<Listed, ListStop>) -> Option<(u64, u32)> {
 }
 
 // A row that has no mark is not linear.
-fn poly_of(alloc: Global, case: Case) -> Result<Poly, Fail> {
-    let Case {
-        kind,
-        n,
-        entries,
-        linear: marks,
-        ..
-    } = case;
-    if n == 0 || n > MOST_COLUMNS {
-        return Err("some columns, and not many")?;
-    }
-    let mut cells = Vec::new(alloc);
-    for x in entries {
-        cells.push(Num::new(*x).ok_or("a number of 127 bits")?)?;
-    }
-    let mut linear = Vec::new(alloc);
-    for i in 0..cells.len() / n as usize {
-        linear.push(i < marks.len() && marks[i])?;
-    }
-    if linear.len() > MOST_FILE_ROWS as usize || cells.len() != linear.len() * n as usize {
-        return Err("whole rows, and not many")?;
-    }
-    Ok(Poly::new(kind, n, cells, linear, Vec::new(alloc)))
-}

@@ -4,10 +4,10 @@ ghost use Rattle.std.specs.Prelude.{◌≡◌, ◌<◌};
 use crate::{FirstStop, Found, first};
 use hull_lift::system_of;
 use linearity::prepare;
-use poly_model::{Kind, MOST_COLUMNS, MOST_FILE_ROWS, OutOfMemory, Poly};
-use poly_num::Num;
+use poly_model::{Kind, OutOfMemory};
 use std::alloc::Global;
 use std::test::Fail;
+use test_polys::poly_of;
 
 /// A file, its rows one after the other, and what phase one gives: how that ends; and where there is a root, its labels,
 /// the denominator of its dictionary, the constants of the rows that are not linear, and the lines one after the other.
@@ -17,7 +17,7 @@ struct Case {
     kind: Kind,
     n: u32,
     entries: &'static [i128],
-    linear: &'static [usize],
+    linear: &'static [bool],
     end: End,
     root: &'static [u16],
     denominator: i128,
@@ -117,7 +117,7 @@ const CASES: [Case; 10] = [
         name: "an equation and a line",
         n: 4,
         entries: &[-1, -2, -1, 0, -1, 0, -2, 0, -1, -2, 1, 0],
-        linear: &[3],
+        linear: &[false, false, true],
         root: &[2],
         denominator: 4,
         constants: &[4, 0],
@@ -218,29 +218,4 @@ fn stopped(alloc: Global, end: End) -> Answer {
         constants: Vec::new(alloc),
         lines: Vec::new(alloc),
     }
-}
-
-/// The polyhedron of these rows of n numbers; those of these numbers, from 1 on, are linear.
-fn poly_of(
-    alloc: Global,
-    kind: Kind,
-    n: u32,
-    entries: &[i128],
-    linear: &[usize],
-) -> Result<Poly, Fail> {
-    let mut cells = Vec::new(alloc);
-    for x in entries {
-        cells.push(Num::new(*x).ok_or("a number of 127 bits")?)?;
-    }
-    if n == 0 || n > MOST_COLUMNS {
-        return Err("some columns, and not many")?;
-    }
-    let mut marks = Vec::new(alloc);
-    for row in 0..entries.len() / n as usize {
-        marks.push(linear.contains(&(row + 1)))?;
-    }
-    if marks.len() > MOST_FILE_ROWS as usize || cells.len() != marks.len() * n as usize {
-        return Err("whole rows, and not many")?;
-    }
-    Ok(Poly::new(kind, n, cells, marks, Vec::new(alloc)))
 }

@@ -2,11 +2,11 @@
 use crate::{FeasibleStop, PlainStop, feasible_plain, list_feasible, list_plain};
 use hull_lift::system_of;
 use poly_io::MemSink;
-use poly_model::{Kind, MOST_COLUMNS, MOST_FILE_ROWS, Phase, Poly, System};
-use poly_num::Num;
+use poly_model::{Kind, Phase, Poly, System};
 use row_printer::ListStop;
 use std::alloc::Global;
 use std::test::Fail;
+use test_polys::poly_of;
 
 /// A file, its rows one after the other, the marks of its first rows that may be linear, and whether it is feasible, if
 /// no number passes.
@@ -221,7 +221,7 @@ const CASES: [Case; 24] = [
 fn tells_whether_a_file_is_feasible(rt: HostRuntime) -> Result<(), Fail> {
     for case in CASES {
         let alloc = rt.alloc();
-        let cone = system_of(alloc, &poly_of(alloc, case)?)?;
+        let cone = system_of(alloc, &poly_of(alloc, case.kind, case.n, case.entries, case.linear)?)?;
         let found = (is_feasible(alloc, &cone)?, is_listed(alloc, &cone)?);
         assert_eq!(rt; found, (case.feasible, case.feasible), "{}", case.name);
     }
@@ -299,7 +299,7 @@ const LISTINGS: [Listing; 4] = [
 fn counts_the_rows_and_lines_of_a_listing(rt: HostRuntime) -> Result<(), Fail> {
     for case in LISTINGS {
         let alloc = rt.alloc();
-        let poly = poly_with(alloc, case.kind, case.n, case.entries, &[])?;
+        let poly = poly_of(alloc, case.kind, case.n, case.entries, &[])?;
         let mut out = MemSink::new(alloc, &[]);
         let listed = listed_of(alloc, &poly, &mut out)?;
         assert_eq!(rt;
@@ -320,7 +320,7 @@ fn lists_a_hundred_points(rt: HostRuntime) -> Result<(), Fail> {
         entries.push(1)?;
         entries.push(i128::from(i))?;
     }
-    let poly = poly_with(alloc, Kind::V, 2, &entries, &[])?;
+    let poly = poly_of(alloc, Kind::V, 2, &entries, &[])?;
     let mut out = MemSink::new(alloc, &[]);
     assert_eq!(rt; listed_of(alloc, &poly, &mut out)?, Some((2, 0)));
     Ok(())
@@ -334,33 +334,4 @@ fn listed_of(alloc: Global, poly: &Poly, out: &mut MemSink) -> Result<Option<(u6
         Err(PlainStop::Overflow(overflow)) if overflow.phase == Phase::Cone => Ok(None),
         Err(_) => Err("memory, or a fault")?,
     }
-}
-
-fn poly_of(alloc: Global, case: Case) -> Result<Poly, Fail> {
-    poly_with(alloc, case.kind, case.n, case.entries, case.linear)
-}
-
-// A row that has no mark is not linear.
-fn poly_with(
-    alloc: Global,
-    kind: Kind,
-    n: u32,
-    entries: &[i128],
-    marks: &[bool],
-) -> Result<Poly, Fail> {
-    if n == 0 || n > MOST_COLUMNS {
-        return Err("narrow rows")?;
-    }
-    let mut cells = Vec::new(alloc);
-    for x in entries {
-        cells.push(Num::new(*x).ok_or("a number of 127 bits")?)?;
-    }
-    let mut linear = Vec::new(alloc);
-    for i in 0..cells.len() / n as usize {
-        linear.push(i < marks.len() && marks[i])?;
-    }
-    if linear.len() > MOST_FILE_ROWS as usize || cells.len() != linear.len() * n as usize {
-        return Err("few rows, each of n entries")?;
-    }
-    Ok(Poly::new(kind, n, cells, linear, Vec::new(alloc)))
 }

@@ -6,7 +6,7 @@ use Rattle.dictionary.specs.Cobases.{AreOutside}
 use Rattle.dictionary_laws.specs.Keys.{AreDistinct}
 use Rattle.poly_model.specs.Tree.{Leaves}
 use Rattle.lex_pivot.specs.declared.candidates.Candidate.{Candidate}
-use Rattle.lex_pivot.specs.Ratios.{NoneLeaves, IsBestAt, row_of}
+use Rattle.lex_pivot.specs.Ratios.{NoneLeaves, IsBestAt, candidate_row}
 use Rattle.lex_pivot.proofs.RatioLemmas.{taken_other, one_more, better_is_best, kept_best, best_leaves}
 use Rattle.lex_pivot.proofs.ratio.leaving_by.Goals.{in-Some, in_default}
 use Rattle.lex_pivot.proofs.ratio.leaving_by.Goals as goal
@@ -43,8 +43,8 @@ returns c =
     let n : length c.rows-place-end.result.now ≡ length c.args.dict.now.rows = ap length c.rows-place-end.ensures.value in
     subst (λ (r : Option ℕ). MatchOption r (NoneLeaves c.args.dict.now c.args.col)
     (λ r. Leaves c.args.dict.now.labels c.args.order.now c.args.dict.now.key (table_of c.args.dict.now) c.args.col r))
-    (sym c.row_of.ensures)
-    (best_leaves c.args.dict.now c.args.order.now c.args.col c.args.dict.now.rows (row_of c.rows.best)
+    (sym c.candidate_row.ensures)
+    (best_leaves c.args.dict.now c.args.order.now c.args.col c.args.dict.now.rows (candidate_row c.rows.best)
     (subst (λ (ks : List ℕ). AreOutside c.args.dict.now ks) c.rows-place-end.ensures.value c.rows-place-end.ensures.outside)
     (IsBestAt.least (subst (λ (ks : List ℕ). IsBestAt c.args.dict.now c.args.order.now c.args.col ks c.rows.best)
     (take_all c.rows.place c.args.dict.now.rows (omega arith)) c.rows.invariant)))
