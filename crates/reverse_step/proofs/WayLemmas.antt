@@ -1,6 +1,6 @@
 -- The way to a key: a row that no label can give way to depends on the rest of the key, and a cobasis that has all labels of
 -- another is that.
-use Rattle.std.proofs.Common.{◌≡◌, ◌≢◌, ◌⊎◌, inl, inr, ⊎_elim, ℕ, ℤ, pos, ◌+ℤ◌, ◌*ℤ◌, Bool, true, false, not, true≢false, ◌<◌, ◌+◌, length, get_or, List, [], refl, sym, subst, ap, ◌∙◌, arith}
+use Rattle.std.proofs.Common.{◌≡◌, ◌≢◌, ◌⊎◌, inl, inr, ⊎_elim, ℕ, ℤ, pos, ◌*ℤ◌, Bool, true, false, not, true≢false, ◌<◌, ◌+◌, length, get_or, List, [], refl, sym, subst, ◌∙◌, arith}
 use Rattle.std.specs.Prelude.{◌<ℤ◌, ◌↔◌, IsTrue, IsFalse}
 use Rattle.std.proofs.lemmas.List.{get_or_default}
 use Rattle.std.specs.List.{Contains}
@@ -11,7 +11,7 @@ use Rattle.poly_num.proofs.Order.{zero_factor}
 use Rattle.poly_num.proofs.VectorLemmas.{dot-zero}
 use Rattle.poly_model.specs.declared.overflow.Overflow.{Overflow}
 use Rattle.poly_model.specs.Keys.{IsAscending}
-use Rattle.poly_model.specs.Spaces.{Space, HasPoints}
+use Rattle.poly_model.specs.Spaces.{Space}
 use Rattle.poly_model.specs.Dictionaries.{Table, IsCobasis, IsDictionary, sum_over}
 use Rattle.poly_model.specs.LexOrder.{rows_in, IsPositive, list_of}
 use Rattle.poly_model.specs.Tree.{IsRowOutside, IsRowDictionary, IsLexFeasible}

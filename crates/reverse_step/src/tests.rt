@@ -161,7 +161,12 @@ fn start_at(alloc: Global, dict: Dict, rows: &[u16]) -> Result<Start, Fail> {
     start_counted::<Brand>(alloc, dict, rows, Blank::new(1))
 }
 
-fn start_counted<L: Ledger>(alloc: Global, dict: Dict, rows: &[u16], blank: Blank) -> Result<Start, Fail>
+fn start_counted<L: Ledger>(
+    alloc: Global,
+    dict: Dict,
+    rows: &[u16],
+    blank: Blank,
+) -> Result<Start, Fail>
     requires blank { (blank.name ≡ L.name) × (blank.parts ≡ L.parts) × (0 < blank.parts) }
 {
     let mut steps = Steps::<L>::new(blank);
@@ -170,10 +175,10 @@ fn start_counted<L: Ledger>(alloc: Global, dict: Dict, rows: &[u16], blank: Blan
     take_step(&mut walker, &mut steps)?;
     let key = key_of(alloc, rows)?;
     let started = take_start(&mut walker, &key, &mut steps)?;
-    let mut found = 0;
+    let mut found = 0usize;
     for _ in 0..20 {
         match take_step(&mut walker, &mut steps)? {
-            Visit::New => found += 1,
+            Visit::New => found = found.saturating_add(1),
             Visit::Back => {}
             Visit::End => break,
         }
@@ -200,7 +205,11 @@ fn key_of(alloc: Global, rows: &[u16]) -> Result<Key, Fail> {
     }
 }
 
-fn take_start<L: Ledger>(walker: &mut Walker, key: &Key, steps: &mut Steps<L>) -> Result<bool, Fail> {
+fn take_start<L: Ledger>(
+    walker: &mut Walker,
+    key: &Key,
+    steps: &mut Steps<L>,
+) -> Result<bool, Fail> {
     match walker.start(key, steps) {
         Ok(started) => Ok(started),
         Err(_) => Err("an overflow")?,

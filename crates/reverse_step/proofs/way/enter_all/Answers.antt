@@ -1,7 +1,6 @@
-use Rattle.std.proofs.Common.{◌≡◌, Err, Bool, ◌<◌, length, get_or, sym, ap, subst, ◌∙◌, arith}
+use Rattle.std.proofs.Common.{Err, Bool, ◌<◌, length, get_or, sym, ap, subst, ◌∙◌, arith}
 use Rattle.std.specs.Prelude.{IfErr}
 use Rattle.std.specs.List.{Contains}
-use Rattle.std.proofs.lemmas.List.{get_or_default}
 use Rattle.std.proofs.lemmas.Result.{err_from_is_err_and}
 use Rattle.lex_pivot.proofs.EarlierLemmas.{at_each}
 use Rattle.reverse_step.specs.Ways.{StopsOnTheWay, IsEntered}
