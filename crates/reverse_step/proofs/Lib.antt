@@ -6,3 +6,5 @@ pub mod NextLemmas
 pub mod Bounds
 pub mod RunLemmas
 pub mod DueLemmas
+pub mod WayLemmas
+pub mod StartLemmas

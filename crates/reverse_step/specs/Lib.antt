@@ -3,3 +3,5 @@ pub mod Walks
 pub mod Children
 pub mod Moves
 pub mod Runs
+pub mod Ways
+pub mod Starts

@@ -6,5 +6,6 @@ mod pivots;
 #[cfg(test)]
 mod tests;
 mod walker;
+mod way;
 
 pub use walker::{Visit, Walker};

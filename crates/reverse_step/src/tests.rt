@@ -4,7 +4,7 @@ ghost use Rattle.std.specs.Prelude.{◌≡◌, ◌<◌};
 use crate::{Visit, Walker};
 use dictionary::{Dict, Steps};
 use poly_model::{
-    Kind, Label, MOST_COLUMNS, MOST_CONE_ROWS, OutOfMemory, Phase, Root, RowKind, System,
+    Key, Kind, Label, MOST_COLUMNS, MOST_CONE_ROWS, OutOfMemory, Phase, Root, RowKind, System,
 };
 use poly_num::Num;
 use std::alloc::Global;
@@ -145,5 +145,104 @@ fn visits_each_cobasis_once(rt: HostRuntime) -> Result<(), Fail> {
         want.push(step_to(alloc, visit, &key)?)?;
     }
     assert_eq!(rt; walk(alloc, pyramid)?, want);
+    Ok(())
+}
+
+/// Whether a walk began anew at a key, how many cobases it found from then on, and where it ended.
+#[derive(PartialEq, Eq, Debug, Drop)]
+struct Start {
+    started: bool,
+    found: usize,
+    end: Vec<u16>,
+}
+
+/// A start at the key of these rows, after one step of a walk from the root.
+fn start_at(alloc: Global, dict: Dict, rows: &[u16]) -> Result<Start, Fail> {
+    start_counted::<Brand>(alloc, dict, rows, Blank::new(1))
+}
+
+fn start_counted<L: Ledger>(
+    alloc: Global,
+    dict: Dict,
+    rows: &[u16],
+    blank: Blank,
+) -> Result<Start, Fail>
+    requires blank { (blank.name ≡ L.name) × (blank.parts ≡ L.parts) × (0 < blank.parts) }
+{
+    let mut steps = Steps::<L>::new(blank);
+    let root = Root::new(dict.key());
+    let mut walker = Walker::new(alloc, dict, &root)?;
+    take_step(&mut walker, &mut steps)?;
+    let key = key_of(alloc, rows)?;
+    let started = take_start(&mut walker, &key, &mut steps)?;
+    let mut found = 0usize;
+    for _ in 0..20 {
+        match take_step(&mut walker, &mut steps)? {
+            Visit::New => found = found.saturating_add(1),
+            Visit::Back => {}
+            Visit::End => break,
+        }
+    }
+    Ok(Start {
+        started,
+        found,
+        end: numbers_of(alloc, walker.dict())?,
+    })
+}
+
+fn key_of(alloc: Global, rows: &[u16]) -> Result<Key, Fail> {
+    let mut labels = Vec::new(alloc);
+    for i in rows {
+        let i = u32::from(*i);
+        if i == 0 || i >= 8192 {
+            return Err("rows")?;
+        }
+        labels.push(Label::row(i))?;
+    }
+    match Key::from_ascending(&labels) {
+        Some(key) => Ok(key),
+        None => Err("a key")?,
+    }
+}
+
+fn take_start<L: Ledger>(
+    walker: &mut Walker,
+    key: &Key,
+    steps: &mut Steps<L>,
+) -> Result<bool, Fail> {
+    match walker.start(key, steps) {
+        Ok(started) => Ok(started),
+        Err(_) => Err("an overflow")?,
+    }
+}
+
+// In the pyramid, at 2 4 5, which it finds first under the root 1 2 4: the root again, where it stands, one without children
+// and one with a child. Then rows that depend, two cobases at the apex that are not lexicographically feasible, a label of no
+// row, and keys that are too short and too long: the four that were left are found.
+#[test]
+fn starts_at_each_cobasis(rt: HostRuntime) -> Result<(), Fail> {
+    let alloc = rt.alloc();
+    for (rows, started, found) in [
+        (&[1, 2, 4][..], true, 5),
+        (&[2, 4, 5][..], true, 1),
+        (&[3, 4, 5][..], true, 0),
+        (&[1, 2, 5][..], true, 1),
+        (&[1, 2, 3][..], false, 4),
+        (&[1, 4, 5][..], false, 4),
+        (&[2, 3, 4][..], false, 4),
+        (&[2, 3, 5][..], false, 4),
+        (&[1, 2, 6][..], false, 4),
+        (&[1, 2][..], false, 4),
+        (&[1, 2, 4, 5][..], false, 4),
+    ] {
+        let pyramid = dict_at(alloc, 4, &PYRAMID, &[(1, 3), (2, 1), (4, 2)])?;
+        let end: &[u16] = if started { rows } else { &[1, 2, 4] };
+        let want = Start {
+            started,
+            found,
+            end: Vec::from_slice(alloc, end)?,
+        };
+        assert_eq!(rt; start_at(alloc, pyramid, rows)?, want);
+    }
     Ok(())
 }

@@ -6,10 +6,13 @@ ghost use Rattle.std.specs.List.{Contains};
 ghost use Rattle.std.specs.Option.{MatchOption};
 ghost use Rattle.lex_pivot.specs.Above.{NoneEnters};
 ghost use Rattle.reverse_step.specs.Children.{LeadsToChild, StopsWalk};
+ghost use Rattle.reverse_step.specs.Ways.{StopsOnTheWay};
+ghost use Rattle.reverse_step.specs.Starts.{unparented, Starts};
 ghost use Rattle.reverse_step.specs.Moves.{IsMovedDown, IsMovedUp, GoesDown, GoesUp, IsVisit, past};
 
 use crate::children::{child_at, first_child};
 use crate::pivots::pivot_over;
+use crate::way::reach;
 use dictionary::{Dict, Steps};
 use lex_pivot::{Order, parent_by};
 use poly_model::{Key, Label, OutOfMemory, Overflow, Root};
@@ -105,6 +108,27 @@ impl Walker {
         ensures { self.new ≡ past self.old }
     {
         self.at = self.here.cobasis().len();
+    }
+
+    /// Begins anew at this key, which is the job's root from then on: no column is tried there. At most one pivot for each
+    /// of its labels. False where it is the key of no lexicographically feasible cobasis; then, and where a pivot overflows,
+    /// it stands where it stood, and the same columns are still to be tried. Which parent it came from is forgotten in each
+    /// case, so a later step back to it takes a pivot. Takes no memory.
+    pub fn start<L: Ledger>(&mut self, key: &Key, steps: &mut Steps<L>) -> Result<bool, Overflow>
+        ensures start { IfOk result (λ b. Starts self.old key.now b self.new) }
+        ensures unchanged { IfErr result (λ _. self.new ≡ unparented self.old) }
+        ensures stops { IfErr result (λ o. StopsOnTheWay self.old.dict key.now o) }
+        ensures counted { steps.new ≤ steps.old + length key.now }
+    {
+        self.back = None;
+        if reach(&self.here, &mut self.other, &self.order, key, steps)? {
+            swap(&mut self.here, &mut self.other);
+            self.job = *key;
+            self.at = 0;
+            Ok(true)
+        } else {
+            Ok(false)
+        }
     }
 
     /// To the child in the column of `col`, if there is one: then no column of it is tried. False where the neighbour there

@@ -1,4 +1,3 @@
-use Rattle.std.proofs.Common.{◌≡◌}
 use Rattle.reverse_step.proofs.ChildLemmas.{none_leaves, leads_nowhere, leads_to_child, not_a_child}
 use Rattle.reverse_step.proofs.children.child_at.Goals as goal
 
