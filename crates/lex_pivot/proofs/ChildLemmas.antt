@@ -1,5 +1,5 @@
 -- The test of a child decides, in each space.
-use Rattle.std.proofs.Common.{◌≡◌, ◌↔◌, ℕ, ℤ, neg_ℤ, ◌+ℤ◌, ◌*ℤ◌, Bool, List, map, sym, ap, subst, ◌∙◌, Ordering}
+use Rattle.std.proofs.Common.{◌≡◌, ◌↔◌, ℕ, ℤ, neg_ℤ, ◌+ℤ◌, ◌*ℤ◌, Bool, List, ◌<ℤ◌, pos, map, refl, sym, ap, subst, ◌∙◌, arith, Ordering}
 use Rattle.std.specs.Bool.{IsTrue}
 use Rattle.std.specs.List.{Contains}
 use Rattle.std.specs.declared.cmp.Ordering.TheVariants.{Less}
@@ -14,7 +14,9 @@ use Rattle.search_laws.proofs.ChildTest.{child_by_test}
 use Rattle.dictionary.specs.Views.{Dictionary, table_of}
 use Rattle.lex_pivot.specs.Children.{DecidesChild}
 use Rattle.lex_pivot.proofs.EarlierLemmas.{rows_distinct}
-use Rattle.lex_pivot.proofs.FirstSigns.{values_less}
+use Rattle.lex_pivot.proofs.FirstSigns.{values_less, same_signs}
+use Rattle.lex_pivot.proofs.SignLemmas.{over_zero}
+use Rattle.poly_num.proofs.Ring.{lin}
 
 pub decides : (d : Dictionary) (root : List ℕ) (s r : ℕ) (b : Bool) → IsAscending d.labels → Contains d.key s →
     Leaves d.labels root d.key (table_of d) s r → IsTrue b ↔ IsDown d.labels root d.key (table_of d) s r →
@@ -35,3 +37,11 @@ sum_enters t s r j p f qs o g h e =
     values_less (neighbour_entry t s r j) qs o
     (e ∙ ap (λ x. lex_sign_of (map (λ q. x *ℤ t.entry q j +ℤ t.entry q s *ℤ f) qs)) g
     ∙ ap (λ x. lex_sign_of (map (λ q. neg_ℤ (t.entry r s) *ℤ t.entry q j +ℤ t.entry q s *ℤ x) qs)) h)
+
+-- where row r is 0 in the column of j, that is as it was
+pub lead_enters : (t : Table) (s r j : ℕ) (qs : List ℕ) (o : Ordering) → t.entry r s <ℤ pos 0 → t.entry r j ≡ pos 0 →
+    o ≡ lex_sign_of (map (λ q. t.entry q j) qs) → (o ≡ Less) ↔ WouldEnter t s r j qs
+lead_enters t s r j qs o n z e =
+    sum_enters t s r j (neg_ℤ (t.entry r s)) (t.entry r j) qs o refl refl
+    (e ∙ same_signs (λ q. t.entry q j) (λ q. neg_ℤ (t.entry r s) *ℤ t.entry q j +ℤ t.entry q s *ℤ t.entry r j)
+    (λ q. over_zero (t.entry q j) (t.entry q s) (neg_ℤ (t.entry r s)) (t.entry r j) (omega (arith, lin)) z) qs)

@@ -4,6 +4,7 @@ use Rattle.std.specs.Prelude.{nat_lt}
 use Rattle.std.specs.Bool.{IsTrue}
 use Rattle.std.specs.List.{Contains}
 use Rattle.std.proofs.lemmas.Bool.{ltb-true, lt-ltb}
+use Rattle.std.proofs.lemmas.List.{get_or_default}
 use Rattle.poly_model.specs.Keys.{IsAscending}
 use Rattle.poly_model.specs.Labels.{is_row}
 use Rattle.poly_model.specs.Spaces.{Space, is_member}
@@ -145,3 +146,9 @@ pub by_answer : (P : Type 0) (b : Bool) (o want : Ordering) → (b ≡ true → 
     (o ≡ want) ↔ P → IsTrue b ↔ P
 by_answer P true o want y n h = ((λ t. h.0 (y refl)), (λ p. refl))
 by_answer P false o want y n h = ((λ t. absurd (true≢false (sym t))), (λ p. absurd (n refl (h.1 p))))
+
+-- what is read at a place of a list that is equal
+pub read_at : (read rows : List ℕ) → read ≡ rows → (n q : ℕ) → n < length rows → q ≡ get_or read n q → q ≡ get_or rows n 0
+read_at read rows e n q l i =
+    subst (λ (ks : List ℕ). q ≡ get_or ks n 0) e
+    (i ∙ get_or_default read n q 0 (subst (λ (ks : List ℕ). n < length ks) (sym e) l))

@@ -220,3 +220,21 @@ values_less f ks o e = (
   (λ l. subst IsPositive (map_negative f ks) ((less (map f ks)).0 (sym e ∙ l))),
   (λ h. e ∙ (less (map f ks)).1 (subst IsPositive (sym (map_negative f ks)) h)),
 )
+
+-- the sign of a list is that of another one with the same signs
+module _ (f g : ℕ → ℤ) (same : (k : ℕ) → sign_of (f k) ≡ sign_of (g k)) where
+  one_more_sign : (k : ℕ) (ks : List ℕ) → lex_sign_of (map f ks) ≡ lex_sign_of (map g ks) → (o : Ordering) →
+      sign_of (f k) ≡ o → lex_sign_of (f k ∷ map f ks) ≡ lex_sign_of (g k ∷ map g ks)
+  one_more_sign k ks h Equal z =
+      zero_first (f k) (map f ks) (zero_sign (f k) z) ∙ h
+      ∙ sym (zero_first (g k) (map g ks) (zero_sign (g k) (sym (same k) ∙ z)))
+  one_more_sign k ks h Less s =
+      other_first (f k) (map f ks) (λ z. let q = sign_zero (f k) z in cc) ∙ same k
+      ∙ sym (other_first (g k) (map g ks) (λ z. let q = sign_zero (g k) z in let r = same k in cc))
+  one_more_sign k ks h Greater s =
+      other_first (f k) (map f ks) (λ z. let q = sign_zero (f k) z in cc) ∙ same k
+      ∙ sym (other_first (g k) (map g ks) (λ z. let q = sign_zero (g k) z in let r = same k in cc))
+
+  pub same_signs : (ks : List ℕ) → lex_sign_of (map f ks) ≡ lex_sign_of (map g ks)
+  same_signs [] = refl
+  same_signs (k ∷ ks) = one_more_sign k ks (same_signs ks) (sign_of (f k)) refl

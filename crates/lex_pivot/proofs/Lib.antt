@@ -6,3 +6,4 @@ pub mod RatioLemmas
 pub mod EnterLemmas
 pub mod ChildLemmas
 pub mod PivotLemmas
+pub mod LeadLemmas

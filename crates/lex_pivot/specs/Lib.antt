@@ -6,3 +6,4 @@ pub mod Ratios
 pub mod Above
 pub mod Children
 pub mod Feasible
+pub mod Leads

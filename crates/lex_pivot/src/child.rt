@@ -1,32 +1,24 @@
 //! Whether a neighbour is a child, read from the dictionary of the cobasis itself: no pivot is needed.
-ghost use Rattle.std.specs.Prelude.{◌≡◌, ◌↔◌, IsTrue};
-ghost use Rattle.std.specs.List.{Contains};
+ghost use Rattle.std.specs.Prelude.{◌≡◌, ◌<◌, ◌↔◌, IsTrue, length, pos};
+ghost use Rattle.std.specs.List.{Contains, slice_index_or};
 ghost use Rattle.poly_model.specs.Tree.{Leaves};
 ghost use Rattle.dictionary.specs.Views.{table_of};
-ghost use Rattle.search_laws.specs.ChildTest.{IsDown, LeadsUp};
+ghost use Rattle.search_laws.specs.ChildTest.{IsDown, LeadsUp, WouldEnter, downward};
 ghost use Rattle.lex_pivot.specs.Children.{DecidesChild, EntersInPlace, NoneInPlace};
+ghost use Rattle.lex_pivot.specs.Leads.{AreLeads};
 
 use crate::orderings::{is_greater, is_less};
-use crate::rows::comes_before;
+use crate::rows::{comes_before, label_of_column};
 use crate::scan::root_sign;
-use crate::{Order, Reading};
+use crate::{Leads, Order, Pivot, Reading};
 use dictionary::Dict;
-use poly_model::{Label, Root};
-use poly_num::neg;
+use poly_model::Label;
+use poly_num::{Num, neg};
 
 /// Whether the neighbour in the column of `col`, where `row` leaves, is a child: a lexicographically feasible cobasis
-/// whose parent is this one.
-pub fn is_child(dict: &Dict, root: &Root, col: Label, row: Label) -> bool
-    requires column { Contains dict.now.key col }
-    requires leaves { Leaves dict.now.labels root.now.key dict.now.key (table_of dict.now) col row }
-    ensures down { IsTrue result ↔ IsDown dict.now.labels root.now.key dict.now.key (table_of dict.now) col row }
-    ensures child { DecidesChild dict.now root.now.key col row result }
-{
-    is_child_by(dict, &Order::of(root), col, row)
-}
-
-/// The same by the order relative to the root.
-pub fn is_child_by(dict: &Dict, order: &Order, col: Label, row: Label) -> bool
+/// whose parent is this one. The leads are those of the dictionary.
+pub fn is_child(dict: &Dict, order: &Order, leads: &Leads, col: Label, row: Label) -> bool
+    requires leads { AreLeads dict.now order.now leads.now }
     requires column { Contains dict.now.key col }
     requires leaves { Leaves dict.now.labels order.now dict.now.key (table_of dict.now) col row }
     ensures down { IsTrue result ↔ IsDown dict.now.labels order.now dict.now.key (table_of dict.now) col row }
@@ -34,55 +26,82 @@ pub fn is_child_by(dict: &Dict, order: &Order, col: Label, row: Label) -> bool
 {
     // the labels ascend
     let _all = dict.labels();
-    if !leads_up(dict, order, col) {
+    if !leads_up(dict, order, leads, col) {
         return false;
     }
-    none_enters_first(dict, order, col, row)
+    none_enters_first(dict, order, leads, &Pivot { row, col })
 }
 
 /// Whether the greatest row of the root that is not 0 in the column is positive there. Where it is not, no neighbour in the
 /// column is a child, and no row has to be found that leaves.
-pub fn leads_up(dict: &Dict, order: &Order, col: Label) -> bool
-    requires { Contains dict.now.key col }
+pub fn leads_up(dict: &Dict, order: &Order, leads: &Leads, col: Label) -> bool
+    requires leads { AreLeads dict.now order.now leads.now }
+    requires column { Contains dict.now.key col }
     ensures { IsTrue result ↔ LeadsUp dict.now.labels order.now (table_of dict.now) col }
 {
-    is_greater(root_sign(dict, order, &Reading::Entry { col }))
+    is_greater(leads.sign(dict, order, col))
 }
 
-// Whether no label before `row` would enter in its place.
-fn none_enters_first(dict: &Dict, order: &Order, col: Label, row: Label) -> bool
-    requires column { Contains dict.now.key col }
-    requires leaves { Leaves dict.now.labels order.now dict.now.key (table_of dict.now) col row }
-    ensures { IsTrue result ↔ NoneInPlace dict.now order.now col row }
+// Whether no label before the row that leaves would enter in its place.
+fn none_enters_first(dict: &Dict, order: &Order, leads: &Leads, pivot: &Pivot) -> bool
+    requires leads { AreLeads dict.now order.now leads.now }
+    requires column { Contains dict.now.key pivot.now.col }
+    requires leaves { Leaves dict.now.labels order.now dict.now.key (table_of dict.now) pivot.now.col pivot.now.row }
+    ensures { IsTrue result ↔ NoneInPlace dict.now order.now pivot.now.col pivot.now.row }
 {
-    let labels = dict.cobasis();
-    'columns: for other in labels {
-        if would_enter(dict, order, col, row, *other) {
+    'columns: for j in 0..dict.columns().len() {
+        if would_enter(dict, order, leads, pivot, j) {
             return false;
         }
     }
     true
 }
 
-// Whether another label, which is before `row`, would enter in its place.
-fn would_enter(dict: &Dict, order: &Order, col: Label, row: Label, other: Label) -> bool
-    requires column { Contains dict.now.key col }
-    requires other { Contains dict.now.key other }
-    requires label { Contains dict.now.labels other }
-    requires leaves { Leaves dict.now.labels order.now dict.now.key (table_of dict.now) col row }
-    ensures { IsTrue result ↔ EntersInPlace dict.now order.now col row other }
+// Whether the label of column j is another, is before the row that leaves, and would enter in its place.
+fn would_enter(dict: &Dict, order: &Order, leads: &Leads, pivot: &Pivot, j: usize) -> bool
+    requires leads { AreLeads dict.now order.now leads.now }
+    requires column { Contains dict.now.key pivot.now.col }
+    requires other { j < length dict.now.columns }
+    requires leaves { Leaves dict.now.labels order.now dict.now.key (table_of dict.now) pivot.now.col pivot.now.row }
+    ensures { IsTrue result ↔
+        EntersInPlace dict.now order.now pivot.now.col pivot.now.row (slice_index_or dict.now.columns j 0) }
 {
-    if other.is_same(col) {
+    let other = label_of_column(dict, j);
+    if other.is_same(pivot.col) {
         return false;
     }
-    if !comes_before(dict, order, other, row) {
+    if !comes_before(dict, order, other, pivot.row) {
         return false;
+    }
+    falls_after(dict, order, leads, pivot, j)
+}
+
+// Whether after the pivot the greatest row of the root that is not 0 in column j is negative there. Where the row that
+// leaves is 0 in it, the column is as it was.
+fn falls_after(dict: &Dict, order: &Order, leads: &Leads, pivot: &Pivot, j: usize) -> bool
+    requires leads { AreLeads dict.now order.now leads.now }
+    requires column { Contains dict.now.key pivot.now.col }
+    requires other { j < length dict.now.columns }
+    requires leaves { Leaves dict.now.labels order.now dict.now.key (table_of dict.now) pivot.now.col pivot.now.row }
+    ensures { IsTrue result ↔ WouldEnter (table_of dict.now) pivot.now.col pivot.now.row
+        (slice_index_or dict.now.columns j 0) (downward dict.now.labels order.now) }
+{
+    let other = label_of_column(dict, j);
+    let f = dict.entry(pivot.row, other);
+    if is_zero(f) {
+        return is_less(leads.at(j));
     }
     let after = Reading::Sum {
-        p: neg(dict.entry(row, col)),
+        p: neg(dict.entry(pivot.row, pivot.col)),
         col: other,
-        f: dict.entry(row, other),
-        other: col,
+        f,
+        other: pivot.col,
     };
     is_less(root_sign(dict, order, &after))
+}
+
+fn is_zero(a: Num) -> bool
+    ensures { IsTrue result ↔ (a ≡ pos 0) }
+{
+    a.get() == 0
 }

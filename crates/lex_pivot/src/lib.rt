@@ -4,6 +4,7 @@
 mod candidates;
 mod child;
 mod feasible;
+mod leads;
 mod orderings;
 mod parents;
 mod ratio;
@@ -13,8 +14,9 @@ mod rows;
 mod scan;
 mod ties;
 
-pub use child::{is_child, is_child_by, leads_up};
+pub use child::{is_child, leads_up};
 pub use feasible::{is_lex_feasible, is_lex_feasible_by};
+pub use leads::Leads;
 pub use parents::{Pivot, parent, parent_by};
 pub use ratio::{leaving, leaving_by, none_leaves};
 pub use reading::Reading;

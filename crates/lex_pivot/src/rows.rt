@@ -1,5 +1,5 @@
 //! Rows outside a cobasis, and rows that come before others.
-ghost use Rattle.std.specs.Prelude.{◌<◌, ◌↔◌, IsTrue, length};
+ghost use Rattle.std.specs.Prelude.{◌≡◌, ◌<◌, ◌↔◌, IsTrue, length};
 ghost use Rattle.std.specs.List.{Contains, slice_index_or};
 ghost use Rattle.std.specs.Option.{MatchOption};
 ghost use Rattle.poly_model.specs.LexOrder.{rows_in, IsEarlier};
@@ -27,6 +27,18 @@ pub fn row_at(dict: &Dict, place: usize) -> Option<Label>
 {
     let row = dict.rows()[place];
     if row.is_row() { Some(row) } else { None }
+}
+
+/// The label of column j, counted from 0 without the constants.
+pub(crate) fn label_of_column(dict: &Dict, j: usize) -> Label
+    requires { j < length dict.now.columns }
+    ensures value { result ≡ slice_index_or dict.now.columns j 0 }
+    ensures key { Contains dict.now.key result }
+    ensures label { Contains dict.now.labels result }
+{
+    // its labels are labels of the dictionary
+    let _cobasis = dict.cobasis();
+    dict.columns()[j]
 }
 
 /// Whether the label is that of a row which comes before another one in the order.

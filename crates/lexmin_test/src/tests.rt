@@ -4,7 +4,7 @@ ghost use Rattle.std.specs.Prelude.{◌≡◌, ◌<◌};
 
 use crate::{shows_point, shows_ray};
 use dictionary::{Dict, Steps};
-use lex_pivot::{is_child, is_lex_feasible, leaving, parent};
+use lex_pivot::{Leads, Order, is_child, is_lex_feasible, leaving, parent};
 use poly_model::{
     Key, Kind, Label, MOST_COLUMNS, MOST_CONE_ROWS, OutOfMemory, Phase, Root, RowKind, System,
 };
@@ -236,22 +236,24 @@ fn answer_to(alloc: Global, case: Case) -> Result<Answer, Fail> {
             Some(pivot) => Some((pivot.row.number(), pivot.col.number())),
             None => None,
         },
-        first: along(&dict, &root, label_at(&labels, 0)),
-        second: along(&dict, &root, label_at(&labels, 1)),
+        first: along(alloc, &dict, &root, label_at(&labels, 0))?,
+        second: along(alloc, &dict, &root, label_at(&labels, 1))?,
     })
 }
 
-fn along(dict: &Dict, root: &Root, col: Label) -> Down {
+fn along(alloc: Global, dict: &Dict, root: &Root, col: Label) -> Result<Down, OutOfMemory> {
     if !dict.in_cobasis(col) {
-        return Down::Both;
+        return Ok(Down::Both);
     }
-    match (leaving(dict, root, col), shows_ray(dict, root, col)) {
-        (Some(row), false) if is_child(dict, root, col, row) => Down::Child(row.number()),
+    let order = Order::of(root);
+    let leads = Leads::of(alloc, dict, &order)?;
+    Ok(match (leaving(dict, root, col), shows_ray(dict, root, col)) {
+        (Some(row), false) if is_child(dict, &order, &leads, col, row) => Down::Child(row.number()),
         (Some(row), false) => Down::Other(row.number()),
         (Some(_), true) => Down::Both,
         (None, true) => Down::Shown,
         (None, false) => Down::Hidden,
-    }
+    })
 }
 
 /// The cone of these cells, n to a row.

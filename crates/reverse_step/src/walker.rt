@@ -14,7 +14,7 @@ use crate::children::{child_at, first_child};
 use crate::pivots::pivot_over;
 use crate::way::reach;
 use dictionary::{Dict, Steps};
-use lex_pivot::{Order, parent_by};
+use lex_pivot::{Leads, Order, parent_by};
 use poly_model::{Key, Label, OutOfMemory, Overflow, Root};
 use std::alloc::Global;
 use std::marker::Model;
@@ -38,6 +38,8 @@ pub struct Walker {
     // room for the next dictionary, or the parent's
     other: Dict,
     order: Order,
+    // those of the dictionary where it stands
+    leads: Leads,
     job: Key,
     // the place in the key of the next column to try
     at: usize,
@@ -52,6 +54,7 @@ impl Drop for Walker {
             here: _,
             other: _,
             order: _,
+            leads: _,
             job: _,
             at: _,
             back: _,
@@ -60,29 +63,32 @@ impl Drop for Walker {
 }
 
 impl Model for Walker {
+    ghost use Rattle.lex_pivot.specs.Leads.{AreLeads};
     ghost use Rattle.reverse_step.specs.Walks.{Walk, kept_parent, AreAlike};
 
     ghost Value = { Walk };
 
     ghost view = { λ w. record { dict = w.here; root = w.order; job = w.job; at = w.at; parent = kept_parent w.back w.other } };
 
-    ghost invariant = { λ w. AreAlike w.here w.other };
+    ghost invariant = { λ w. AreAlike w.here w.other × AreLeads w.here w.order w.leads };
 }
 
 impl Walker {
     /// A walk under this root that begins at the dictionary, whose cobasis is the job's root. Takes memory for a second
-    /// dictionary and for the order of rows.
+    /// dictionary, for the order of rows and for the leads.
     pub fn new(alloc: Global, dict: Dict, root: &Root) -> Result<Walker, OutOfMemory>
         ensures { IfOk result (λ walk.
             walk ≡ record { dict = dict; root = root.now.key; job = dict.key; at = 0; parent = None }) }
     {
         let order = Order::marked(alloc, root)?;
+        let leads = Leads::of(alloc, &dict, &order)?;
         let other = dict.copy()?;
         let job = dict.key();
         Ok(Walker {
             here: dict,
             other,
             order,
+            leads,
             job,
             at: 0,
             back: None,
@@ -123,6 +129,7 @@ impl Walker {
         self.back = None;
         if reach(&self.here, &mut self.other, &self.order, key, steps)? {
             swap(&mut self.here, &mut self.other);
+            self.leads.read(&self.here, &self.order);
             self.job = *key;
             self.at = 0;
             Ok(true)
@@ -140,7 +147,7 @@ impl Walker {
         ensures stops { IfErr result (λ o. StopsWalk self.old.dict self.old.root o) }
         ensures counted { steps.new ≤ steps.old + 1 }
     {
-        match child_at(&self.here, &self.order, col) {
+        match child_at(&self.here, &self.order, &self.leads, col) {
             Some(row) => {
                 self.descend(row, col, steps)?;
                 Ok(true)
@@ -172,7 +179,7 @@ impl Walker {
         ensures stops { IfErr result (λ o. StopsWalk self.old.dict self.old.root o) }
         ensures counted { steps.new ≤ steps.old + 1 }
     {
-        if let Some(child) = first_child(&self.here, &self.order, self.at) {
+        if let Some(child) = first_child(&self.here, &self.order, &self.leads, self.at) {
             self.descend(child.row, child.col, steps)?;
             return Ok(Visit::New);
         }
@@ -203,6 +210,7 @@ impl Walker {
         ensures counted { steps.new ≤ steps.old + 1 }
     {
         pivot_over(&mut self.here, &mut self.other, row, col, steps)?;
+        self.leads.read(&self.here, &self.order);
         self.at = 0;
         self.back = Some(col);
         Ok(())
@@ -219,6 +227,7 @@ impl Walker {
         match self.back {
             Some(col) => {
                 swap(&mut self.here, &mut self.other);
+                self.leads.read(&self.here, &self.order);
                 self.back = None;
                 self.at = place_of(self.here.cobasis(), col) + 1;
                 Ok(Some(col))
@@ -226,6 +235,7 @@ impl Walker {
             None => match parent_by(&self.here, &self.order) {
                 Some(pivot) => {
                     self.here.pivot(pivot.row, pivot.col, steps)?;
+                    self.leads.read(&self.here, &self.order);
                     self.at = place_of(self.here.cobasis(), pivot.row) + 1;
                     Ok(Some(pivot.row))
                 }

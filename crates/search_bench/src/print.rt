@@ -1,10 +1,14 @@
 //! What is asked of a cobasis, in print.
 ghost use Rattle.std.specs.List.{Contains};
+ghost use Rattle.poly_model.specs.Tree.{Leaves};
+ghost use Rattle.dictionary.specs.Views.{table_of};
 
+use crate::stop::Stop;
 use dictionary::Dict;
-use lex_pivot::{is_child, is_lex_feasible, leaving, parent};
+use lex_pivot::{Leads, Order, Pivot, is_child, is_lex_feasible, leaving, parent};
 use lexmin_test::{shows_point, shows_ray};
-use poly_model::{Label, Root};
+use poly_model::{Label, OutOfMemory, Root};
+use std::alloc::Global;
 use std::io;
 
 /// The labels of the root.
@@ -59,15 +63,24 @@ fn print_column(rt: &HostRuntime, dict: &Dict, root: &Root, col: Label) -> io::R
     let ray = shown(shows_ray(dict, root, col));
     match leaving(dict, root, col) {
         Some(row) => {
-            let neighbour = if is_child(dict, root, col, row) {
-                "child"
-            } else {
-                "other"
-            };
+            let neighbour = neighbour_word(rt.alloc(), dict, root, &Pivot { row, col });
             let number = row.number();
             print!(rt; ", at {column} {neighbour} {number} ray {ray}")
         }
         None => print!(rt; ", at {column} ray {ray}"),
+    }
+}
+
+// What the neighbour of a pivot is.
+fn neighbour_word(alloc: Global, dict: &Dict, root: &Root, pivot: &Pivot) -> &'static str
+    requires column { Contains dict.now.key pivot.now.col }
+    requires leaves { Leaves dict.now.labels root.now.key dict.now.key (table_of dict.now) pivot.now.col pivot.now.row }
+{
+    let order = Order::of(root);
+    match Leads::of(alloc, dict, &order) {
+        Ok(leads) if is_child(dict, &order, &leads, pivot.col, pivot.row) => "child",
+        Ok(_) => "other",
+        Err(OutOfMemory) => Stop::Memory.word(),
     }
 }
 

@@ -8,6 +8,6 @@ use Rattle.lex_pivot.proofs.child.leads_up.Goals as goal
 
 pub returns : goal.returns
 returns c =
-    by_answer _ c.is_greater.result c.root_sign.result Greater c.is_greater.ensures.yes c.is_greater.ensures.no
+    by_answer _ c.is_greater.result c.sign.result Greater c.is_greater.ensures.yes c.is_greater.ensures.no
     (values_greater (λ q. Table.entry (table_of c.args.dict.now) q c.args.col)
-    (downward c.args.dict.now.labels c.args.order.now) c.root_sign.result c.root_sign.ensures)
+    (downward c.args.dict.now.labels c.args.order.now) c.sign.result c.sign.ensures)

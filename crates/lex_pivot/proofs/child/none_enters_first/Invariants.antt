@@ -4,4 +4,4 @@ use Rattle.lex_pivot.proofs.child.none_enters_first.Given as goal
 
 abbrev pub invariant-columns : goal.invariant-columns
 invariant-columns l =
-    (j : ℕ) → j < l.other-index → EntersInPlace l.dict l.order l.col l.row (get_or l.labels j 0) → ⊥
+    (j : ℕ) → j < l.j → EntersInPlace l.dict l.order l.pivot.col l.pivot.row (get_or l.dict.columns j 0) → ⊥

@@ -1,19 +1,17 @@
 use Rattle.std.proofs.Common.{◌≡◌, ◌∙◌, sym, ap, subst, true≢false, ◌<◌, length, get_or, List, ℕ}
 use Rattle.std.specs.List.{Contains}
-use Rattle.std.proofs.lemmas.List.{get_or_default}
 use Rattle.std.proofs.lemmas.List.Elements.{Contains-get_or}
 use Rattle.dictionary.specs.Cobases.{AreOutside}
 use Rattle.poly_model.specs.Labels.{is_row}
-use Rattle.lex_pivot.proofs.EarlierLemmas.{row_has, row_only}
+use Rattle.lex_pivot.proofs.EarlierLemmas.{row_has, row_only, read_at}
 use Rattle.lex_pivot.proofs.rows.row_at.Goals.{After-is_row}
 use Rattle.lex_pivot.proofs.rows.row_at.Goals as goal
 
 -- what is read at the place
 row_is : (c : After-is_row) → c.index-rows-place.result ≡ get_or c.args.dict.now.rows c.args.place 0
 row_is c =
-    subst (λ (ks : List ℕ). c.index-rows-place.result ≡ get_or ks c.args.place 0) c.rows.ensures.value
-    (c.index-rows-place.is ∙ get_or_default c.rows.result.now c.args.place c.index-rows-place.result 0
-    (subst (λ (ks : List ℕ). c.args.place < length ks) (sym c.rows.ensures.value) c.requires))
+    read_at c.rows.result.now c.args.dict.now.rows c.rows.ensures.value c.args.place c.index-rows-place.result c.requires
+    c.index-rows-place.is
 
 pub returns-then-is_row : goal.returns-then-is_row
 returns-then-is_row c =

@@ -9,12 +9,12 @@ returns-then-not-leads_up c =
 pub returns-in_default : goal.returns-in_default
 returns-in_default c = none_leaves c.args.dict.now c.args.order.now c.args.col c.in_default.ensures
 
-pub returns-then-is_child_by : goal.returns-then-is_child_by
-returns-then-is_child_by c =
-    leads_to_child c.args.dict.now c.args.order.now c.args.col c.in-Some.row c.requires c.in-Some.ensures
-    c.if-is_child_by.ensures.child
+pub returns-then-is_child : goal.returns-then-is_child
+returns-then-is_child c =
+    leads_to_child c.args.dict.now c.args.order.now c.args.col c.in-Some.row c.requires.column c.in-Some.ensures
+    c.if-is_child.ensures.child
 
-pub returns-else-is_child_by : goal.returns-else-is_child_by
-returns-else-is_child_by c =
-    not_a_child c.args.dict.now c.args.order.now c.args.col c.in-Some.row c.requires c.in-Some.ensures
-    c.if-is_child_by.ensures.child
+pub returns-else-is_child : goal.returns-else-is_child
+returns-else-is_child c =
+    not_a_child c.args.dict.now c.args.order.now c.args.col c.in-Some.row c.requires.column c.in-Some.ensures
+    c.if-is_child.ensures.child
