@@ -6,19 +6,30 @@ ghost use Rattle.std.specs.Prelude.{◌≡◌, ◌≢◌, ◌*ℤ◌, ◌<ℤ◌
 use poly_num::{Num, cmp_cross, mul};
 use std::cmp::Ordering;
 
-/// The order of `a / b` and `c / d`, for positive `b` and `d`: by the two products, and only where one of them passes 127
+/// The order of `a / b` and `c / d`, for positive `b` and `d`: at once where both are 0, else by the two products, and only where one of them passes 127
 /// bits by repeated division, which takes longer.
 pub(crate) fn cmp_ratios(a: Num, b: Num, c: Num, d: Num) -> Ordering
     requires left { pos 0 <ℤ b }
     requires right { pos 0 <ℤ d }
     ensures { result ≡ int_cmp (a *ℤ d) (c *ℤ b) }
 {
+    if are_zero(a, c) {
+        return Ordering::Equal;
+    }
     if let Some(x) = mul(a, d)
         && let Some(y) = mul(c, b)
     {
         return x.get().cmp(&y.get());
     }
     cmp_cross(a, b, c, d)
+}
+
+// Whether both are 0.
+#[inline(always)]
+fn are_zero(a: Num, c: Num) -> bool
+    ensures { IsTrue result → (a ≡ pos 0) × (c ≡ pos 0) }
+{
+    a.get() == 0 && c.get() == 0
 }
 
 /// Whether it is not `Equal`.
