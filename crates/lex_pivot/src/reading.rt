@@ -39,6 +39,9 @@ impl Reading {
         requires columns { IsReadable dict.now.key self.now }
         ensures { result ≡ sign_of (reading_at (table_of dict.now) self.now row) }
     {
+        if self.is_elsewhere(dict, row) {
+            return Ordering::Equal;
+        }
         match *self {
             Reading::Entry { col } => sign(dict.entry(row, col)),
             Reading::Sum { p, col, f, other } => {
@@ -51,6 +54,27 @@ impl Reading {
                     Ordering::Equal
                 }
             }
+        }
+    }
+}
+
+impl Reading {
+    // Whether the row is one of the cobasis, and its own column is not read: then its number is 0, and its entries need not
+    // be looked up.
+    #[inline(always)]
+    fn is_elsewhere(&self, dict: &Dict, row: Label) -> bool
+        requires { IsReadable dict.now.key self.now }
+        ensures { IsTrue result → reading_at (table_of dict.now) self.now row ≡ pos 0 }
+    {
+        // each label of the cobasis is 0 in the columns of the others
+        let _units = dict.cobasis();
+        if !dict.in_cobasis(row) {
+            return false;
+        }
+        match *self {
+            Reading::Entry { col } => !row.is_same(col),
+            Reading::Sum { col, other, .. } => !row.is_same(col) && !row.is_same(other),
+            Reading::Where { col, .. } => !row.is_same(col),
         }
     }
 }
