@@ -1,5 +1,5 @@
 -- Leads that are read from the greatest row of the root on, one row after the other.
-use Rattle.std.proofs.Common.{◌≡◌, ◌≢◌, ◌⊎◌, inl, inr, ⊎_elim, ℕ, suc, ◌+◌, ◌<◌, ◌≤◌, ℤ, pos, ◌<ℤ◌, List, length, map, get_or, set, replicate, refl, sym, ap, subst, ◌∙◌, arith, add-one, Ordering}
+use Rattle.std.proofs.Common.{◌≡◌, ◌≢◌, ◌⊎◌, ⊎_elim, ℕ, suc, ◌+◌, ◌<◌, ◌≤◌, ℤ, pos, ◌<ℤ◌, List, length, map, get_or, set, replicate, refl, sym, ap, subst, ◌∙◌, arith, add-one, Ordering}
 use Rattle.std.specs.List.{Contains}
 use Rattle.std.specs.Cmp.{int_cmp_is}
 use Rattle.std.specs.declared.cmp.Ordering.TheVariants.{Less, Equal, Greater}

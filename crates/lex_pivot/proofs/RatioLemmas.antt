@@ -20,7 +20,7 @@ use Rattle.dictionary_laws.specs.Keys.{AreDistinct, place_in}
 use Rattle.dictionary.proofs.PlaceLemmas.{place_within, at_place}
 use Rattle.dictionary.specs.Cobases.{AreOutside}
 use Rattle.dictionary.specs.Positions.{IsCellColumn}
-use Rattle.dictionary.specs.Views.{Dictionary, number, table_of}
+use Rattle.dictionary.specs.Views.{Dictionary, table_of}
 use Rattle.lex_pivot.specs.declared.candidates.Candidate.{Candidate}
 use Rattle.lex_pivot.specs.Pairs.{IsPlaced, pair_gaps}
 use Rattle.lex_pivot.specs.Places.{IsRowAt}
@@ -206,4 +206,4 @@ pub none_everywhere : (d : Dictionary) (s : ℕ) → AreOutside d d.rows →
 none_everywhere d s all none =
     best_leaves d [] s d.rows None all
     (λ i c m. none (place_in d.rows i) (place_within d.rows i c)
-        (subst (λ k. IsCandidate d s k) (sym (at_place d.rows i 0 c)) m))
+    (subst (λ k. IsCandidate d s k) (sym (at_place d.rows i 0 c)) m))

@@ -247,13 +247,17 @@ fn along(alloc: Global, dict: &Dict, root: &Root, col: Label) -> Result<Down, Ou
     }
     let order = Order::of(root);
     let leads = Leads::of(alloc, dict, &order)?;
-    Ok(match (leaving(dict, root, col), shows_ray(dict, root, col)) {
-        (Some(row), false) if is_child(dict, &order, &leads, col, row) => Down::Child(row.number()),
-        (Some(row), false) => Down::Other(row.number()),
-        (Some(_), true) => Down::Both,
-        (None, true) => Down::Shown,
-        (None, false) => Down::Hidden,
-    })
+    Ok(
+        match (leaving(dict, root, col), shows_ray(dict, root, col)) {
+            (Some(row), false) if is_child(dict, &order, &leads, col, row) => Down::Child(
+                row.number(),
+            ),
+            (Some(row), false) => Down::Other(row.number()),
+            (Some(_), true) => Down::Both,
+            (None, true) => Down::Shown,
+            (None, false) => Down::Hidden,
+        },
+    )
 }
 
 /// The cone of these cells, n to a row.

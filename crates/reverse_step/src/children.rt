@@ -19,7 +19,12 @@ pub struct ChildPivot {
 
 /// The pivot to the first child in the columns from this place of the key on, if there is one. The leads are those of the
 /// dictionary.
-pub(crate) fn first_child(dict: &Dict, order: &Order, leads: &Leads, at: usize) -> Option<ChildPivot>
+pub(crate) fn first_child(
+    dict: &Dict,
+    order: &Order,
+    leads: &Leads,
+    at: usize,
+) -> Option<ChildPivot>
     requires { AreLeads dict.now order.now leads.now }
     ensures { MatchOption result (NoneBetween order.now dict.now at (length dict.now.key))
         (λ p. IsFirstChild order.now dict.now at p) }

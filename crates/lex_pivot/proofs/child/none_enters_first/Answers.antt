@@ -1,4 +1,4 @@
-use Rattle.std.proofs.Common.{◌≡◌, refl, sym, ap, subst, arith, length, List, ℕ}
+use Rattle.std.proofs.Common.{◌≡◌, refl, ap, subst, arith, length, List, ℕ}
 use Rattle.std.specs.List.{Contains}
 use Rattle.lex_pivot.specs.Children.{EntersInPlace}
 use Rattle.lex_pivot.proofs.EarlierLemmas.{at_each}

@@ -1,4 +1,4 @@
-use Rattle.std.proofs.Common.{◌≡◌, ◌∙◌, ◌+◌, ap, subst, arith, length, get_or, List, ℕ, Ordering}
+use Rattle.std.proofs.Common.{◌≡◌, ◌∙◌, ◌+◌, ap, subst, arith, length, get_or, Ordering}
 use Rattle.poly_num.specs.Signs.{sign_of}
 use Rattle.dictionary.specs.Views.{number}
 use Rattle.lex_pivot.specs.Leads.{lead_with}

@@ -1,4 +1,4 @@
-use Rattle.std.proofs.Common.{◌≡◌, ◌∙◌, ⊎_elim, sym, ap, subst, arith, ◌-◌, ◌+◌, ◌<◌, length, get_or, replicate, List, ℕ, Ordering}
+use Rattle.std.proofs.Common.{◌≡◌, ◌∙◌, ⊎_elim, ap, subst, arith, ◌-◌, ◌+◌, length, get_or, replicate, List, ℕ}
 use Rattle.std.specs.List.{Contains}
 use Rattle.std.specs.declared.cmp.Ordering.TheVariants.{Equal}
 use Rattle.poly_model.specs.Keys.{IsAscending}

@@ -1,4 +1,4 @@
-use Rattle.std.proofs.Common.{◌≡◌, ◌∙◌, sym, ap, refl, ◌*ℤ◌, pos, ℤ}
+use Rattle.std.proofs.Common.{◌∙◌, sym, ap, refl, ◌*ℤ◌, ℤ}
 use Rattle.std.specs.Cmp.{int_cmp_is}
 use Rattle.std.specs.declared.cmp.Ordering.TheVariants.{Equal}
 use Rattle.poly_num.proofs.Ring.{zero_mul}

@@ -1,4 +1,4 @@
-use Rattle.std.proofs.Common.{◌≡◌, ◌∙◌, sym, subst, get_or, ◌<◌, length, List, ℕ}
+use Rattle.std.proofs.Common.{◌≡◌, sym, subst, get_or, List, ℕ}
 use Rattle.std.specs.List.{Contains}
 use Rattle.std.proofs.lemmas.List.Elements.{Contains-get_or}
 use Rattle.lex_pivot.proofs.EarlierLemmas.{read_at}

@@ -1,4 +1,4 @@
-use Rattle.std.proofs.Common.{◌∙◌, pos}
+use Rattle.std.proofs.Common.{◌∙◌}
 use Rattle.dictionary.specs.Views.{number}
 use Rattle.lex_pivot.proofs.SignLemmas.{cross_sign}
 use Rattle.lex_pivot.proofs.ties.cmp_constants.Goals as goal
