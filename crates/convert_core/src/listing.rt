@@ -106,14 +106,14 @@ fn print<S: Sink, L: Ledger>(
         Ok(listing) => listing,
         Err(WriteFault) => return Err(ListStop::WriteFault),
     };
-    let Shown { listing, rows } = match list_rows(search, Shown::none(listing), out, steps) {
+    let Shown { listing, tally } = match list_rows(search, Shown::none(listing), out, steps) {
         Ok(shown) => shown,
         Err(Ended::Overflow(overflow)) => return Err(ListStop::Overflow(overflow)),
         Err(Ended::WriteFault) => return Err(ListStop::WriteFault),
     };
     match listing.finish(out) {
         Ok(()) => Ok(Listed {
-            rows,
+            rows: tally.rows,
             lines: lines.len() as u32,
         }),
         Err(WriteFault) => Err(ListStop::WriteFault),
