@@ -1,21 +1,31 @@
 -- Known lines, which hold the definition to account. Each is computed from clap's own definition.
 use Rattle.std.proofs.Common.{◌≡◌, ◌∷◌, [], codes, refl}
 use Rattle.clap.specs.Words.{Kinds, fault_of}
-use Rattle.clap.specs.declared.error.kind.ErrorKind.TheVariants.{InvalidSubcommand, MissingSubcommand, UnknownArgument}
+use Rattle.clap.specs.declared.error.kind.ErrorKind.TheVariants.{InvalidSubcommand, MissingRequiredArgument, MissingSubcommand, UnknownArgument, ValueValidation}
 use Rattle.clap.proofs.OnLiterals.{clap_on_literals}
+use Rattle.example_polys.specs.declared.kind.ExampleKind.TheVariants.{Cube, Pyramid}
 use Rattle.command_line.specs.Lines.{AskFor, lrs_app}
-use Rattle.command_line.specs.declared.lines.Line.TheVariants.{Convert}
+use Rattle.command_line.specs.declared.lines.Line.TheVariants.{Convert, Demo}
 
 -- ---- lines that are taken
 
 convert : AskFor (codes "convert" ∷ []) Convert
 unfolding clap_on_literals
-convert = record { accepted = refl; command = refl }
+convert = record { faultless = refl; rows = []; command = refl; says = tt }
 
 -- clap takes `--` where flags may stand, and here nothing follows it
 convert_dashes : AskFor (codes "convert" ∷ codes "--" ∷ []) Convert
 unfolding clap_on_literals
-convert_dashes = record { accepted = refl; command = refl }
+convert_dashes = record { faultless = refl; rows = []; command = refl; says = tt }
+
+demo : AskFor (codes "demo" ∷ codes "cube" ∷ codes "16" ∷ []) (Demo Cube 16)
+unfolding clap_on_literals
+demo = record { faultless = refl; rows = _; command = refl; says = (refl, refl) }
+
+-- a plus and zeros may stand before the digits, and `--` before the words
+demo_dashes : AskFor (codes "demo" ∷ codes "--" ∷ codes "pyramid" ∷ codes "+02" ∷ []) (Demo Pyramid 2)
+unfolding clap_on_literals
+demo_dashes = record { faultless = refl; rows = _; command = refl; says = (refl, refl) }
 
 -- ---- lines that are not, with what clap says of them
 
@@ -107,3 +117,33 @@ convert_empty_word = refl
 convert_dashes_twice : fault_of lrs_app (codes "convert" ∷ codes "--" ∷ codes "--" ∷ []) ≡ unknown
 unfolding clap_on_literals
 convert_dashes_twice = refl
+
+-- `demo` wants two words, and the second is a number from 1 to 20
+demo_alone : fault_of lrs_app (codes "demo" ∷ []) ≡ MissingRequiredArgument ∷ []
+unfolding clap_on_literals
+demo_alone = refl
+
+demo_cube : fault_of lrs_app (codes "demo" ∷ codes "cube" ∷ []) ≡ MissingRequiredArgument ∷ []
+unfolding clap_on_literals
+demo_cube = refl
+
+demo_three : fault_of lrs_app (codes "demo" ∷ codes "cube" ∷ codes "3" ∷ codes "3" ∷ []) ≡ unknown
+unfolding clap_on_literals
+demo_three = refl
+
+demo_nothing : fault_of lrs_app (codes "demo" ∷ codes "cube" ∷ codes "0" ∷ []) ≡ ValueValidation ∷ []
+unfolding clap_on_literals
+demo_nothing = refl
+
+demo_large : fault_of lrs_app (codes "demo" ∷ codes "cube" ∷ codes "21" ∷ []) ≡ ValueValidation ∷ []
+unfolding clap_on_literals
+demo_large = refl
+
+demo_letter : fault_of lrs_app (codes "demo" ∷ codes "cube" ∷ codes "x" ∷ []) ≡ ValueValidation ∷ []
+unfolding clap_on_literals
+demo_letter = refl
+
+-- clap takes any first word of `demo`, but only four ask for a line
+demo_ball : fault_of lrs_app (codes "demo" ∷ codes "ball" ∷ codes "3" ∷ []) ≡ []
+unfolding clap_on_literals
+demo_ball = refl

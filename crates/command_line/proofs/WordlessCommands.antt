@@ -8,7 +8,7 @@ use Rattle.clap.specs.Lexer.{long_of, short_of}
 use Rattle.clap.specs.Words.{Kinds, Shape, Text}
 use Rattle.clap.specs.Walk.{Held, Names, Step, after_flag, after_step, bundle_met, bundle_step, idle, long_or_other, nothing_held, plain, short_or_plain, subcommand_met, subcommand_or_other, trailing, value, walk_from, walked}
 use Rattle.clap.specs.Faults.{step_fault, stray_fault, turn_fault, walk_fault, word_fault}
-use Rattle.command_line.proofs.AcceptedLines.{first_passes, next_passes}
+use Rattle.command_line.proofs.FaultlessLines.{first_passes, next_passes}
 
 -- a command like s that has no arguments
 abbrev pub bare : Shape → Shape

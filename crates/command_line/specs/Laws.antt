@@ -1,13 +1,21 @@
 -- What is known of the lines.
-use Rattle.std.specs.Prelude.{◌≡◌, ◌⊎◌, ◌↔◌, List, [], ◌∷◌, codes}
+use Rattle.std.specs.Prelude.{◌≡◌, ◌⊎◌, ◌↔◌, ◌≤◌, ⊤, List, [], ◌∷◌, codes}
 use Rattle.clap.specs.Words.{Text}
-use Rattle.command_line.specs.Lines.{IsAccepted, AskFor}
+use Rattle.command_line.specs.Lines.{AskFor}
 use Rattle.command_line.specs.declared.lines.Line.{Line}
-use Rattle.command_line.specs.declared.lines.Line.TheVariants.{Convert}
+use Rattle.command_line.specs.declared.lines.Line.TheVariants.{Convert, Demo}
 
--- the words are accepted exactly where they ask for some line
-abbrev pub AcceptedAsksForALine : Type 0
-AcceptedAsksForALine = (words : List Text) → IsAccepted words ↔ ((line : Line) × AskFor words line)
+-- the words ask for one line at most
+abbrev pub AskForOneLine : Type 0
+AskForOneLine = (words : List Text) (one other : Line) → AskFor words one → AskFor words other → one ≡ other
+
+-- the number of a line is one that its command takes
+abbrev pub IsInRange : Line → Type 0
+IsInRange Convert = ⊤
+IsInRange (Demo kind n) = (1 ≤ n) × (n ≤ 20)
+
+abbrev pub AskedIsInRange : Type 0
+AskedIsInRange = (words : List Text) (line : Line) → AskFor words line → IsInRange line
 
 -- the words are `convert`, alone or with the mark `--` behind it, which says that no flag follows
 abbrev pub IsConvert : List Text → Type 0

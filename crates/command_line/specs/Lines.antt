@@ -1,8 +1,13 @@
 -- The lines that the program takes, over clap's own definition of what a command takes.
-use Rattle.std.specs.Prelude.{◌≡◌, List, [], codes, true, Some, option_map}
-use Rattle.clap.specs.Words.{App, Text, fault_of, new_app, subcommand_of, with_subcommand}
+use Rattle.std.specs.Prelude.{◌≡◌, ⊤, ℕ, List, [], codes, true, Option, Some, None, option_and_then, if◌then◌else◌}
+use Rattle.std.specs.Str.Parse.{digits_value, without_leading_plus}
+use Rattle.clap.specs.ValueTests.{is_unsigned_in}
+use Rattle.clap.specs.Words.{App, Row, Rule, Text, fault_of, first_of, new_app, new_rule, subcommand_of, with_rule, with_subcommand}
+use Rattle.clap.specs.declared.builder.value_parser.ValueParser.TheVariants as parsers
+use Rattle.example_polys.specs.declared.kind.ExampleKind.{ExampleKind}
+use Rattle.example_polys.specs.declared.kind.ExampleKind.TheVariants.{Cube, Cross, Product, Pyramid}
 use Rattle.command_line.specs.declared.lines.Line.{Line}
-use Rattle.command_line.specs.declared.lines.Line.TheVariants.{Convert}
+use Rattle.command_line.specs.declared.lines.Line.TheVariants.{Convert, Demo}
 
 -- ---- the commands
 
@@ -22,21 +27,54 @@ base_app = record (new_app (codes "lrs")) {
 abbrev pub plain_app : Text → App
 plain_app name = new_app name
 
--- the program: its one command is `convert`
+-- the first word of `demo`, which clap takes as it is
+abbrev pub kind_rule : Rule
+kind_rule = record (new_rule (codes "KIND")) { required = true }
+
+-- the second: a number from 1 to 20
+abbrev pub number_rule : Rule
+number_rule = record (new_rule (codes "N")) { required = true; parser = Some (parsers.Unsigned 1 20) }
+
+abbrev pub demo_app : App
+demo_app = with_rule (with_rule (new_app (codes "demo")) kind_rule) number_rule
+
+-- the program: its commands are `convert` and `demo`
 abbrev pub lrs_app : App
-lrs_app = with_subcommand base_app (plain_app (codes "convert")).top
+lrs_app = with_subcommand (with_subcommand base_app (plain_app (codes "convert")).top) demo_app.top
 
 -- ---- the lines
-
--- clap finds no fault with the words
-abbrev pub IsAccepted : List Text → Type 0
-IsAccepted words = fault_of lrs_app words ≡ []
 
 -- the name of the command that a line asks for
 abbrev pub name_of : Line → Text
 name_of Convert = codes "convert"
+name_of (Demo kind n) = codes "demo"
 
--- the words ask for this line: they are accepted, and the command that they name is its command
+-- the word for a family of examples
+abbrev pub word_of : ExampleKind → Text
+word_of Cube = codes "cube"
+word_of Cross = codes "cross"
+word_of Product = codes "product"
+word_of Pyramid = codes "pyramid"
+
+-- the number that a text says, where it says one in these bounds
+abbrev pub number_in : ℕ → ℕ → Text → Option ℕ
+number_in least most text =
+    if is_unsigned_in least most text then Some (digits_value 10 (without_leading_plus text)) else None
+
+-- what clap found for the words of a command is what the line says
+abbrev pub Says : List Row → Line → Type 0
+Says rows Convert = ⊤
+Says rows (Demo kind n) =
+    (first_of (codes "KIND") rows ≡ Some (word_of kind))
+    × (option_and_then (number_in 1 20) (first_of (codes "N") rows) ≡ Some n)
+
+-- the words ask for this line: clap finds no fault with them, and they name its command, whose words say the line
 pub record AskFor (words : List Text) (line : Line) : Type 0 where
-  pub accepted : IsAccepted words
-  pub command : option_map (λ p. p.0) (subcommand_of lrs_app words) ≡ Some (name_of line)
+  pub faultless : fault_of lrs_app words ≡ []
+  pub rows : List Row
+  pub command : subcommand_of lrs_app words ≡ Some (name_of line, rows)
+  pub says : Says rows line
+
+-- the words ask for some line
+abbrev pub IsAccepted : List Text → Type 0
+IsAccepted words = (line : Line) × AskFor words line

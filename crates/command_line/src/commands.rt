@@ -1,17 +1,19 @@
 //! The commands of `lrs`, as clap's builder makes them.
 ghost use Rattle.std.specs.Prelude.{◌≡◌, IfOk, false};
-ghost use Rattle.clap.specs.Words.{app_of, with_subcommand};
+ghost use Rattle.clap.specs.Words.{app_of, rule_of, with_rule, with_subcommand};
 ghost use Rattle.clap.specs.declared.builder.command.Command.TheViews.{out-Command};
-ghost use Rattle.command_line.specs.Lines.{base_app, lrs_app, plain_app};
+ghost use Rattle.command_line.specs.Lines.{base_app, demo_app, kind_rule, lrs_app, number_rule, plain_app};
 
-use clap::Command;
+use clap::builder::ValueParser;
+use clap::{Arg, Command};
 use std::alloc::{AllocError, Global};
 
 /// The program with each of its commands. One more command is one more call here, and one in `lrs_app`.
 pub(crate) fn lrs_command<'a>(alloc: Global) -> Result<Command<'a>, AllocError>
     ensures { IfOk result (λ c. app_of c ≡ lrs_app) }
 {
-    with_command(base_command(alloc), plain_command(alloc, "convert"))
+    let converts = with_command(base_command(alloc), plain_command(alloc, "convert"))?;
+    with_command(converts, demo_command(alloc)?)
 }
 
 // The program without a command. It has no flag of its own, and nothing asks it for help or a version.
@@ -33,6 +35,43 @@ fn plain_command<'a>(alloc: Global, name: &'a str) -> Command<'a>
     ensures local { (out-Command result).has_globals ≡ false }
 {
     Command::new(alloc, name)
+}
+
+// `demo`, with a word for a family of examples, and a number.
+fn demo_command<'a>(alloc: Global) -> Result<Command<'a>, AllocError>
+    ensures app { IfOk result (λ c. app_of c ≡ demo_app) }
+    ensures local { IfOk result (λ c. (out-Command c).has_globals ≡ false) }
+{
+    let command = with_word(Command::new(alloc, "demo"), kind_word(alloc))?;
+    with_word(command, number_word(alloc))
+}
+
+// The word for a family of examples. Clap takes any; which there are is asked of what it found.
+fn kind_word<'a>(alloc: Global) -> Arg<'a>
+    ensures rule { rule_of result ≡ kind_rule }
+    ensures local { result.global ≡ false }
+{
+    Arg::new(alloc, "KIND").required(true)
+}
+
+// The number of an example in its family.
+fn number_word<'a>(alloc: Global) -> Arg<'a>
+    ensures rule { rule_of result ≡ number_rule }
+    ensures local { result.global ≡ false }
+{
+    Arg::new(alloc, "N")
+        .required(true)
+        .value_parser(ValueParser::unsigned(1, 20))
+}
+
+// One word of its own more.
+fn with_word<'a>(command: Command<'a>, word: Arg<'a>) -> Result<Command<'a>, AllocError>
+    requires command { (out-Command command).has_globals ≡ false }
+    requires word { word.global ≡ false }
+    ensures app { IfOk result (λ c. app_of c ≡ with_rule (app_of command.entry) (rule_of word.entry)) }
+    ensures local { IfOk result (λ c. (out-Command c).has_globals ≡ false) }
+{
+    command.arg(word)
 }
 
 // One command more. A row of them is proved call by call, each over the app of the one before.

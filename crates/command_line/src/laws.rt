@@ -1,9 +1,14 @@
 //! Laws of the lines: contracts of functions with an empty body.
-ghost use Rattle.command_line.specs.Laws.{AcceptedAsksForALine, ConvertIsExact};
+ghost use Rattle.command_line.specs.Laws.{AskForOneLine, AskedIsInRange, ConvertIsExact};
 
-/// The words are accepted exactly where they ask for some line.
-pub fn accepted_asks_for_a_line()
-    ensures { AcceptedAsksForALine }
+/// The words ask for one line at most.
+pub fn asks_for_one_line()
+    ensures { AskForOneLine }
+{}
+
+/// The number of a line that words ask for is one that its command takes.
+pub fn asked_is_in_range()
+    ensures { AskedIsInRange }
 {}
 
 /// The words that ask for `Line::Convert`, written out: `convert`, alone or with one `--` behind it.

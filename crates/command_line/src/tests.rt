@@ -1,5 +1,6 @@
 //! Lines that are taken, and lines that are not.
 use crate::{Line, LineStop, read_line};
+use example_polys::ExampleKind;
 use std::test::Fail;
 
 /// Words, and what is to be read of them.
@@ -28,6 +29,29 @@ fn reads_lines(rt: HostRuntime) -> Result<(), Fail> {
             words: &["convert", "--"],
             read: Ok(Line::Convert),
         },
+        Row {
+            words: &["demo", "cross", "20"],
+            read: Ok(Line::Demo {
+                kind: ExampleKind::Cross,
+                n: 20,
+            }),
+        },
+        Row {
+            words: &["demo", "product", "--", "+1"],
+            read: Ok(Line::Demo {
+                kind: ExampleKind::Product,
+                n: 1,
+            }),
+        },
+        refused(&["demo"]),
+        refused(&["demo", "cube"]),
+        refused(&["demo", "cube", "0"]),
+        refused(&["demo", "cube", "21"]),
+        refused(&["demo", "cube", "x"]),
+        refused(&["demo", "cube", "-1"]),
+        refused(&["demo", "ball", "3"]),
+        refused(&["demo", "Cube", "3"]),
+        refused(&["demo", "cube", "3", "3"]),
         refused(&[]),
         refused(&["convert", "convert"]),
         refused(&["convert", "x"]),

@@ -9,3 +9,4 @@ pub mod Stops
 pub mod Steps
 pub mod Beginnings
 pub mod NotListed
+pub mod Adding

@@ -1,6 +1,6 @@
 -- Rows written column by column: of those that are shown.
 use Rattle.std.specs.Prelude.{Result, IfOk}
-use Rattle.std.proofs.Common.{◌≡◌, ⊎_elim, ℕ, ◌+◌, ◌≤◌, ◌<◌, ◌^◌, List, [], ◌∷◌, ◌++◌, length, Option, Ok, Err, refl, sym, ap, subst, ◌∙◌, append-nil, length-append, arith}
+use Rattle.std.proofs.Common.{◌≡◌, ⊎_elim, ℕ, ◌≤◌, List, [], ◌∷◌, ◌++◌, Option, Ok, Err, refl, sym, subst, ◌∙◌, append-nil}
 use Rattle.std.specs.List.{Contains, flat_map}
 use Rattle.std.specs.Io.KnownBytes.{Appends}
 use Rattle.std.proofs.KnownBytes.{Appends-nil, Appends-trans}
@@ -20,24 +20,22 @@ use Rattle.poly_io.specs.Causes.{Rose}
 use Rattle.poly_io.specs.Written.{AppendsPart, Prints}
 use Rattle.poly_io.proofs.Parts.{part_after}
 use Rattle.row_printer.specs.declared.shown.Shown.{Shown}
-use Rattle.row_printer.specs.Rows.{counted, HasWritten}
+use Rattle.row_printer.specs.declared.tally.Tally.{Tally}
+use Rattle.row_printer.specs.Rows.{Counts, HasWritten}
+use Rattle.row_printer.proofs.Tallies.{counts_none, counts_more}
 use Rattle.convert_core.specs.Rows.{IsColumnShown, WritesShown, FailsShown, ShowsColumns, column_rows}
 
 -- ---- rows, and more rows
-counted_more : (rows m n : ℕ) → counted (counted rows m) n ≡ counted rows (m + n)
-counted_more rows m n = omega arith
-
-pub has_more : (kind : Kind) (a b c : Option (List ℕ)) (rows mid now : ℕ) (xs ys : List Vector) →
-    HasWritten kind a b rows mid xs → HasWritten kind b c mid now ys → HasWritten kind a c rows now (xs ++ ys)
-has_more kind a b c rows mid now xs ys f g = record {
+pub has_more : (kind : Kind) (a b c : Option (List ℕ)) (before mid now : Tally) (xs ys : List Vector) →
+    HasWritten kind a b before mid xs → HasWritten kind b c mid now ys → HasWritten kind a c before now (xs ++ ys)
+has_more kind a b c before mid now xs ys f g = record {
   bytes = subst (λ t. Appends a c t) (sym (flat_map-append (row_text kind) xs ys))
       (Appends-trans a b c (flat_map (row_text kind) xs) (flat_map (row_text kind) ys) f.bytes g.bytes);
-  count = g.count ∙ ap (λ n. counted n (length ys)) f.count ∙ counted_more rows (length xs) (length ys)
-      ∙ ap (counted rows) (sym (length-append xs ys));
+  counts = counts_more before mid now xs ys f.counts g.counts;
 }
 
-pub has_none : (kind : Kind) (a : Option (List ℕ)) (rows : ℕ) → rows < 2 ^ 64 → HasWritten kind a a rows rows []
-has_none kind a rows l = record { bytes = Appends-nil a; count = omega arith }
+pub has_none : (kind : Kind) (a : Option (List ℕ)) (tally : Tally) → HasWritten kind a a tally tally []
+has_none kind a tally = record { bytes = Appends-nil a; counts = counts_none tally }
 
 -- first bytes of more rows
 pub part_more : (kind : Kind) (a b c : Option (List ℕ)) (xs ys : List Vector) → Appends a b (flat_map (row_text kind) xs) →
@@ -80,15 +78,15 @@ module _ {O : Type 0} (sink : Sink O) (sys : System) (root : List ℕ) (d : Dict
       each = λ x h. ⊎_elim (λ (e : c ≡ x). absurd (n (subst (IsColumnShown sys root d) (sym e) h.1)))
           (λ (m : Contains [] x). absurd (Contains-nil x m)) (Contains-cons_cases x c [] h.0);
     };
-    rows = has_none s.listing (sink.written o) s.rows s.few;
+    rows = has_none s.listing (sink.written o) s.tally;
     same = refl;
   }
 
   pub is_shown : {E : Type 0} (c : ℕ) (s : Shown) (o q : O) (result : Result Shown E) → IsColumnShown sys root d c →
       Prints sink o q result (row_text s.listing (row c)) → IfOk result (λ t. t.listing ≡ s.listing) →
-      IfOk result (λ t. t.rows ≡ counted s.rows 1) →
+      IfOk result (λ t. Counts s.tally t.tally (row c ∷ [])) →
       ShowsColumns sink.written sink.faults sys root d (c ∷ []) s o q result
-  is_shown c s o q (Ok t) x p kind count = record {
+  is_shown c s o q (Ok t) x p kind counts = record {
     kind = kind;
     shown = c ∷ [];
     all = record {
@@ -102,11 +100,11 @@ module _ {O : Type 0} (sink : Sink O) (sys : System) (root : List ℕ) (d : Dict
     };
     rows = record {
       bytes = subst (λ t. Appends (sink.written o) (sink.written q) t) (sym (one_text s.listing (row c))) p.whole;
-      count = count;
+      counts = counts;
     };
     same = p.cause.same;
   }
-  is_shown c s o q (Err e) x p kind count = record {
+  is_shown c s o q (Err e) x p kind counts = record {
     shown = c ∷ [];
     once = (λ m. Contains-nil c m, tt);
     only = λ y m. (
@@ -144,11 +142,11 @@ module _ {O : Type 0} (sink : Sink O) (sys : System) (root : List ℕ) (d : Dict
             (λ l. Contains-append_right w.shown v.shown x (v.all.each x (l, h.1)))
             (Contains-append_cases columns (c ∷ []) x h.0);
       };
-      rows = subst (λ ys. HasWritten s.listing (sink.written o) (sink.written q) s.rows u.rows ys)
+      rows = subst (λ ys. HasWritten s.listing (sink.written o) (sink.written q) s.tally u.tally ys)
           (sym (map-append row w.shown v.shown))
-          (has_more s.listing (sink.written o) (sink.written m) (sink.written q) s.rows t.rows u.rows
+          (has_more s.listing (sink.written o) (sink.written m) (sink.written q) s.tally t.tally u.tally
           (column_rows sys d w.shown) (column_rows sys d v.shown) w.rows
-          (subst (λ k. HasWritten k (sink.written m) (sink.written q) t.rows u.rows (column_rows sys d v.shown)) w.kind v.rows));
+          (subst (λ k. HasWritten k (sink.written m) (sink.written q) t.tally u.tally (column_rows sys d v.shown)) w.kind v.rows));
       same = v.same ∙ w.same;
     }
 

@@ -20,6 +20,7 @@ use Rattle.reverse_step.specs.Walks.{Walk}
 use Rattle.reverse_step.specs.Moves.{IsVisit}
 use Rattle.reverse_step.proofs.DueLemmas.{due_in_main}
 use Rattle.row_printer.specs.declared.shown.Shown.{Shown}
+use Rattle.row_printer.specs.declared.tally.Tally.{Tally}
 use Rattle.row_printer.specs.Rows.{HasWritten}
 use Rattle.convert_core.specs.declared.rays.Rays.{Rays}
 use Rattle.convert_core.specs.declared.walk.Ended.{Ended}
@@ -31,36 +32,36 @@ use Rattle.convert_core.proofs.RowLists.{distinct_vectors}
 use Rattle.convert_core.proofs.RowsWritten.{part_more, part_all}
 use Rattle.convert_core.proofs.Searching.{IsListedSoFar, some_rows_here, extreme_of_some, search_moves, new_apart, stops_after, stops_here}
 
-part_of : {E : Type 0} (p : Polyhedron) (old new : Option (List ℕ)) (count : ℕ) (result : Result Shown E) → IsErr result →
+part_of : {E : Type 0} (p : Polyhedron) (old new : Option (List ℕ)) (before : Tally) (result : Result Shown E) → IsErr result →
     (shown rest : List Vector) → AreExtreme (cone_of p) (shown ++ rest) →
-    AppendsPart old new (flat_map (row_text p.kind) shown) → ListsRows p old new count result
-part_of p old new count (Ok x) r shown rest e a = absurd (let f : false ≡ true = r in cc)
-part_of p old new count (Err x) r shown rest e a = record { whole = tt; part = (shown, rest, e, a) }
+    AppendsPart old new (flat_map (row_text p.kind) shown) → ListsRows p old new before result
+part_of p old new before (Ok x) r shown rest e a = absurd (let f : false ≡ true = r in cc)
+part_of p old new before (Err x) r shown rest e a = record { whole = tt; part = (shown, rest, e, a) }
 
 module _ {O : Type 0} (sink : Sink O) (p : Polyhedron) (cone : System) (rays : Rays) where
   -- ---- at the first cobasis
   pub stops_first : {E : Type 0} (walk : Walk) (vector : Vector) → IsSearch p cone rays walk vector → (s : Shown) → s.listing ≡ p.kind →
       (o q : O) → FailsShown sink.written sink.faults cone walk.root walk.dict (columns_of walk.dict) s o q →
-      (result : Result Shown E) → IsErr result → ListsRows p (sink.written o) (sink.written q) s.rows result
+      (result : Result Shown E) → IsErr result → ListsRows p (sink.written o) (sink.written q) s.tally result
   stops_first walk vector x s kind o q f result r =
       let ys = column_rows cone walk.dict f.shown in
       let some = some_rows_here p cone rays walk vector x f.shown f.once f.only in
       let (rest, e) = completed p ys (distinct_vectors ys some.0)
       (λ y c. extreme_of_some p cone rays walk vector x (walk.dict.key ∷ []) y (some.1 y c)) in
-      part_of p (sink.written o) (sink.written q) s.rows result r ys rest e
+      part_of p (sink.written o) (sink.written q) s.tally result r ys rest e
       (subst (λ k. AppendsPart (sink.written o) (sink.written q) (flat_map (row_text k) ys)) kind f.bytes)
 
   -- ---- at a step
   module _ (first walk : Walk) (vector : Vector) (left : ℕ) (rows : List Vector) (before now : ℕ)
       (x : IsListedSoFar p cone rays first walk vector left rows before now) (s t : Shown) (same : t.listing ≡ s.listing)
       (kind : s.listing ≡ p.kind) (o m : O)
-      (w : HasWritten p.kind (sink.written o) (sink.written m) s.rows t.rows rows) where
+      (w : HasWritten p.kind (sink.written o) (sink.written m) s.tally t.tally rows) where
     here : t.listing ≡ p.kind
     here = same ∙ kind
 
     fails : {E : Type 0} (new : Walk) (q : O) → IsVisit walk New new →
         FailsShown sink.written sink.faults cone new.root new.dict (columns_of new.dict) t m q →
-        (result : Result Shown E) → IsErr result → ListsRows p (sink.written o) (sink.written q) s.rows result
+        (result : Result Shown E) → IsErr result → ListsRows p (sink.written o) (sink.written q) s.tally result
     fails new q v f result r =
         let ys = column_rows cone new.dict f.shown in
         let moved = search_moves p cone rays walk vector x.search New new vector v refl in
@@ -69,16 +70,16 @@ module _ {O : Type 0} (sink : Sink O) (p : Polyhedron) (cone : System) (rays : R
         (once-append rows ys x.shown.once some.0
         (λ y c d. new_apart p cone rays first walk vector left rows before now x new v y (x.shown.only y c) (some.1 y d)))
         (λ y c. extreme_of_some p cone rays new vector moved (new.dict.key ∷ []) y (some.1 y c)) in
-        part_of p (sink.written o) (sink.written q) s.rows result r (rows ++ ys) rest e
+        part_of p (sink.written o) (sink.written q) s.tally result r (rows ++ ys) rest e
         (part_more p.kind (sink.written o) (sink.written m) (sink.written q) rows ys w.bytes
         (subst (λ k. AppendsPart (sink.written m) (sink.written q) (flat_map (row_text k) ys)) here f.bytes))
 
     pub stops_rows : {E : Type 0} (new : Walk) (q : O) (e : Ended) →
         EndsStep sink.written sink.faults cone walk new t m q e → (result : Result Shown E) → IsErr result →
-        ListsRows p (sink.written o) (sink.written q) s.rows result
+        ListsRows p (sink.written o) (sink.written q) s.tally result
     stops_rows new q (Overflow a) h result r =
         let (rest, e) = stops_here p cone rays first walk vector left rows before now x in
-        part_of p (sink.written o) (sink.written q) s.rows result r rows rest e
+        part_of p (sink.written o) (sink.written q) s.tally result r rows rest e
         (part_all p.kind (sink.written o) (sink.written q) rows
         (subst (λ (z : O). Appends (sink.written o) (sink.written z) (flat_map (row_text p.kind) rows))
         (sym h.1) w.bytes))

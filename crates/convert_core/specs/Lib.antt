@@ -2,3 +2,4 @@ pub mod Rays
 pub mod Rows
 pub mod Searches
 pub mod Listed
+pub mod Totals

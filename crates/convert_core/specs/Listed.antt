@@ -17,6 +17,7 @@ use Rattle.reverse_step.specs.Walks.{Walk}
 use Rattle.reverse_step.specs.Moves.{IsVisit}
 use Rattle.reverse_step.specs.Children.{StopsWalk}
 use Rattle.row_printer.specs.declared.shown.Shown.{Shown}
+use Rattle.row_printer.specs.declared.tally.Tally.{Tally}
 use Rattle.row_printer.specs.Rows.{HasWritten}
 use Rattle.convert_core.specs.declared.walk.Ended.{Ended}
 use Rattle.convert_core.specs.declared.walk.Ended.TheVariants.{Overflow, WriteFault}
@@ -53,10 +54,10 @@ EndsStep written faults sys before after s old new WriteFault =
 
 -- ---- all steps
 -- the rows of all extreme vectors were written, each once; at Err first bytes of those of some
-pub record ListsRows {E : Type 0} (p : Polyhedron) (old new : Option (List ℕ)) (rows : ℕ) (result : Result Shown E) :
+pub record ListsRows {E : Type 0} (p : Polyhedron) (old new : Option (List ℕ)) (before : Tally) (result : Result Shown E) :
     Type 0 where
   pub whole : IfOk result (λ s. (shown : List Vector) × AreExtreme (cone_of p) shown
-      × HasWritten p.kind old new rows s.rows shown)
+      × HasWritten p.kind old new before s.tally shown)
   pub part : OnErr result ((shown : List Vector) × (rest : List Vector) × AreExtreme (cone_of p) (shown ++ rest)
       × AppendsPart old new (flat_map (row_text p.kind) shown))
 

@@ -53,7 +53,7 @@ pub record WritesShown {O : Type 0} (written : O → Option (List ℕ)) (faults 
   pub kind : t.listing ≡ s.listing
   pub shown : List ℕ
   pub all : ListsAll (λ c. Contains columns c × IsColumnShown sys root d c) shown
-  pub rows : HasWritten s.listing (written old) (written new) s.rows t.rows (column_rows sys d shown)
+  pub rows : HasWritten s.listing (written old) (written new) s.tally t.tally (column_rows sys d shown)
   pub same : faults new ≡ faults old
 
 -- first bytes of the rows of some of them, each once, and then a write failed

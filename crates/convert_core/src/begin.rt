@@ -18,57 +18,57 @@ use poly_num::Num;
 use reverse_step::Walker;
 use std::alloc::Global;
 
-/// Why there is no search: no point satisfies the file, a number of a dictionary would pass 127 bits, or there was no
-/// memory.
+/// Why there is no search, or it was given up: no point satisfies the file, a number of a dictionary would pass 127 bits,
+/// or there was no memory.
 #[derive(Clone, Copy, PartialEq, Eq, Debug)]
-pub(crate) enum BeginStop {
+pub enum SearchStop {
     Infeasible,
     Overflow(Overflow),
     Memory,
 }
 
 /// A search of a file from the root that phase one gives, with the lines of the file. All memory is taken here.
-pub(crate) fn begin<'a>(alloc: Global, poly: &'a Poly) -> Result<(Search<'a>, Lines), BeginStop>
+pub(crate) fn begin<'a>(alloc: Global, poly: &'a Poly) -> Result<(Search<'a>, Lines), SearchStop>
     ensures search { IfOk result (λ r. IsSearch poly.now r.0.cone r.0.rays r.0.walker r.0.vector.items) }
     ensures poly { IfOk result (λ r. r.0.poly.now ≡ poly.now) }
     ensures at_root { IfOk result (λ r. IsAtRoot r.0.walker) }
     ensures lines { IfOk result (λ r. AreLines (cone_of poly.now) r.1) }
     ensures few { IfOk result (λ r. length r.1 ≤ most_columns) }
-    ensures infeasible { IsErrOf result BeginStop.Infeasible → IsFeasible (cone_of poly.now) → ⊥ }
-    ensures overflow { (o : Passed) → IsErrOf result (BeginStop.Overflow o) →
+    ensures infeasible { IsErrOf result SearchStop.Infeasible → IsFeasible (cone_of poly.now) → ⊥ }
+    ensures overflow { (o : Passed) → IsErrOf result (SearchStop.Overflow o) →
         IsDue poly.now o (IsAskedBefore poly.now o) ⊎ IsDue poly.now o (IsAskedInFirst poly.now o) }
 {
     let Ok(cone) = system_of(alloc, poly) else {
-        return Err(BeginStop::Memory);
+        return Err(SearchStop::Memory);
     };
     let found = root_of(alloc, &cone)?;
     match search_from(alloc, poly, cone, found) {
         Ok(begun) => Ok(begun),
-        Err(_) => Err(BeginStop::Memory),
+        Err(_) => Err(SearchStop::Memory),
     }
 }
 
 // The root of the search of a cone, or why there is none.
-fn root_of(alloc: Global, cone: &System) -> Result<Found, BeginStop>
+fn root_of(alloc: Global, cone: &System) -> Result<Found, SearchStop>
     requires { (p : Polyhedron) × (cone.now ≡ cone_of p) }
     ensures found { IfOk result (λ f. (p : Polyhedron) → cone.now ≡ cone_of p → IsRootOf p f.root.key f.dict f.lines) }
-    ensures infeasible { IsErrOf result BeginStop.Infeasible → (p : Polyhedron) → cone.now ≡ cone_of p →
+    ensures infeasible { IsErrOf result SearchStop.Infeasible → (p : Polyhedron) → cone.now ≡ cone_of p →
         IsFeasible (cone_of p) → ⊥ }
-    ensures overflow { (o : Passed) → IsErrOf result (BeginStop.Overflow o) → (p : Polyhedron) →
+    ensures overflow { (o : Passed) → IsErrOf result (SearchStop.Overflow o) → (p : Polyhedron) →
         cone.now ≡ cone_of p → IsDue p o (IsAskedBefore p o) ⊎ IsDue p o (IsAskedInFirst p o) }
 {
     cone.keeps_limits();
     let prepared = match prepare(alloc, cone) {
         Ok(prepared) => prepared,
-        Err(PrepareStop::Inconsistent) => return Err(BeginStop::Infeasible),
-        Err(PrepareStop::Overflow(overflow)) => return Err(BeginStop::Overflow(overflow)),
-        Err(PrepareStop::Memory) => return Err(BeginStop::Memory),
+        Err(PrepareStop::Inconsistent) => return Err(SearchStop::Infeasible),
+        Err(PrepareStop::Overflow(overflow)) => return Err(SearchStop::Overflow(overflow)),
+        Err(PrepareStop::Memory) => return Err(SearchStop::Memory),
     };
     match first(alloc, prepared) {
         Ok(found) => Ok(found),
-        Err(FirstStop::Infeasible) => Err(BeginStop::Infeasible),
-        Err(FirstStop::Overflow(overflow)) => Err(BeginStop::Overflow(overflow)),
-        Err(FirstStop::Memory) => Err(BeginStop::Memory),
+        Err(FirstStop::Infeasible) => Err(SearchStop::Infeasible),
+        Err(FirstStop::Overflow(overflow)) => Err(SearchStop::Overflow(overflow)),
+        Err(FirstStop::Memory) => Err(SearchStop::Memory),
     }
 }
 

@@ -5,12 +5,16 @@
 #![tactic(auto)]
 
 mod begin;
+mod discard;
 mod listing;
 mod rays;
 mod rows;
 mod search;
 #[cfg(test)]
 mod tests;
+mod totals;
 mod walk;
 
+pub use begin::SearchStop;
 pub use listing::{convert, list};
+pub use totals::{Totals, totals_of};

@@ -9,7 +9,7 @@ ghost use Rattle.row_printer.specs.Listings.{WritesListing, ListsIfFeasible};
 ghost use Rattle.convert_core.specs.Searches.{IsSearch, IsAtRoot};
 ghost use Rattle.convert_core.specs.Listed.{RisesAt, IsDueInSearch, TakesSteps};
 
-use crate::begin::{BeginStop, begin};
+use crate::begin::{SearchStop, begin};
 use crate::search::Search;
 use crate::walk::{Ended, list_rows};
 use dictionary::Steps;
@@ -48,9 +48,9 @@ pub fn convert<S: Sink, L: Ledger>(
             let mut search = search;
             print(&mut search, lines.as_slice(), out, steps)
         }
-        Err(BeginStop::Infeasible) => Err(ListStop::Infeasible),
-        Err(BeginStop::Overflow(overflow)) => Err(ListStop::Overflow(overflow)),
-        Err(BeginStop::Memory) => Err(ListStop::Memory),
+        Err(SearchStop::Infeasible) => Err(ListStop::Infeasible),
+        Err(SearchStop::Overflow(overflow)) => Err(ListStop::Overflow(overflow)),
+        Err(SearchStop::Memory) => Err(ListStop::Memory),
     }
 }
 
@@ -106,14 +106,14 @@ fn print<S: Sink, L: Ledger>(
         Ok(listing) => listing,
         Err(WriteFault) => return Err(ListStop::WriteFault),
     };
-    let Shown { listing, rows } = match list_rows(search, Shown::none(listing), out, steps) {
+    let Shown { listing, tally } = match list_rows(search, Shown::none(listing), out, steps) {
         Ok(shown) => shown,
         Err(Ended::Overflow(overflow)) => return Err(ListStop::Overflow(overflow)),
         Err(Ended::WriteFault) => return Err(ListStop::WriteFault),
     };
     match listing.finish(out) {
         Ok(()) => Ok(Listed {
-            rows,
+            rows: tally.rows,
             lines: lines.len() as u32,
         }),
         Err(WriteFault) => Err(ListStop::WriteFault),

@@ -35,7 +35,7 @@ pub(crate) fn list_rows<S: Sink, L: Ledger>(
         search.old.vector.items }
     requires at_root { IsAtRoot search.old.walker }
     requires kind { shown.listing ≡ search.old.poly.now.kind }
-    ensures rows { ListsRows search.old.poly.now (S.written out.old) (S.written out.new) shown.rows result }
+    ensures rows { ListsRows search.old.poly.now (S.written out.old) (S.written out.new) shown.tally result }
     ensures kind { IfOk result (λ s. s.listing ≡ shown.listing) }
     ensures cause { RisesAt Ended.WriteFault (S.faults out.old) (S.faults out.new) result }
     ensures overflow { (o : Passed) → IsErrOf result (Ended.Overflow o) →

@@ -1,2 +1,4 @@
+pub mod EachRow
 pub mod GrowthLemmas
 pub mod ShapeLemmas
+pub mod Points

@@ -13,6 +13,7 @@ use Rattle.example_polys.specs.declared.kind.ExampleKind.{ExampleKind}
 use Rattle.example_polys.specs.declared.kind.ExampleKind.TheVariants.{Cube, Cross, Product, Pyramid}
 use Rattle.example_polys.specs.Cells.{end_to_end}
 use Rattle.example_polys.specs.Examples.{one, minus_one, one_at, unit_rows, side, sides, example_rows, example_width, file_kind, plain_row, example_of}
+use Rattle.example_polys.proofs.EachRow.{all_both, all_rows, all_groups}
 
 abbrev pub HasWidth : ℕ → Vector → Type 0
 HasWidth w row = length row ≡ w
@@ -66,29 +67,9 @@ one_width n i x within =
       length-replicate (n - i - 1) (pos 0),
     )
 
-all_both : (w : ℕ) (xs ys : List Vector) → AllByRecursion (HasWidth w) xs → AllByRecursion (HasWidth w) ys →
-    AllByRecursion (HasWidth w) (xs ++ ys)
-all_both w [] ys p q = q
-all_both w (x ∷ xs) ys p q = (p.0, all_both w xs ys p.1 q)
-
-all_rows : (w : ℕ) (f : ℕ → Vector) (a n : ℕ) → ((i : ℕ) → i < a + n → HasWidth w (f i)) →
-    AllByRecursion (HasWidth w) (map f (range_with_len a n))
-all_rows w f a zero h = tt
-all_rows w f a (suc n) h =
-    let here : a < a + suc n = omega arith in
-    (h a here, all_rows w f (a + 1) n (λ i below. let in_all : i < a + suc n = omega (arith, below) in h i in_all))
-
-all_groups : (w : ℕ) (f : ℕ → List Vector) (a n : ℕ) → ((i : ℕ) → i < a + n → AllByRecursion (HasWidth w) (f i)) →
-    AllByRecursion (HasWidth w) (flat_map f (range_with_len a n))
-all_groups w f a zero h = tt
-all_groups w f a (suc n) h =
-    let here : a < a + suc n = omega arith in
-    all_both w (f a) _ (h a here)
-    (all_groups w f (a + 1) n (λ i below. let in_all : i < a + suc n = omega (arith, below) in h i in_all))
-
 pub unit_wide : (c : ℤ) (n : ℕ) (x : ℤ) → AllByRecursion (HasWidth (n + 1)) (unit_rows c n x)
 unit_wide c n x =
-    all_rows (n + 1) (λ i. c ∷ one_at n i x) 0 n (λ i below.
+    all_rows (HasWidth (n + 1)) (λ i. c ∷ one_at n i x) 0 n (λ i below.
     let within : i < n = omega (arith, below) in
     omega (arith, one_width n i x within))
 
@@ -102,16 +83,16 @@ half_wide n x y =
 
 -- each row has the width of its kind
 pub wide : (kind : ExampleKind) (n : ℕ) → AllByRecursion (HasWidth (example_width kind n)) (example_rows kind n)
-wide Cube n = all_both (n + 1) _ _ (unit_wide (pos 0) n one) (unit_wide one n minus_one)
-wide Cross n = all_both (n + 1) _ _ (unit_wide one n one) (unit_wide one n minus_one)
+wide Cube n = all_both (HasWidth (n + 1)) _ _ (unit_wide (pos 0) n one) (unit_wide one n minus_one)
+wide Cross n = all_both (HasWidth (n + 1)) _ _ (unit_wide one n one) (unit_wide one n minus_one)
 wide Product n =
-    all_both (2 * n + 1) _ _ (unit_wide (pos 0) (2 * n) one)
+    all_both (HasWidth (2 * n + 1)) _ _ (unit_wide (pos 0) (2 * n) one)
     (half_wide n minus_one (pos 0), (half_wide n (pos 0) minus_one, tt))
 wide Pyramid n =
     let first : length (pos 0 ∷ (replicate n (pos 0) ++ one ∷ [])) ≡ n + 2 =
     omega (arith, length-append (replicate n (pos 0)) (one ∷ []), length-replicate n (pos 0)) in (
       first,
-      all_groups (n + 2) (sides n) 0 n (λ i below.
+      all_groups (HasWidth (n + 2)) (sides n) 0 n (λ i below.
           let within : i < n = omega (arith, below) in
           (side_wide n i minus_one within, (side_wide n i one within, tt))),
     )

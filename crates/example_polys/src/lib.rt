@@ -3,10 +3,12 @@
 
 mod families;
 mod kind;
+mod laws;
 mod polys;
 mod rows;
 
 pub use kind::ExampleKind;
+pub use laws::examples_have_points;
 pub use polys::example;
 
 #[cfg(test)]

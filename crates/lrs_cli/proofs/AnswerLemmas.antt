@@ -3,7 +3,8 @@ use Rattle.std.proofs.Common.{◌≡◌, subst}
 use Rattle.poly_reader.specs.declared.bad.BadFile.{BadFile as Fault}
 use Rattle.lrs_cli.specs.declared.status.Status.TheVariants.{BadFile}
 use Rattle.lrs_cli.specs.Answers.{Told, IsBadFile}
-use Rattle.lrs_cli.specs.Convert.{Streams, AnswersConvert}
+use Rattle.lrs_cli.specs.Streams.{Streams}
+use Rattle.lrs_cli.specs.Convert.{AnswersConvert}
 use Rattle.lrs_cli.proofs.EndLemmas.{not_bad}
 
 same_fault : (f x : Fault) → BadFile f ≡ BadFile x → f ≡ x

@@ -3,3 +3,5 @@ pub mod StatusLemmas
 pub mod EndLemmas
 pub mod AnswerLemmas
 pub mod ThroughLemmas
+pub mod DemoLemmas
+pub mod LineLemmas

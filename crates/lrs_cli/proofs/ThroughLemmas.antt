@@ -9,7 +9,8 @@ use Rattle.poly_model.specs.Extreme.{IsFeasible}
 use Rattle.lrs_cli.specs.declared.status.Status.{Status}
 use Rattle.lrs_cli.specs.declared.status.Status.TheVariants.{Done, Usage, BadFile, Infeasible, Overflow, ReadFault, WriteFault, OutOfMemory}
 use Rattle.lrs_cli.specs.Answers.{Told, Describes, WritesWhole, WritesPart, IsPartlyListed, IsFeasibleFile, WritesNothing}
-use Rattle.lrs_cli.specs.Convert.{Streams, AnswersConvert, streams}
+use Rattle.lrs_cli.specs.Streams.{Streams, streams}
+use Rattle.lrs_cli.specs.Convert.{AnswersConvert}
 
 -- a fact of a described polyhedron gives another
 told_also : (left : Option (List ℕ)) (P Q : Polyhedron → Type 0) → ((p : Polyhedron) → P p → Q p) →

@@ -1,32 +1,13 @@
--- The main theorem: what `lrs` answers, and what it has then read and written.
-use Rattle.std.specs.Prelude.{◌≡◌, ◌⊎◌, ◌+◌, ℕ, List, Option}
+-- What `convert` answers, and what it has then read and written.
+use Rattle.std.specs.Prelude.{◌≡◌, ◌⊎◌, ℕ}
 use Rattle.std.specs.Io.KnownBytes.{IsAtEnd}
-use Rattle.command_line.specs.declared.lines.Line.TheVariants.{Convert}
-use Rattle.command_line.specs.Lines.{IsAccepted, AskFor}
 use Rattle.poly_io.specs.Causes.{Rose}
-use Rattle.poly_io.specs.Taken.{TakesAtMost}
 use Rattle.poly_model.specs.declared.overflow.Overflow.{Overflow as Passed}
-use Rattle.poly_reader.specs.Limits.{most_file_bytes}
 use Rattle.poly_reader.specs.declared.bad.BadFile.{BadFile as Fault}
 use Rattle.lrs_cli.specs.declared.status.Status.{Status}
-use Rattle.lrs_cli.specs.declared.status.Status.TheVariants.{Done, Usage, BadFile, Infeasible, Overflow, ReadFault, WriteFault, OutOfMemory}
+use Rattle.lrs_cli.specs.declared.status.Status.TheVariants.{Done, Infeasible, Overflow, BadFile, ReadFault, WriteFault}
 use Rattle.lrs_cli.specs.Answers.{Told, Knows, IsListed, IsPartlyListed, IsFeasibleFile, IsInfeasibleFile, HasOverflow, IsBadFile, HasNoObstacle, StopsListing, WritesNothing, Ends}
-
--- the input and the output at a moment: the bytes that are left and that were written, where they are told, and how
--- often a read and a write has failed
-pub record Streams : Type 0 where
-  pub left : Option (List ℕ)
-  pub read_faults : ℕ
-  pub written : Option (List ℕ)
-  pub write_faults : ℕ
-
-abbrev pub streams : Option (List ℕ) → ℕ → Option (List ℕ) → ℕ → Streams
-streams left read_faults written write_faults = record {
-  left = left;
-  read_faults = read_faults;
-  written = written;
-  write_faults = write_faults;
-}
+use Rattle.lrs_cli.specs.Streams.{Streams}
 
 -- The answer of `convert`. `Unwritten` says that the output is as it was.
 pub record AnswersConvert (before after : Streams) (Unwritten : Type 0) (answer : Status) : Type 0 where
@@ -55,15 +36,3 @@ pub record AnswersConvert (before after : Streams) (Unwritten : Type 0) (answer 
   -- of memory
   pub complete : Knows before.left HasNoObstacle → ¬ (Rose before.read_faults after.read_faults) →
       ¬ (Rose before.write_faults after.write_faults) → Ends answer
-
--- The answer to some words. `Unread` says that the input is as it was.
-pub record Answers (words : List (List ℕ)) (before after : Streams) (Unread Unwritten : Type 0)
-    (answer : Status) : Type 0 where
-  -- usage: the words are no accepted line. Then nothing was read or written. Only want of memory hides it
-  pub usage : answer ≡ Usage → ¬ (IsAccepted words)
-  pub accepted : ¬ (answer ≡ Usage) → ¬ (answer ≡ OutOfMemory) → IsAccepted words
-  pub unasked : ¬ (IsAccepted words) → Unread × Unwritten
-  -- one command so far
-  pub convert : AskFor words Convert → AnswersConvert before after Unwritten answer
-  -- at most one byte more than a file may have was taken
-  pub taken : TakesAtMost before.left after.left (most_file_bytes + 1)

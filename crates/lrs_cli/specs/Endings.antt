@@ -7,7 +7,8 @@ use Rattle.poly_io.specs.Causes.{Rose}
 use Rattle.poly_io.specs.Written.{AppendsPart}
 use Rattle.lrs_cli.specs.declared.status.Status.{Status}
 use Rattle.lrs_cli.specs.declared.status.Status.TheVariants.{Usage, OutOfMemory}
-use Rattle.lrs_cli.specs.Convert.{Streams, Answers}
+use Rattle.lrs_cli.specs.Streams.{Streams}
+use Rattle.lrs_cli.specs.Lrs.{Answers}
 use Rattle.lrs_cli.specs.StatusLine.{status_text, status_number}
 
 -- the answer to the arguments of the process: that to the words, or why there are none

@@ -1,4 +1,7 @@
 pub mod StatusLine
 pub mod Answers
+pub mod Streams
 pub mod Convert
+pub mod Demo
+pub mod Lrs
 pub mod Endings

@@ -8,7 +8,8 @@ ghost use Rattle.poly_model.specs.Extreme.{IsFeasible};
 ghost use Rattle.poly_reader.specs.Limits.{most_file_bytes};
 ghost use Rattle.convert_core.specs.Listed.{IsDueInSearch};
 ghost use Rattle.lrs_cli.specs.Answers.{WritesWhole, WritesPart, ComesOfPolyhedron, StopsListing, WritesNothing};
-ghost use Rattle.lrs_cli.specs.Convert.{AnswersConvert, streams};
+ghost use Rattle.lrs_cli.specs.Convert.{AnswersConvert};
+ghost use Rattle.lrs_cli.specs.Streams.{streams};
 
 use crate::status::Status;
 use convert_core::list;

@@ -2,6 +2,7 @@
 #![tactic(auto)]
 
 mod convert;
+mod demo;
 mod process;
 mod status;
 #[cfg(test)]

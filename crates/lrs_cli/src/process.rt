@@ -1,7 +1,8 @@
 //! What a process of the program does, over any arguments, source and sinks.
 ghost use Rattle.std.specs.Prelude.{◌≡◌, map, drop, string_bytes, IfOk};
 ghost use Rattle.std.specs.Result.{result_map_both};
-ghost use Rattle.lrs_cli.specs.Convert.{Answers, streams};
+ghost use Rattle.lrs_cli.specs.Lrs.{Answers};
+ghost use Rattle.lrs_cli.specs.Streams.{streams};
 ghost use Rattle.lrs_cli.specs.Endings.{AnswersArguments, Ending, IsSaid};
 
 use crate::status::{Status, status_line};

@@ -305,9 +305,85 @@ const WITHOUT_A_LISTING: [Case; 15] = [
     },
 ];
 
+/// A demo, whose input cannot be read.
+const DEMO: Case = Case {
+    name: "demo cube 3",
+    words: &["demo", "cube", "3"],
+    file: "",
+    reads: &[Call::Fail],
+    writes: &[],
+    end: End::Done(8, 0),
+    written: "rows 8\nlines 0\nsum 20\n",
+};
+
+const DEMOS: [Case; 10] = [
+    DEMO,
+    Case {
+        name: "demo cross 3",
+        words: &["demo", "cross", "3"],
+        end: End::Done(8, 0),
+        written: "rows 8\nlines 0\nsum 32\n",
+        ..DEMO
+    },
+    Case {
+        name: "demo product 2",
+        words: &["demo", "product", "2"],
+        end: End::Done(9, 0),
+        written: "rows 9\nlines 0\nsum 21\n",
+        ..DEMO
+    },
+    Case {
+        name: "demo pyramid 2",
+        words: &["demo", "pyramid", "2"],
+        end: End::Done(5, 0),
+        written: "rows 5\nlines 0\nsum 14\n",
+        ..DEMO
+    },
+    Case {
+        name: "demo cube 8",
+        words: &["demo", "cube", "8"],
+        end: End::Done(256, 0),
+        written: "rows 256\nlines 0\nsum 1280\n",
+        ..DEMO
+    },
+    Case {
+        name: "demo cross 5",
+        words: &["demo", "cross", "5"],
+        end: End::Done(32, 0),
+        written: "rows 32\nlines 0\nsum 192\n",
+        ..DEMO
+    },
+    Case {
+        name: "demo product 4",
+        words: &["demo", "product", "4"],
+        end: End::Done(25, 0),
+        written: "rows 25\nlines 0\nsum 65\n",
+        ..DEMO
+    },
+    Case {
+        name: "demo pyramid 4",
+        words: &["demo", "pyramid", "4"],
+        end: End::Done(17, 0),
+        written: "rows 17\nlines 0\nsum 82\n",
+        ..DEMO
+    },
+    Case {
+        name: "a number with a plus and a zero, behind a mark",
+        words: &["demo", "--", "cube", "+03"],
+        ..DEMO
+    },
+    Case {
+        name: "a sink that fails at its third write",
+        writes: &[Call::AtMost(99), Call::AtMost(99), Call::Fail],
+        end: End::Other(7),
+        written: "rows 8",
+        ..DEMO
+    },
+];
+
 const ONE: Call = Call::AtMost(1);
 
-const STOPPED: [Case; 11] = [
+const STOPPED: [Case; 13] = [
     Case {
         name: "a sink that takes 20 bytes, one at a time, and then fails",
         writes: &[
@@ -407,6 +483,20 @@ const STOPPED: [Case; 11] = [
         written: "",
         ..SQUARE
     },
+    Case {
+        name: "demo cube 21",
+        words: &["demo", "cube", "21"],
+        end: USAGE,
+        written: "",
+        ..SQUARE
+    },
+    Case {
+        name: "demo ball 3",
+        words: &["demo", "ball", "3"],
+        end: USAGE,
+        written: "",
+        ..SQUARE
+    },
 ];
 
 #[derive(PartialEq, Eq, Debug, Drop)]
@@ -436,7 +526,11 @@ fn end_of(status: &Status) -> End {
 #[test]
 fn answers_calls(rt: HostRuntime) -> Result<(), Fail> {
     let alloc = rt.alloc();
-    let cases = LISTED.iter().chain(&WITHOUT_A_LISTING).chain(&STOPPED);
+    let cases = LISTED
+        .iter()
+        .chain(&WITHOUT_A_LISTING)
+        .chain(&DEMOS)
+        .chain(&STOPPED);
     for case in cases {
         let mut input = MemSource::new(case.file.as_bytes(), case.reads);
         let out = MemSink::new(alloc, case.writes);

@@ -2,7 +2,8 @@
 ghost use Rattle.std.specs.Prelude.{◌≡◌, ◌+◌, OnOk, OnErr};
 ghost use Rattle.poly_io.specs.Taken.{TakesAtMost};
 ghost use Rattle.poly_reader.specs.Limits.{most_file_bytes};
-ghost use Rattle.lrs_cli.specs.Convert.{AnswersConvert, streams};
+ghost use Rattle.lrs_cli.specs.Convert.{AnswersConvert};
+ghost use Rattle.lrs_cli.specs.Streams.{streams};
 
 use crate::convert::convert;
 use crate::status::Status;

@@ -18,6 +18,7 @@ use Rattle.listing_laws.specs.Lists.{Lists, Begins}
 use Rattle.listing_laws.specs.Prefixes.{IsCornerUnder}
 use Rattle.listing_laws.proofs.Completions.{some_extremes}
 use Rattle.listing_laws.proofs.ListingLemmas.{are_extreme, whole_listing}
+use Rattle.row_printer.specs.declared.tally.Tally.{Tally}
 use Rattle.row_printer.specs.Rows.{HasWritten}
 use Rattle.row_printer.specs.Listings.{WritesListing}
 use Rattle.row_printer.proofs.ListingParts as parts
@@ -60,12 +61,12 @@ module _ (sys : System) (p : Polyhedron) (cone : ListedCone) (file : sys ≡ con
 
   -- ---- where it ends
   pub ends_whole : {E : Type 0} (old mid then new : Option (List ℕ)) (listed : Listed) → listed.lines ≡ length vectors →
-      Appends old mid text_before →
-      (shown : List Vector) × Lists (IsCornerUnder cone []) shown × HasWritten sys.kind mid then 0 listed.rows shown →
+      Appends old mid text_before → (before now : Tally) → before.rows ≡ 0 → now.rows ≡ listed.rows →
+      (shown : List Vector) × Lists (IsCornerUnder cone []) shown × HasWritten sys.kind mid then before now shown →
       Appends then new end_text → WritesListing {E = E} p old new (Ok listed)
-  ends_whole old mid then new listed count head (shown, l, h) a =
-      parts.ends_whole p vectors lines old mid then new listed count head shown (extreme shown l)
-      (subst (λ k. HasWritten k mid then 0 listed.rows shown) same_kind h) a
+  ends_whole old mid then new listed count head before now none all (shown, l, h) a =
+      parts.ends_whole p vectors lines old mid then new listed count head shown (extreme shown l) before now none all
+      (subst (λ k. HasWritten k mid then before now shown) same_kind h) a
 
 -- ---- nothing is the beginning of a listing
 pub nothing_written : {E : Type 0} (p : Polyhedron) (old : Option (List ℕ)) (result : Result Listed E) → IsErr result →

@@ -1,7 +1,7 @@
 -- Rows written one after the other, those of the vectors that were visited; and why a listing stopped.
 use Rattle.std.specs.Prelude.{Result}
 use Rattle.std.specs.Result.{IsErrOf}
-use Rattle.std.proofs.Common.{◌≡◌, ℕ, suc, ◌≤◌, List, [], ◌∷◌, ◌++◌, length, Option, Ok, Err, refl, sym, ap, subst, ◌∙◌, append-nil, arith}
+use Rattle.std.proofs.Common.{◌≡◌, ℕ, ◌≤◌, List, [], ◌∷◌, ◌++◌, Option, Ok, Err, refl, sym, ap, subst, ◌∙◌, append-nil, arith}
 use Rattle.std.specs.List.{flat_map}
 use Rattle.std.specs.Io.KnownBytes.{Appends}
 use Rattle.std.proofs.KnownBytes.{Appends-nil, Appends-trans}
@@ -13,12 +13,12 @@ use Rattle.poly_io.specs.Causes.{Rose}
 use Rattle.poly_io.specs.Written.{AppendsPart}
 use Rattle.poly_io.proofs.Parts.{part_after}
 use Rattle.row_printer.specs.declared.shown.Shown.{Shown}
-use Rattle.row_printer.specs.Rows.{counted, HasWritten}
+use Rattle.row_printer.specs.Rows.{HasWritten}
+use Rattle.row_printer.proofs.Tallies.{counts_none, counts_more}
 use Rattle.plain_enum.specs.declared.prefix.Ended.{Ended}
 use Rattle.plain_enum.specs.declared.prefix.Ended.TheVariants.{Overflow, Stopped}
 use Rattle.plain_enum.specs.Listed.{HasStopCause, WritesRow, FailsAtRow, WritesRows}
 use Rattle.plain_enum.specs.Visits.{Visited, EndedAtLast, VisitsEach, VisitsSome}
-use Rattle.plain_enum.proofs.ShowUnder.{counted_none}
 
 -- ---- why a listing stopped
 pub not_stopped : {T E : Type 0} (before now : ℕ) (result : Result T (Ended E)) → now ≡ before →
@@ -58,13 +58,13 @@ module _ {O : Type 0} (written : O → Option (List ℕ)) (faults : O → ℕ) w
   -- the rows of the vectors were written, of one kind, and are counted; no write has failed
   pub record HasRows (s : Shown) (o : O) (xs : List Vector) (t : Shown) (q : O) : Type 0 where
     pub kind : t.listing ≡ s.listing
-    pub rows : HasWritten s.listing (written o) (written q) s.rows t.rows xs
+    pub rows : HasWritten s.listing (written o) (written q) s.tally t.tally xs
     pub same : faults q ≡ faults o
 
   has_no_rows : (s : Shown) (o : O) → HasRows s o [] s o
   has_no_rows s o = record {
     kind = refl;
-    rows = record { bytes = Appends-nil (written o); count = counted_none s.rows s.few };
+    rows = record { bytes = Appends-nil (written o); counts = counts_none s.tally };
     same = refl;
   }
 
@@ -74,9 +74,6 @@ module _ {O : Type 0} (written : O → Option (List ℕ)) (faults : O → ℕ) w
   bytes_after kind a b c y ys f g =
       subst (λ t. Appends a c t) (sym (flat_map-cons (row_text kind) y ys))
       (Appends-trans a b c (row_text kind y) (flat_map (row_text kind) ys) f g)
-
-  counted_more : (rows n : ℕ) → counted (counted rows 1) n ≡ counted rows (suc n)
-  counted_more rows n = omega arith
 
   pub has_rows : (s : Shown) (o : O) (xs : List Vector) (t : Shown) (q : O) → Visited goes_on s o xs t q →
       HasRows s o xs t q
@@ -89,7 +86,7 @@ module _ {O : Type 0} (written : O → Option (List ℕ)) (faults : O → ℕ) w
         rows = record {
           bytes = bytes_after s.listing (written o) (written m) (written q) y ys h.bytes
               (subst (λ k. Appends (written m) (written q) (flat_map (row_text k) ys)) h.kind rest.rows.bytes);
-          count = rest.rows.count ∙ ap (λ n. counted n (length ys)) h.count ∙ counted_more s.rows (length ys);
+          counts = counts_more s.tally u.tally t.tally (y ∷ []) ys h.counts rest.rows.counts;
         };
         same = rest.same ∙ h.same;
       }
@@ -137,14 +134,14 @@ module _ {O : Type 0} (written : O → Option (List ℕ)) (faults : O → ℕ) w
 
   pub writes_rows : {E : Type 0} (kind : Kind) (s : Shown) → s.listing ≡ kind → (o q : O) (P : Vector → Type 0)
       (result : Result Shown (Ended E)) → VisitsEach goes_on ends s o q result P →
-      WritesRows kind s.rows (written o) (written q) result P
+      WritesRows kind s.tally (written o) (written q) result P
   writes_rows kind s is o q P (Ok t) v =
       let (xs, l, h) = v.whole in
       record {
         whole = (
           xs,
           l,
-          subst (λ k. HasWritten k (written o) (written q) s.rows t.rows xs) is (has_rows s o xs t q h).rows,
+          subst (λ k. HasWritten k (written o) (written q) s.tally t.tally xs) is (has_rows s o xs t q h).rows,
         );
         part = tt;
       }

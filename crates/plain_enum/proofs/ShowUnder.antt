@@ -1,5 +1,5 @@
 -- What is shown where the dictionary stands and one label is left: the one coordinate of the key that is not free.
-use Rattle.std.proofs.Common.{◌≡◌, ⊎_elim, Bool, ℕ, ◌-◌, ◌^◌, ◌<◌, ◌≤◌, List, [], ◌∷◌, length, map, refl, sym, ap, subst, arith}
+use Rattle.std.proofs.Common.{◌≡◌, ⊎_elim, Bool, ℕ, ◌-◌, ◌<◌, ◌≤◌, List, [], ◌∷◌, length, map, refl, sym, ap, subst, arith}
 use Rattle.std.specs.List.{Contains, range_with_len}
 use Rattle.std.proofs.lemmas.List.Elements.{Contains-append_cases}
 use Rattle.poly_model.specs.Limits.{most_columns}
@@ -17,16 +17,11 @@ use Rattle.listing_laws.specs.Prefixes.{IsCornerUnder}
 use Rattle.plain_enum.specs.declared.side.Side.{Side}
 use Rattle.plain_enum.specs.Columns.{IsLeftCoordinate, LeavesNoCoordinate}
 use Rattle.plain_enum.specs.Shown.{IsShownOn, vector_on}
-use Rattle.row_printer.specs.Rows.{counted}
 use Rattle.plain_enum.specs.Listed.{IsAt}
 use Rattle.plain_enum.specs.Standing.{StandsAt, LeavesColumn}
 use Rattle.plain_enum.proofs.FixedLabels.{FixedAre, left_in_key, left_not_free, is_left}
 use Rattle.plain_enum.proofs.OneLeft.{one_is_left}
 use Rattle.plain_enum.proofs.ColumnShown.{one_on, none_on}
-
--- ---- a count of rows, and none more
-pub counted_none : (rows : ℕ) → rows < 2 ^ 64 → rows ≡ counted rows 0
-counted_none rows l = omega arith
 
 -- ---- the label that is left
 one_only : (left : List ℕ) → length left ≡ 1 → (k : ℕ) × (left ≡ k ∷ [])

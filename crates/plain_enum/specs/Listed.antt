@@ -1,5 +1,5 @@
 -- What the lister writes under a prefix of rows.
-use Rattle.std.specs.Prelude.{◌≡◌, ◌↔◌, false, ℕ, suc, ◌+◌, ◌-◌, ◌^◌, ◌<◌, ◌≤◌, min, Bool, List, length, Option, Result, IfOk, OnErr, IsErrOf}
+use Rattle.std.specs.Prelude.{◌≡◌, ◌↔◌, false, ℕ, suc, ◌+◌, ◌<◌, ◌≤◌, Bool, List, [], ◌∷◌, length, Option, Result, IfOk, OnErr, IsErrOf}
 use Rattle.std.specs.List.{All, Contains, flat_map}
 use Rattle.std.specs.Io.KnownBytes.{Appends}
 use Rattle.poly_num.specs.Vectors.{Vector}
@@ -15,7 +15,8 @@ use Rattle.dictionary.specs.MainPhase.{stays_in}
 use Rattle.listing_laws.specs.ListedCone.{ListedCone, IsConeOf}
 use Rattle.listing_laws.specs.Lists.{Lists, Begins}
 use Rattle.row_printer.specs.declared.shown.Shown.{Shown}
-use Rattle.row_printer.specs.Rows.{counted, HasWritten}
+use Rattle.row_printer.specs.declared.tally.Tally.{Tally}
+use Rattle.row_printer.specs.Rows.{Counts, HasWritten}
 use Rattle.plain_enum.specs.declared.prefix.Ended.{Ended}
 use Rattle.plain_enum.specs.declared.prefix.Ended.TheVariants.{Stopped}
 use Rattle.plain_enum.specs.Columns.{HasRows}
@@ -38,7 +39,7 @@ pub record WritesRow {O : Type 0} (written : O → Option (List ℕ)) (faults : 
     (t : Shown) (new : O) : Type 0 where
   pub kind : t.listing ≡ s.listing
   pub bytes : Appends (written old) (written new) (row_text s.listing y)
-  pub count : t.rows ≡ counted s.rows 1
+  pub counts : Counts s.tally t.tally (y ∷ [])
   pub same : faults new ≡ faults old
 
 -- a write failed at the row of a vector, of which first bytes were written
@@ -56,9 +57,9 @@ pub record HasStopCause {T E : Type 0} (before now : ℕ) (result : Result T (En
 
 -- known bytes grow by the rows of a list of the vectors with P at Ok, which are counted, and by first bytes of the rows
 -- of the beginning of one at Err
-pub record WritesRows {E : Type 0} (kind : Kind) (rows : ℕ) (old new : Option (List ℕ)) (result : Result Shown E)
+pub record WritesRows {E : Type 0} (kind : Kind) (before : Tally) (old new : Option (List ℕ)) (result : Result Shown E)
     (P : Vector → Type 0) : Type 0 where
-  pub whole : IfOk result (λ s. (shown : List Vector) × Lists P shown × HasWritten kind old new rows s.rows shown)
+  pub whole : IfOk result (λ s. (shown : List Vector) × Lists P shown × HasWritten kind old new before s.tally shown)
   pub part : OnErr result
       ((shown : List Vector) × Begins P shown × AppendsPart old new (flat_map (row_text kind) shown))
 

@@ -38,7 +38,7 @@ pub(crate) fn list_rows<S: Sink>(
     requires kind { shown.listing ≡ start.now.sys.now.kind }
     ensures written { (p : Polyhedron) (last : Dictionary) → start.now.sys.now ≡ cone_of p →
         IsBegun p start.now.dict.now last start.now.free.now →
-        WritesRows start.now.sys.now.kind shown.rows (S.written out.old) (S.written out.new) result
+        WritesRows start.now.sys.now.kind shown.tally (S.written out.old) (S.written out.new) result
         (IsCornerUnder (begun_cone p start.now.free.now start.now.dict.now) []) }
     ensures passes { (o : Passed) → IsErrOf result (Ended.Overflow o) → (p : Polyhedron) (last : Dictionary) →
         start.now.sys.now ≡ cone_of p → IsBegun p start.now.dict.now last start.now.free.now → PassesInCone p o }

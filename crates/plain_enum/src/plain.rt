@@ -84,10 +84,10 @@ pub(crate) fn print<S: Sink>(
         Ok(listing) => listing,
         Err(fault) => return Err(Ended::Stopped(fault)),
     };
-    let Shown { listing, rows } = list_rows(start, room, Shown::none(listing), out)?;
+    let Shown { listing, tally } = list_rows(start, room, Shown::none(listing), out)?;
     match listing.finish(out) {
         Ok(()) => Ok(Listed {
-            rows,
+            rows: tally.rows,
             lines: lines.len() as u32,
         }),
         Err(fault) => Err(Ended::Stopped(fault)),

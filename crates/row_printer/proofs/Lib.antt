@@ -1,2 +1,3 @@
 pub mod ListingTextLemmas
 pub mod ListingParts
+pub mod Tallies

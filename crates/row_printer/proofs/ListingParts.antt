@@ -16,7 +16,8 @@ use Rattle.poly_model.specs.Listing.{IsListing}
 use Rattle.poly_model.specs.ListingText.{head_text, vector_text, row_text, end_text}
 use Rattle.poly_io.specs.Written.{AppendsPart}
 use Rattle.poly_io.proofs.Parts.{part_before, part_after}
-use Rattle.row_printer.specs.Rows.{HasWritten}
+use Rattle.row_printer.specs.declared.tally.Tally.{Tally}
+use Rattle.row_printer.specs.Rows.{counted, HasWritten}
 use Rattle.row_printer.specs.Listings.{WritesListing}
 
 module _ (p : Polyhedron) (vectors : List Vector) (lines : AreLines (cone_of p) vectors) where
@@ -83,14 +84,18 @@ module _ (p : Polyhedron) (vectors : List Vector) (lines : AreLines (cone_of p) 
 
   -- ---- where it ends
   pub ends_whole : {E : Type 0} (old mid then new : Option (List ℕ)) (listed : Listed) → listed.lines ≡ length vectors →
-      Appends old mid text_before → (shown : List Vector) → AreExtreme (cone_of p) shown →
-      HasWritten p.kind mid then 0 listed.rows shown → Appends then new end_text →
+      Appends old mid text_before → (shown : List Vector) → AreExtreme (cone_of p) shown → (before now : Tally) →
+      before.rows ≡ 0 → now.rows ≡ listed.rows → HasWritten p.kind mid then before now shown → Appends then new end_text →
       WritesListing {E = E} p old new (Ok listed)
   unfolding is_listing
-  ends_whole old mid then new listed count head shown e h a = record {
+  ends_whole old mid then new listed count head shown e before now none all h a = record {
     whole = (
       text_of shown,
-      record { listing = is_listing shown e; rows = h.count; lines = count },
+      record {
+        listing = is_listing shown e;
+        rows = sym all ∙ h.counts.rows ∙ ap (λ n. counted n (length shown)) none;
+        lines = count;
+      },
       Appends-trans old mid new text_before (flat_map (row_text p.kind) shown ++ end_text) head
           (Appends-trans mid then new (flat_map (row_text p.kind) shown) end_text h.bytes a),
     );

@@ -4,7 +4,7 @@ use Rattle.poly_num.specs.Vectors.{Vector}
 use Rattle.poly_model.specs.declared.overflow.Overflow.{Overflow as Passed}
 use Rattle.poly_model.specs.Due.{IsDue, IsAskedInFirst}
 use Rattle.poly_model.specs.Systems.{System}
-use Rattle.convert_core.specs.declared.begin.BeginStop.{BeginStop}
+use Rattle.convert_core.specs.declared.begin.SearchStop.{SearchStop}
 use Rattle.convert_core.specs.Searches.{IsRootOf}
 use Rattle.convert_core.proofs.Beginnings.{is_root_of}
 use Rattle.convert_core.proofs.LinearRows.{feasible_is_consistent}
@@ -25,7 +25,7 @@ returns-in-Ok-first-clause-found c p file =
     c.in-Ok-first.found.dict (c.in-Ok-first.ensures.found p x))
 
 same_overflow : {T : Type 0} (a o : Passed) →
-    IsErrOf {T = T} {E = BeginStop} (Err (BeginStop.Overflow a)) (BeginStop.Overflow o) → a ≡ o
+    IsErrOf {T = T} {E = SearchStop} (Err (SearchStop.Overflow a)) (SearchStop.Overflow o) → a ≡ o
 same_overflow a o h = cc
 
 pub returns-in-Err-Overflow-first-clause-overflow : goal.returns-in-Err-Overflow-first-clause-overflow

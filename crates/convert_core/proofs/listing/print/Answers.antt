@@ -6,7 +6,6 @@ use Rattle.poly_model.specs.Due.{IsDue, IsAskedInMain}
 use Rattle.poly_io.specs.Written.{AppendsPart}
 use Rattle.listing_laws.proofs.Completions.{some_extremes}
 use Rattle.listing_laws.proofs.ListingLemmas.{are_extreme}
-use Rattle.row_printer.specs.Rows.{HasWritten}
 use Rattle.row_printer.proofs.ListingParts.{same_before, stops_in_head, stops_in_rows, stops_in_end, ends_whole}
 use Rattle.row_printer.specs.declared.stop.ListStop.{ListStop}
 use Rattle.convert_core.proofs.Searching.{steps_at_start}
@@ -72,9 +71,8 @@ returns-in-Ok-finish-clause-listed g c =
     (g.S.Sink.written c.finish.new.out) _ refl
     (subst (λ (t : List ℕ). Appends (g.S.Sink.written c.args.out.now) mid t)
     (same_before p c.args.lines.now c.requires.lines c.kind.result c.n.result c.kind.ensures c.n.ensures.value)
-    c.in-Ok.ensures.prints.whole) rows.0 rows.1
-    (subst (λ n. HasWritten p.kind mid then n c.in-Ok-list_rows.shown.rows rows.0) c.none.ensures.rows rows.2)
-    c.in-Ok-finish.ensures.whole
+    c.in-Ok.ensures.prints.whole) rows.0 rows.1 c.none.result.tally c.in-Ok-list_rows.shown.tally c.none.ensures.rows refl
+    rows.2 c.in-Ok-finish.ensures.whole
 
 pub returns-in-Err-finish-clause-listed : goal.returns-in-Err-finish-clause-listed
 returns-in-Err-finish-clause-listed g c =

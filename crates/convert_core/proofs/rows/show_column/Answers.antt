@@ -1,7 +1,10 @@
-use Rattle.std.proofs.Common.{ap, subst, ◌∙◌}
+use Rattle.std.proofs.Common.{IfOk, [], ◌∷◌, ap, subst, ◌∙◌}
+use Rattle.poly_num.specs.Vectors.{Vector}
 use Rattle.poly_model.specs.ListingText.{row_text}
 use Rattle.poly_io.specs.Written.{Prints}
 use Rattle.hull_lift.specs.Facets.{primitive_column}
+use Rattle.row_printer.specs.declared.shown.Shown.{Shown}
+use Rattle.row_printer.specs.Rows.{Counts}
 use Rattle.convert_core.proofs.RowsWritten.{not_shown, is_shown}
 use Rattle.convert_core.proofs.rows.show_column.Goals as goal
 
@@ -13,11 +16,11 @@ returns-then-not-is_column_shown-clause-shows g c =
 
 pub returns-clause-shows : goal.returns-clause-shows
 returns-clause-shows g c =
+    let is = c.facet_row.ensures.value ∙ ap (primitive_column c.args.at.now.dict.now c.args.col) c.requires.width in
     is_shown g.S.Sink c.args.at.now.cone.now c.args.at.now.order.now c.args.at.now.dict.now c.args.col c.args.shown
     c.args.out.now c.row.new.out c.row.result
     (c.is_column_shown.ensures.0 c.if-not-is_column_shown.false)
-    (subst (λ v. Prints g.S.Sink c.args.out.now c.row.new.out c.row.result (row_text c.args.shown.listing v))
-    (c.facet_row.ensures.value
-    ∙ ap (primitive_column c.args.at.now.dict.now c.args.col) c.requires.width)
+    (subst (λ v. Prints g.S.Sink c.args.out.now c.row.new.out c.row.result (row_text c.args.shown.listing v)) is
     c.row.ensures.prints)
-    c.row.ensures.kind c.row.ensures.count
+    c.row.ensures.kind
+    (subst (λ (v : Vector). IfOk c.row.result (λ (t : Shown). Counts c.args.shown.tally t.tally (v ∷ []))) is c.row.ensures.count)

@@ -9,7 +9,6 @@ use Rattle.poly_model.specs.declared.kind.Kind.{Kind}
 use Rattle.poly_model.specs.ListingText.{head_text, vector_text}
 use Rattle.poly_model.specs.Systems.{System, Polyhedron, cone_of}
 use Rattle.linearity.proofs.Errors.{one_error}
-use Rattle.row_printer.specs.Rows.{HasWritten}
 use Rattle.plain_enum.specs.declared.prefix.Ended.TheVariants as Ended
 use Rattle.plain_enum.specs.Begin.{begun_cone}
 use Rattle.plain_enum.proofs.BeginAt.{begun_lines, is_cone_of}
@@ -75,12 +74,7 @@ returns-in-Ok-finish-clause-written g c p last file b same =
     old mid (g.S.Sink.written c.list_rows.new.out) (g.S.Sink.written c.finish.new.out) _ refl
     (subst (λ t. Appends old mid t)
     (same_head p c.args.start.now.sys.now c.args.lines.now c.kind.result c.n.result file c.kind.ensures c.n.ensures.value)
-    c.in-Ok.ensures.prints.whole) (
-      rows.0,
-      rows.1,
-      subst (λ n. HasWritten c.args.start.now.sys.now.kind mid then n c.in_ok-listing.field-0.rows rows.0)
-          c.none.ensures.rows rows.2,
-    )
+    c.in-Ok.ensures.prints.whole) c.none.result.tally c.in_ok-listing.field-0.tally c.none.ensures.rows refl rows
     c.in-Ok-finish.ensures.whole
 
 pub returns-in-Err-finish-clause-written : goal.returns-in-Err-finish-clause-written

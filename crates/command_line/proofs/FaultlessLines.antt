@@ -1,13 +1,12 @@
--- Words that are accepted ask for a line.
+-- Words with which clap finds no fault: no step of its walk over them fails.
 use Rattle.std.proofs.Common.{◌≡◌, ◌∷◌, [], Bool, true, false, List, codes, refl, sym, Option, Some, None, is_some, option_map, arith, true≢false}
 use mathlib.Core.List.{cons≢nil}
-use Rattle.clap.specs.Words.{App, Kinds, Row, Shape, Text}
+use Rattle.clap.specs.Words.{App, Kinds, Shape, Text, fault_of}
 use Rattle.clap.specs.Simple.{built, entered, names_of}
 use Rattle.clap.specs.Walk.{Held, Names, finished, nothing_held, settled, stop_after, walk, walk_from}
 use Rattle.clap.specs.Faults.{check_fault, defaults_fault, entered_fault, level_fault, settle_fault, walk_fault}
 use Rattle.clap.specs.Kinds.{or_else}
-use Rattle.command_line.specs.Lines.{IsAccepted, AskFor, lrs_app}
-use Rattle.command_line.specs.declared.lines.Line.TheVariants.{Convert}
+use Rattle.command_line.specs.Lines.{lrs_app}
 
 -- where no step fails, each of two does not
 pub first_passes : (a b : Kinds) → or_else a b ≡ [] → a ≡ []
@@ -56,24 +55,7 @@ stop_of words = stop_after program.top.rules (names_of program) words
 abbrev pub is_met : List Text → Bool
 is_met words = is_some (entered program (stop_of words))
 
-pub accepted_passes : (words : List Text) → IsAccepted words
+pub faultless_passes : (words : List Text) → fault_of lrs_app words ≡ []
     → Passes program.top (names_of program) nothing_held words (is_met words) (entered_fault program (stop_of words))
-accepted_passes words accepted = level_passes program.top (names_of program) nothing_held words (is_met words)
-    (entered_fault program (stop_of words)) accepted
-
--- a command is required
-command_is_required : (rows : List Row) (met : Bool) → check_fault program.top rows met ≡ [] → met ≡ true
-command_is_required rows true none = refl
-command_is_required rows false none = absurd (cons≢nil none)
-
--- the one command is `convert`
-command_is_convert : (stop : Option (Text × List Text)) → is_some (entered program stop) ≡ true
-    → option_map (λ p. p.0) (entered program stop) ≡ Some (codes "convert")
-command_is_convert None met = absurd (true≢false (sym met))
-command_is_convert (Some p) met = grind arith
-
-pub accepted_is_convert : (words : List Text) → IsAccepted words → AskFor words Convert
-accepted_is_convert words accepted =
-    let met = command_is_required (finished program.top.rules (end_of words)) (is_met words)
-    (accepted_passes words accepted).checked in
-    record { accepted = accepted; command = command_is_convert (stop_of words) met }
+faultless_passes words faultless = level_passes program.top (names_of program) nothing_held words (is_met words)
+    (entered_fault program (stop_of words)) faultless
