@@ -1,0 +1,15 @@
+//! Records that are kept across a crash.
+#![tactic(auto)]
+
+mod entry;
+mod gate;
+mod header;
+mod ledger;
+mod reading;
+mod span;
+mod stop;
+mod walk;
+mod window;
+
+pub use ledger::Ledger;
+pub use stop::LedgerStop;
