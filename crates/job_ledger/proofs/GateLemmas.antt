@@ -1,7 +1,6 @@
 -- The first gate.
-use Rattle.std.proofs.Common.{◌≡◌, ◌<◌, ℕ, List, [], ◌∷◌, length, get_or, take, refl, sym, ◌∙◌, ap, subst, arith}
+use Rattle.std.proofs.Common.{◌≡◌, ◌<◌, ℕ, List, [], ◌∷◌, length, get_or, take, refl, sym, ◌∙◌, ap, arith}
 use Rattle.job_ledger.specs.Records.{HasNoRun, IsOpen, Records}
-
 
 -- it is open where the first byte is
 pub open_first : (f l : List ℕ) → l ≡ take 1 f → IsOpen l → IsOpen f

@@ -1,7 +1,6 @@
 -- Decimal digits and their value.
-use Rattle.std.proofs.Common.{◌≡◌, ◌<◌, ◌≤◌, ◌+◌, ◌-◌, ◌*◌, ◌/◌, ◌%◌, ◌^◌, ℕ, zero, suc, ◌∙◌, ap, ap₂, take-suc, List, [], ◌∷◌, ◌++◌, length, take, drop, get_or, refl, sym, arith, length-append, subst}
+use Rattle.std.proofs.Common.{◌≡◌, ◌<◌, ◌+◌, ◌-◌, ◌*◌, ◌/◌, ◌%◌, ◌^◌, ℕ, zero, suc, ◌∙◌, ap, ap₂, take-suc, List, [], ◌∷◌, ◌++◌, length, take, get_or, refl, sym, arith, length-append}
 use Rattle.std.specs.Prelude.{min}
-use Rattle.std.specs.List.{fold}
 use Rattle.std.proofs.lemmas.List.{get_or_at, take_at, take_all}
 use Rattle.std.proofs.lemmas.List.Sums.{fold_more, fold-append}
 use Rattle.job_ledger.specs.Records.{digits, header}

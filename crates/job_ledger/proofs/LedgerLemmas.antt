@@ -1,10 +1,9 @@
 -- A ledger and the file that it knows.
-use Rattle.std.proofs.Common.{◌≡◌, ◌+◌, ◌∙◌, ap, inl, ℕ, List, [], ◌∷◌, ◌++◌, length, map, Option, Some, refl, sym, subst, arith}
+use Rattle.std.proofs.Common.{◌≡◌, ◌∙◌, ap, ℕ, List, [], ◌∷◌, ◌++◌, length, Option, Some, sym}
 use Rattle.std.proofs.lemmas.List.{map-append}
 use Rattle.disk_core.specs.Images.{Images, Only}
-use Rattle.disk_core.specs.Moments.{LeavesOnly}
 use Rattle.job_ledger.specs.Ledgers.{IsAt, Known, end_of, grown, sizes_of}
-use Rattle.job_ledger.specs.Records.{Records, RecordsOldOrNew, layout}
+use Rattle.job_ledger.specs.Records.{Records}
 use Rattle.job_ledger.specs.Walks.{Stand}
 use Rattle.job_ledger.proofs.WalkLemmas.{length-layout}
 

@@ -3,6 +3,7 @@ pub mod EntryLemmas
 pub mod FrameLemmas
 pub mod GateLemmas
 pub mod HeaderLemmas
+pub mod LayoutLemmas
 pub mod LedgerLemmas
 pub mod SpanLemmas
 pub mod WalkLemmas

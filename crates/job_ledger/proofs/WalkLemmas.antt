@@ -1,11 +1,10 @@
 -- One record more on a walk through a file, and the ends of a walk.
-use Rattle.std.proofs.Common.{◌≡◌, ◌⊎◌, ◌<◌, ◌≤◌, ◌+◌, ◌-◌, ℕ, ◌∙◌, ap, ap₂, List, [], ◌∷◌, ◌++◌, length, map, drop, get_or, refl, sym, subst, arith, length-append, length-drop, take}
-use Rattle.std.specs.List.{All}
+use Rattle.std.proofs.Common.{◌≡◌, ◌<◌, ◌+◌, ◌-◌, ℕ, ◌∙◌, ap, ap₂, List, [], ◌∷◌, ◌++◌, length, drop, get_or, refl, sym, subst, arith, length-append, length-drop, take}
 use Rattle.std.proofs.lemmas.List.{drop_at, length-map, map-append}
 use Rattle.std.proofs.lemmas.List.Elements.{All-push}
 use Rattle.job_ledger.specs.Entries.{IsEntry}
 use Rattle.job_ledger.specs.Ledgers.{end_of, sizes_of}
-use Rattle.job_ledger.specs.Records.{HasNoRun, IsBrokenAt, IsShort, Records, frame, layout}
+use Rattle.job_ledger.specs.Records.{HasNoRun, IsBrokenAt, IsShort, frame, layout}
 use Rattle.job_ledger.specs.Spans.{ArePlaced, sizes_in, spans_of}
 use Rattle.job_ledger.specs.Walks.{HasSpans, IsReached}
 use Rattle.job_ledger.specs.declared.entry.Entry.{Entry}

@@ -1,5 +1,5 @@
 -- Blocks of a file.
-use Rattle.std.proofs.Common.{◌≡◌, ◌<◌, ◌≤◌, ◌⊎◌, inl, inr, ◌∙◌, ◌+◌, ◌-◌, ℕ, List, length, take, drop, ap, refl, sym, arith, length-drop, length-take, length-take-le, take_all, take-take, drop-drop, take-add, take-append-drop, rules}
+use Rattle.std.proofs.Common.{◌≡◌, ◌≤◌, inl, inr, ◌∙◌, ◌+◌, ◌-◌, ℕ, List, length, take, drop, ap, sym, arith, length-take-le, take_all, take-take, drop-drop, rules}
 use Rattle.std.specs.Prelude.{min}
 use Rattle.std.proofs.lemmas.Bool.{cases_lt}
 use Rattle.std.proofs.lemmas.Slice.{between_is}

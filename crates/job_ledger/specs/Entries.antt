@@ -1,5 +1,5 @@
 -- What stands in a file from a gate on.
-use Rattle.std.specs.Prelude.{◌≡◌, ◌<◌, ◌+◌, ◌-◌, ℕ, List, ◌∷◌, ◌++◌, length, take, drop}
+use Rattle.std.specs.Prelude.{◌≡◌, ◌<◌, ◌-◌, ℕ, List, ◌∷◌, ◌++◌, length, take, drop}
 use Rattle.job_ledger.specs.Records.{HasNoFrame, IsShort, frame}
 use Rattle.job_ledger.specs.declared.entry.Entry.{Entry}
 use Rattle.job_ledger.specs.declared.entry.Entry.TheVariants.{Broken, Closed, Record}

@@ -1,8 +1,8 @@
 -- Why a call of a ledger is refused.
-use Rattle.std.specs.Prelude.{◌≡◌, ◌⊎◌, ◌≤◌, ℕ, Result, IsErrOf}
+use Rattle.std.specs.Prelude.{◌≡◌, ◌≤◌, ℕ, Result, IsErrOf}
 use Rattle.poly_io.specs.Causes.{Rose}
 use Rattle.job_ledger.specs.declared.stop.LedgerStop.{LedgerStop}
-use Rattle.job_ledger.specs.declared.stop.LedgerStop.TheVariants.{BadLedger, DiskFault, HasRun, LedgerLimit, Memory, NoRun}
+use Rattle.job_ledger.specs.declared.stop.LedgerStop.TheVariants.{BadLedger, DiskFault, HasRun, LedgerLimit, NoRun}
 
 -- a fault of the disk exactly where its count of faults rose; it never falls
 pub record IsCaused {T : Type 0} (before now : ℕ) (result : Result T LedgerStop) : Type 0 where

@@ -1,5 +1,5 @@
 -- A walk through the records of a file.
-use Rattle.std.specs.Prelude.{◌≡◌, ◌<◌, ℕ, List, ◌∷◌, ◌++◌, length, drop}
+use Rattle.std.specs.Prelude.{◌≡◌, ◌<◌, ℕ, List, ◌++◌, length, drop}
 use Rattle.std.specs.List.{All}
 use Rattle.job_ledger.specs.Ledgers.{sizes_of}
 use Rattle.job_ledger.specs.Records.{IsShort, Records, layout}

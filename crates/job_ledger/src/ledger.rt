@@ -55,7 +55,12 @@ impl Ledger {
     /// Begins a ledger of at most `limit` bytes by its first record, where the file has no run. The order: the file is
     /// synced, `HasRun`, `LedgerLimit`, want of memory, and only then is something written. An image of the call is one
     /// from before, has no run, or has that record.
-    pub fn create<D: Disk>(alloc: Global, disk: &mut D, limit: u64, payload: &[u8]) -> Result<Ledger, LedgerStop>
+    pub fn create<D: Disk>(
+        alloc: Global,
+        disk: &mut D,
+        limit: u64,
+        payload: &[u8],
+    ) -> Result<Ledger, LedgerStop>
         requires { limit ≤ 2 ^ 40 }
         ensures moments { Told (D.seen disk.old) (λ f. LeavesOnly D.moment D.since disk.old disk.new
             (λ c. D.images disk.old c ⊎ (HasNoRun c ⊎ Records (payload.now ∷ []) c))) }

@@ -4,6 +4,7 @@
 mod entry;
 mod gate;
 mod header;
+mod laws;
 mod ledger;
 mod reading;
 mod span;
@@ -11,5 +12,9 @@ mod stop;
 mod walk;
 mod window;
 
+pub use laws::one_layout;
 pub use ledger::Ledger;
 pub use stop::LedgerStop;
+
+#[cfg(test)]
+mod tests;

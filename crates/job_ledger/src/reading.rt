@@ -8,7 +8,12 @@ use crate::LedgerStop;
 use disk_core::{Disk, read_full};
 
 /// Puts so many bytes from an offset on in the place of what `bytes` holds; fewer where the file ends early.
-pub(crate) fn read_into<D: Disk>(disk: &mut D, at: u64, len: u64, bytes: &mut Vec<u8>) -> Result<(), LedgerStop>
+pub(crate) fn read_into<D: Disk>(
+    disk: &mut D,
+    at: u64,
+    len: u64,
+    bytes: &mut Vec<u8>,
+) -> Result<(), LedgerStop>
     requires { at + len < 2 ^ 64 }
     ensures quiet { IsQuiet D.seen D.images D.moment D.since disk.old disk.new }
     ensures bytes { OnOk result (Told (D.seen disk.old) (λ f. bytes.new.items ≡ take len (drop at f))) }

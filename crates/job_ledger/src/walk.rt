@@ -16,7 +16,11 @@ use std::alloc::Global;
 
 /// Where the payloads of a file of this size lie, and its first closed gate. Reads each block once, but for the head of a
 /// record that lies on the seam of two.
-pub(crate) fn walk<D: Disk>(alloc: Global, disk: &mut D, size: u64) -> Result<(Vec<Span>, u64), LedgerStop>
+pub(crate) fn walk<D: Disk>(
+    alloc: Global,
+    disk: &mut D,
+    size: u64,
+) -> Result<(Vec<Span>, u64), LedgerStop>
     ensures quiet { IsQuiet D.seen D.images D.moment D.since disk.old disk.new }
     ensures placed { IfOk result (λ r. ArePlaced r.0.items r.1) }
     ensures records { IfOk result (λ r. Told (D.seen disk.old) (λ f. size ≡ length f → HasSpans r.0.items f)) }

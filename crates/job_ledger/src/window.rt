@@ -36,7 +36,9 @@ impl Window {
     fn has_head(&self, at: u64) -> bool
         ensures { result ≡ true → (self.now.from ≤ at) × (at + 15 ≤ self.now.from + length self.now.bytes.items) }
     {
-        at >= self.from && self.bytes.len() >= HEAD && at - self.from <= (self.bytes.len() - HEAD) as u64
+        at >= self.from
+            && self.bytes.len() >= HEAD
+            && at - self.from <= (self.bytes.len() - HEAD) as u64
     }
 
     /// Reads the block at an offset of a file of this size.
@@ -54,7 +56,12 @@ impl Window {
     }
 
     /// Makes the window hold the head of a record at an offset, all of it that the file has.
-    pub(crate) fn reach<D: Disk>(&mut self, disk: &mut D, at: u64, size: u64) -> Result<(), LedgerStop>
+    pub(crate) fn reach<D: Disk>(
+        &mut self,
+        disk: &mut D,
+        at: u64,
+        size: u64,
+    ) -> Result<(), LedgerStop>
         requires { at < size }
         ensures quiet { IsQuiet D.seen D.images D.moment D.since disk.old disk.new }
         ensures head { OnOk result (Told (D.seen disk.old) (λ f. size ≡ length f → IsWindow self.old f

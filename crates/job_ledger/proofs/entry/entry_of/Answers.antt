@@ -1,4 +1,4 @@
-use Rattle.std.proofs.Common.{rules, arith, ◌≡◌, ◌+◌, ◌-◌, ◌∙◌, ◌∷◌, ℕ, List, ap, drop, get_or, length, sym, take, drop-cons, length-drop, take_all}
+use Rattle.std.proofs.Common.{rules, arith, ◌≡◌, ◌-◌, ◌∙◌, ◌∷◌, ℕ, ap, drop, get_or, length, take, drop-cons, length-drop, take_all}
 use Rattle.job_ledger.proofs.EntryLemmas.{open_entry}
 use Rattle.job_ledger.proofs.entry.entry_of.Goals as goal
 

@@ -1,5 +1,4 @@
-use Rattle.std.proofs.Common.{rules, ◌≡◌, ◌∙◌, ap, length, take, drop, sym}
-use Rattle.job_ledger.specs.Records.{HasNoRun, IsOpen}
+use Rattle.std.proofs.Common.{rules, ◌≡◌, ◌∙◌, ap, length, take}
 use Rattle.job_ledger.proofs.GateLemmas.{open_first, shut_first}
 use Rattle.job_ledger.proofs.gate.is_open.Goals as goal
 

@@ -1,4 +1,4 @@
-use Rattle.std.proofs.Common.{◌≡◌, ◌⊎◌, inl, inr, ⊎_elim, ℕ, List, [], ◌∷◌, refl}
+use Rattle.std.proofs.Common.{◌⊎◌, inl, inr, ⊎_elim, [], ◌∷◌, refl}
 use Rattle.std.proofs.lemmas.Result.{on_ok_weaker}
 use Rattle.disk_core.proofs.Moments.{joined, weaker}
 use Rattle.job_ledger.specs.Records.{HasNoRun, Records, RecordsOldOrNew}
@@ -16,7 +16,7 @@ returns-clause-moments g c f told p size none short only is =
     let (mid, told_mid, has, only_mid) = c.in_ok-first_gate.ensures.done f told size none only in
     let second = c.write_record.ensures.moments mid told_mid [] p (record { has = has; place = refl }) short only_mid is in
     joined d.moment d.since c.args.disk.now c.first_gate.new.disk c.write_record.new.disk HasNoRun (RecordsOldOrNew [] p) (λ e. HasNoRun e ⊎ Records (p ∷ []) e)
-      (c.first_gate.ensures.moments f told size none only) second (λ e. inl) (λ e. ⊎_elim (λ old. inl (no_run e old)) inr)
+    (c.first_gate.ensures.moments f told size none only) second (λ e. inl) (λ e. ⊎_elim (λ old. inl (no_run e old)) inr)
 
 pub returns-clause-kept : goal.returns-clause-kept
 returns-clause-kept g c = on_ok_weaker c.write_record.result (λ done f told p size none short only is.

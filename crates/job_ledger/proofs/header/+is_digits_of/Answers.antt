@@ -1,4 +1,4 @@
-use Rattle.std.proofs.Common.{rules, arith, ◌≡◌, ◌+◌, ◌-◌, ◌/◌, ◌%◌, ◌<◌, ◌∙◌, [], ℕ, List, ap, get_or, length, sym, take, true, false}
+use Rattle.std.proofs.Common.{rules, arith, ◌≡◌, ◌+◌, ◌-◌, ◌/◌, ◌%◌, get_or, length, take}
 use Rattle.job_ledger.specs.Records.{digits}
 use Rattle.job_ledger.proofs.HeaderLemmas.{digits_front, digits_last, digits_empty, digits_of_parts}
 use Rattle.job_ledger.proofs.header.+is_digits_of.Goals as goal

@@ -1,6 +1,5 @@
-use Rattle.std.proofs.Common.{rules, arith, ◌≡◌, ◌∙◌, ◌<◌, ◌^◌, ap, get_or, length, sym, take, true, false}
+use Rattle.std.proofs.Common.{rules, arith, ◌≡◌, ◌∙◌, ap, get_or, length, sym, take}
 use Rattle.job_ledger.specs.Records.{digits}
-use Rattle.job_ledger.specs.Values.{value_of}
 use Rattle.job_ledger.proofs.HeaderLemmas.{header_front, header_last, header_of_parts, length-header, value-header}
 use Rattle.job_ledger.proofs.header.size_of.Goals as goal
 

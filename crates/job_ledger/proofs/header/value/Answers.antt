@@ -1,4 +1,4 @@
-use Rattle.std.proofs.Common.{refl, sym, rules}
+use Rattle.std.proofs.Common.{refl, rules}
 use Rattle.job_ledger.specs.Values.{value_of}
 use Rattle.job_ledger.proofs.HeaderLemmas.{value_more}
 use Rattle.job_ledger.proofs.header.value.Goals as goal

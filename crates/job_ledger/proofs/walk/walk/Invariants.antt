@@ -12,7 +12,7 @@ invariant-records g l = record {
   within : l.at < l.size;
   placed : ArePlaced l.spans.items l.at;
   window : (f : List ℕ) → g.D.Disk.seen l.fn.disk ≡ Some f → l.size ≡ length f → IsWindow l.window f;
-  reached : (f : List ℕ) → g.D.Disk.seen l.fn.disk ≡ Some f → l.size ≡ length f → IsReached l.spans.items l.at f
+  reached : (f : List ℕ) → g.D.Disk.seen l.fn.disk ≡ Some f → l.size ≡ length f → IsReached l.spans.items l.at f;
 }
 
 abbrev pub decreases-records : goal.decreases-records

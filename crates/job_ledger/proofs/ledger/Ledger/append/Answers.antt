@@ -1,5 +1,4 @@
-use Rattle.std.proofs.Common.{rules, arith, ◌≡◌, ◌++◌, ◌∷◌, [], length}
-use Rattle.job_ledger.specs.Ledgers.{IsAt}
+use Rattle.std.proofs.Common.{rules, arith}
 use Rattle.job_ledger.proofs.LedgerLemmas.{is_at_more, stand}
 use Rattle.job_ledger.proofs.ledger.Ledger.append.Goals as goal
 

@@ -1,4 +1,4 @@
-use Rattle.std.proofs.Common.{rules, ◌≡◌, ◌⊎◌, inl, inr, ℕ, List, [], ◌∷◌, length, refl, subst}
+use Rattle.std.proofs.Common.{rules, ◌⊎◌, inl, inr, [], ◌∷◌, length, refl, subst}
 use Rattle.disk_core.proofs.Moments.{joined}
 use Rattle.job_ledger.specs.Ledgers.{IsPastLimit, Known, new_ledger}
 use Rattle.job_ledger.specs.Records.{HasNoRun, Records}
@@ -6,11 +6,10 @@ use Rattle.job_ledger.proofs.LedgerLemmas.{is_at_more}
 use Rattle.job_ledger.proofs.ledger.Ledger.create.Goals as goal
 
 pub returns-in_err-bytes-clause-past : goal.returns-in_err-bytes-clause-past
-returns-in_err-bytes-clause-past g c need most is =
-    (
-      subst (λ (l : Known). IsPastLimit l (length c.args.payload.now) need most) c.empty-ledger.ensures (c.in_err-bytes.ensures.past need most (search rules)),
-      λ f told. (c.in_ok-size.ensures.none f told).1,
-    )
+returns-in_err-bytes-clause-past g c need most is = (
+  subst (λ (l : Known). IsPastLimit l (length c.args.payload.now) need most) c.empty-ledger.ensures (c.in_err-bytes.ensures.past need most (search rules)),
+  λ f told. (c.in_ok-size.ensures.none f told).1,
+)
 
 pub returns-in_err-write_first-clause-moments : goal.returns-in_err-write_first-clause-moments
 returns-in_err-write_first-clause-moments g c f told =
@@ -19,7 +18,7 @@ returns-in_err-write_first-clause-moments g c f told =
     let (size, none) = c.in_ok-size.ensures.none f told in
     let (now, only) = c.in_ok-size.ensures.same f told in
     joined d.moment d.since c.args.disk.now c.without_run.new.disk c.write_first.new.disk (d.images c.args.disk.now) (λ e. HasNoRun e ⊎ Records (p ∷ []) e) (λ e. d.images c.args.disk.now e ⊎ (HasNoRun e ⊎ Records (p ∷ []) e))
-      c.in_ok-size.ensures.leaves (c.write_first.ensures.moments f now p size none c.in_ok-bytes.ensures.short only (search rules)) (λ e. inl) (λ e. inr)
+    c.in_ok-size.ensures.leaves (c.write_first.ensures.moments f now p size none c.in_ok-bytes.ensures.short only (search rules)) (λ e. inl) (λ e. inr)
 
 pub returns-clause-moments : goal.returns-clause-moments
 returns-clause-moments g c f told =
@@ -28,7 +27,7 @@ returns-clause-moments g c f told =
     let (size, none) = c.in_ok-size.ensures.none f told in
     let (now, only) = c.in_ok-size.ensures.same f told in
     joined d.moment d.since c.args.disk.now c.without_run.new.disk c.write_first.new.disk (d.images c.args.disk.now) (λ e. HasNoRun e ⊎ Records (p ∷ []) e) (λ e. d.images c.args.disk.now e ⊎ (HasNoRun e ⊎ Records (p ∷ []) e))
-      c.in_ok-size.ensures.leaves (c.write_first.ensures.moments f now p size none c.in_ok-bytes.ensures.short only (search rules)) (λ e. inl) (λ e. inr)
+    c.in_ok-size.ensures.leaves (c.write_first.ensures.moments f now p size none c.in_ok-bytes.ensures.short only (search rules)) (λ e. inl) (λ e. inr)
 
 pub returns-clause-kept : goal.returns-clause-kept
 returns-clause-kept g c f told =

@@ -1,5 +1,4 @@
-use Rattle.std.proofs.Common.{◌≡◌, ◌∙◌, ap, ap₂, drop, length, take, Some}
-use Rattle.job_ledger.specs.Ledgers.{bytes_of}
+use Rattle.std.proofs.Common.{◌∙◌, ap₂, drop, take}
 use Rattle.job_ledger.proofs.SpanLemmas.{payload_read}
 use Rattle.job_ledger.proofs.ledger.Ledger.payload.Goals as goal
 

@@ -1,4 +1,4 @@
-use Rattle.std.proofs.Common.{rules, ◌≡◌, ◌∙◌, ℕ, List}
+use Rattle.std.proofs.Common.{rules, ◌∙◌}
 use Rattle.job_ledger.proofs.ledger.Ledger.reopen.Goals as goal
 
 pub returns-in_err-spans-clause-none : goal.returns-in_err-spans-clause-none
@@ -12,8 +12,7 @@ returns-clause-records g c f told =
     let synced = c.in_ok-sync_file.ensures.durable f told in
     let now = c.in_ok-size.ensures.quiet.same ∙ synced.0 in
     let last = c.in_ok-spans.ensures.quiet.same ∙ now in
-    let found = c.in_ok-spans.ensures.records f now (c.in_ok-size.ensures.len f synced.0) in
-    (
+    let found = c.in_ok-spans.ensures.records f now (c.in_ok-size.ensures.len f synced.0) in (
       found.payloads,
       found.some,
       found.has,

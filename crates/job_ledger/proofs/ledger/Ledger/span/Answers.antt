@@ -1,4 +1,4 @@
-use Rattle.std.proofs.Common.{arith, ap, ◌≡◌, ◌∙◌, ◌≤◌, ◌+◌}
+use Rattle.std.proofs.Common.{arith, ap, ◌≡◌, ◌∙◌}
 use Rattle.job_ledger.specs.Ledgers.{Known, end_of}
 use Rattle.job_ledger.proofs.SpanLemmas.{span_lies}
 use Rattle.job_ledger.proofs.ledger.Ledger.span.Goals as goal

@@ -1,4 +1,4 @@
-use Rattle.std.proofs.Common.{rules, arith, ◌≡◌, ◌-◌, ◌∙◌, length, drop, length-drop}
+use Rattle.std.proofs.Common.{arith, ◌≡◌, ◌∙◌, length, drop, length-drop}
 use Rattle.std.specs.Prelude.{min}
 use Rattle.job_ledger.proofs.WindowLemmas.{block_is}
 use Rattle.job_ledger.proofs.window.Window.fill.Goals as goal
