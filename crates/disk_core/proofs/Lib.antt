@@ -1,0 +1,4 @@
+pub mod FileLemmas
+pub mod Moments
+pub mod Pieces
+pub mod Quiets

@@ -1,0 +1,10 @@
+pub mod CrashLemmas
+pub mod EntryLemmas
+pub mod FrameLemmas
+pub mod GateLemmas
+pub mod HeaderLemmas
+pub mod LayoutLemmas
+pub mod LedgerLemmas
+pub mod SpanLemmas
+pub mod WalkLemmas
+pub mod WindowLemmas
