@@ -33,6 +33,7 @@ module _ (p : Polyhedron) (old new : Option (List ℕ)) (before now : ℕ) (Unwr
       written = written;
     };
     feasible = λ e. cc;
+    comes = tt;
     overflow = λ o e. absurd (cc);
     memory = λ e. absurd (cc);
     write_fault = λ e. absurd (cc);
@@ -46,6 +47,7 @@ module _ (p : Polyhedron) (old new : Option (List ℕ)) (before now : ℕ) (Unwr
   answers_write_fault totals are written rose = record {
     done = λ rows lines e. absurd (cc);
     feasible = λ e. cc;
+    comes = tt;
     overflow = λ o e. absurd (cc);
     memory = λ e. absurd (cc);
     write_fault = λ e. (rose, record { totals = totals; are_totals = are; written = written });
@@ -59,6 +61,7 @@ module _ (p : Polyhedron) (old new : Option (List ℕ)) (before now : ℕ) (Unwr
     answers_overflow o due = record {
       done = λ rows lines e. absurd (cc);
       feasible = λ e. cc;
+      comes = tt;
       overflow = λ a e. (subst (λ (x : Passed). IsDueInSearch p x) (same_overflow o a e) due, unwritten);
       memory = λ e. absurd (cc);
       write_fault = λ e. absurd (cc);
@@ -70,6 +73,7 @@ module _ (p : Polyhedron) (old new : Option (List ℕ)) (before now : ℕ) (Unwr
     answers_memory = record {
       done = λ rows lines e. absurd (cc);
       feasible = λ e. cc;
+      comes = tt;
       overflow = λ o e. absurd (cc);
       memory = λ e. unwritten;
       write_fault = λ e. absurd (cc);

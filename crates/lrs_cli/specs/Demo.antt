@@ -10,6 +10,7 @@ use Rattle.convert_core.specs.Listed.{IsDueInSearch}
 use Rattle.convert_core.specs.Totals.{AreTotals}
 use Rattle.lrs_cli.specs.declared.status.Status.{Status}
 use Rattle.lrs_cli.specs.declared.status.Status.TheVariants.{Done, Infeasible, Overflow, WriteFault, OutOfMemory}
+use Rattle.lrs_cli.specs.Answers.{ComesOfPolyhedron}
 
 -- three lines: how many rows, how many lines, and the sum
 abbrev pub totals_text : Totals → List ℕ
@@ -31,14 +32,15 @@ pub record WritesTotalsPart (old new : Option (List ℕ)) (p : Polyhedron) : Typ
   pub are_totals : AreTotals p totals
   pub written : AppendsPart old new (totals_text totals)
 
--- The answer of `demo` of the polyhedron p, which has a point: what is known of the output was `old` and is `new`, and so many writes had
--- failed before, and now. `Unwritten` says that the output is as it was.
+-- The answer of `demo` of the polyhedron p, which has a point: what is known of the output was `old` and is `new`, and so
+-- many writes had failed before, and now. `Unwritten` says that the output is as it was.
 pub record AnswersDemo (p : Polyhedron) (old new : Option (List ℕ)) (before now : ℕ) (Unwritten : Type 0)
     (answer : Status) : Type 0 where
   -- done: what a listing of p comes to was written
   pub done : (rows lines : ℕ) → answer ≡ Done rows lines → WritesTotals old new rows lines p
-  -- never infeasible
+  -- never infeasible, and none of the answers that speak of words or of an input
   pub feasible : answer ≡ Infeasible → ⊥
+  pub comes : ComesOfPolyhedron answer
   -- overflow: a product passes, of a pivot that the search cannot do without. Then nothing was written
   pub overflow : (o : Passed) → answer ≡ Overflow o → IsDueInSearch p o × Unwritten
   -- out of memory: nothing was written
