@@ -3,12 +3,12 @@ use Rattle.std.proofs.Common.{◌≡◌, ℕ, ◌≤◌, List, Option, Some, Non
 use Rattle.std.specs.Prelude.{option_and_then}
 use Rattle.clap.specs.Words.{Row, Text, first_of}
 use Rattle.command_line.specs.Laws.{IsInRange}
-use Rattle.command_line.specs.Lines.{AskFor, Says, number_in}
+use Rattle.command_line.specs.Lines.{AskFor, Says, number_within}
 use Rattle.command_line.specs.declared.lines.Line.{Line}
 use Rattle.command_line.specs.declared.lines.Line.TheVariants.{Convert, Demo}
 use Rattle.command_line.proofs.NumberTexts.{within, none_some}
 
-of_text : (first : Option Text) (n : ℕ) → option_and_then (number_in 1 20) first ≡ Some n → (1 ≤ n) × (n ≤ 20)
+of_text : (first : Option Text) (n : ℕ) → option_and_then (number_within 1 20) first ≡ Some n → (1 ≤ n) × (n ≤ 20)
 of_text None n e = absurd (none_some n e)
 of_text (Some text) n e = within 1 20 text n e
 

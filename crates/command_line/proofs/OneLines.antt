@@ -4,9 +4,10 @@ use Rattle.std.specs.Prelude.{option_and_then}
 use Rattle.clap.specs.Words.{Row, Text, first_of, subcommand_of}
 use Rattle.example_polys.specs.declared.kind.ExampleKind.{ExampleKind}
 use Rattle.example_polys.specs.declared.kind.ExampleKind.TheVariants.{Cube, Cross, Product, Pyramid}
-use Rattle.command_line.specs.Lines.{AskFor, Says, lrs_app, name_of, number_in, word_of}
+use Rattle.command_line.specs.Lines.{AskFor, Says, lrs_app, name_of, number_within, word_of}
 use Rattle.command_line.specs.declared.lines.Line.{Line}
 use Rattle.command_line.specs.declared.lines.Line.TheVariants.{Convert, Demo}
+use Rattle.command_line.proofs.FoundWords.{same_some}
 
 one_kind : (a b : ExampleKind) → word_of a ≡ word_of b → a ≡ b
 one_kind Cube Cube e = refl
@@ -25,9 +26,6 @@ one_kind Pyramid Cube e = absurd (cc)
 one_kind Pyramid Cross e = absurd (cc)
 one_kind Pyramid Product e = absurd (let second : 121 ≡ 114 = ap (λ (w : Text). get_or w 1 0) e in omega (arith, second))
 one_kind Pyramid Pyramid e = refl
-
-same_some : {A : Type 0} (x y : A) → Some x ≡ Some y → x ≡ y
-same_some x y e = cc
 
 same_name : (p q : Text × List Row) → Some p ≡ Some q → p.0 ≡ q.0
 same_name p q e = ap (λ (x : Text × List Row). x.0) (same_some p q e)

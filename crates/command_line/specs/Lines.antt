@@ -57,8 +57,8 @@ word_of Product = codes "product"
 word_of Pyramid = codes "pyramid"
 
 -- the number that a text says, where it says one in these bounds
-abbrev pub number_in : ℕ → ℕ → Text → Option ℕ
-number_in least most text =
+abbrev pub number_within : ℕ → ℕ → Text → Option ℕ
+number_within least most text =
     if is_unsigned_in least most text then Some (digits_value 10 (without_leading_plus text)) else None
 
 -- what clap found for the words of a command is what the line says
@@ -66,7 +66,7 @@ abbrev pub Says : List Row → Line → Type 0
 Says rows Convert = ⊤
 Says rows (Demo kind n) =
     (first_of (codes "KIND") rows ≡ Some (word_of kind))
-    × (option_and_then (number_in 1 20) (first_of (codes "N") rows) ≡ Some n)
+    × (option_and_then (number_within 1 20) (first_of (codes "N") rows) ≡ Some n)
 
 -- the words ask for this line: clap finds no fault with them, and they name its command, whose words say the line
 pub record AskFor (words : List Text) (line : Line) : Type 0 where

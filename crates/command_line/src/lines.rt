@@ -2,7 +2,7 @@
 ghost use Rattle.std.specs.Prelude.{◌≡◌, ◌↔◌, ◌≤◌, [], map, codes, ℕ, IfOk, OnOk, IsErrOf, IfSome, IsNone, Some, option_and_then};
 ghost use Rattle.clap.specs.Words.{fault_of, first_of, found_of, kind_of, rows_of, subcommand_of, subcommand_rows_of};
 ghost use Rattle.example_polys.specs.declared.kind.ExampleKind.{ExampleKind as Family};
-ghost use Rattle.command_line.specs.Lines.{IsAccepted, AskFor, Says, lrs_app, name_of, number_in, word_of};
+ghost use Rattle.command_line.specs.Lines.{IsAccepted, AskFor, Says, lrs_app, name_of, number_within, word_of};
 
 use crate::commands::lrs_command;
 use clap::error::ErrorKind;
@@ -110,7 +110,7 @@ fn kind_given(given: &ArgMatches) -> Option<ExampleKind>
 
 // The number that the word says that was found for N.
 fn number_given(given: &ArgMatches) -> Option<u32>
-    ensures { result ≡ option_and_then (number_in 1 20) (first_of (codes "N") (rows_of (found_of given.now))) }
+    ensures { result ≡ option_and_then (number_within 1 20) (first_of (codes "N") (rows_of (found_of given.now))) }
 {
     match given.get_str("N") {
         Some(word) => number_said(word),
@@ -138,7 +138,7 @@ fn kind_named(word: &str) -> Option<ExampleKind>
 
 // The number from 1 to 20 that the word says.
 fn number_said(word: &str) -> Option<u32>
-    ensures { result ≡ number_in 1 20 word.now }
+    ensures { result ≡ number_within 1 20 word.now }
 {
     match word.parse::<u32>() {
         Ok(n) => if_within(n),

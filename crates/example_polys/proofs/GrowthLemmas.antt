@@ -1,7 +1,8 @@
 -- Lists of rows, and their cells, that grow by what one turn of a loop puts behind them.
 use Rattle.std.proofs.Common.{◌≡◌, ℕ, zero, suc, ◌+◌, ℤ, List, [], ◌∷◌, ◌++◌, map, replicate, sym, ap, ◌∙◌, append-nil, append_assoc, add-one, arith}
 use Rattle.std.specs.List.{flat_map, range_with_len}
-use Rattle.std.proofs.lemmas.List.{map-append, replicate-append-replicate}
+use Rattle.std.proofs.lemmas.List.{map-id, replicate-append-replicate}
+use Rattle.std.proofs.lemmas.List.FromFn.{map-range_with_len_more}
 use Rattle.std.proofs.lemmas.Grind.{flat_map-append}
 use Rattle.poly_num.specs.Vectors.{Vector}
 use Rattle.example_polys.specs.Cells.{end_to_end}
@@ -9,14 +10,10 @@ use Rattle.example_polys.specs.Cells.{end_to_end}
 pub replicate_more : {X : Type 0} (n : ℕ) (x : X) → replicate (n + 1) x ≡ replicate n x ++ x ∷ []
 replicate_more n x = sym (replicate-append-replicate n 1 x)
 
-range_suc : (a n : ℕ) → range_with_len a (suc n) ≡ range_with_len a n ++ (a + n) ∷ []
-range_suc a zero = let same : a ≡ a + 0 = omega arith in ap (λ k. k ∷ []) same
-range_suc a (suc n) =
-    let next : a + 1 + n ≡ a + suc n = omega arith in
-    ap (λ l. a ∷ l) (range_suc (a + 1) n ∙ ap (λ k. range_with_len (a + 1) n ++ k ∷ []) next)
-
-pub range_more : (a n : ℕ) → range_with_len a (n + 1) ≡ range_with_len a n ++ (a + n) ∷ []
-range_more a n = ap (range_with_len a) (add-one n) ∙ range_suc a n
+range_grows : (n : ℕ) → range_with_len 0 (n + 1) ≡ range_with_len 0 n ++ n ∷ []
+range_grows n =
+    sym (map-id (range_with_len 0 (n + 1))) ∙ map-range_with_len_more (λ k. k) 0 n n (omega arith)
+    ∙ ap (λ l. l ++ n ∷ []) (map-id (range_with_len 0 n))
 
 pub end_to_end-append : (rows more : List Vector) → end_to_end (rows ++ more) ≡ end_to_end rows ++ end_to_end more
 end_to_end-append rows more = flat_map-append (λ row. row) rows more
@@ -26,9 +23,8 @@ pub rows_more : (f : ℕ → Vector) (n : ℕ) →
     end_to_end (map f (range_with_len 0 (n + 1))) ≡ end_to_end (map f (range_with_len 0 n)) ++ f n
 rows_more f n =
     let here = map f (range_with_len 0 n) in
-    let last : 0 + n ≡ n = omega arith in
-    ap (λ l. end_to_end (map f l)) (range_more 0 n) ∙ ap end_to_end (map-append f (range_with_len 0 n) _) ∙
-    end_to_end-append here _ ∙ ap (λ l. end_to_end here ++ l) (append-nil (f (0 + n)) ∙ ap f last)
+    ap end_to_end (map-range_with_len_more f 0 n n (omega arith)) ∙
+    end_to_end-append here (f n ∷ []) ∙ ap (λ l. end_to_end here ++ l) (append-nil (f n))
 
 -- one more group of rows
 pub groups_more : (f : ℕ → List Vector) (n : ℕ) →
@@ -36,9 +32,8 @@ pub groups_more : (f : ℕ → List Vector) (n : ℕ) →
     ≡ end_to_end (flat_map f (range_with_len 0 n)) ++ end_to_end (f n)
 groups_more f n =
     let here = flat_map f (range_with_len 0 n) in
-    let last : 0 + n ≡ n = omega arith in
-    ap (λ l. end_to_end (flat_map f l)) (range_more 0 n) ∙ ap end_to_end (flat_map-append f (range_with_len 0 n) _) ∙
-    end_to_end-append here _ ∙ ap (λ l. end_to_end here ++ end_to_end l) (append-nil (f (0 + n)) ∙ ap f last)
+    ap (λ l. end_to_end (flat_map f l)) (range_grows n) ∙ ap end_to_end (flat_map-append f (range_with_len 0 n) (n ∷ [])) ∙
+    end_to_end-append here (f n ++ []) ∙ ap (λ l. end_to_end here ++ end_to_end l) (append-nil (f n))
 
 -- a list that grew twice
 pub two_behind : (old now mid new here s t : Vector) → now ≡ old ++ here → mid ≡ now ++ s → new ≡ mid ++ t →

@@ -172,7 +172,13 @@ fn reads_columns(rt: HostRuntime) -> Result<(), Fail> {
 
 /// The vector of the column, and whether it is shown.
 fn column(alloc: Global, case: Case) -> Result<(Vec<i128>, Option<bool>), Fail> {
-    let poly = poly_of(alloc, case.file.kind, case.file.n, case.file.entries, case.file.linear)?;
+    let poly = poly_of(
+        alloc,
+        case.file.kind,
+        case.file.n,
+        case.file.entries,
+        case.file.linear,
+    )?;
     let sys = system_of(alloc, &poly)?;
     let dict = dictionary_at(alloc, &sys, case.exchanges)?;
     let col = label_of(case.col).ok_or("a label")?;

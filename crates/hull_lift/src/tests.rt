@@ -140,7 +140,13 @@ struct Cone {
 fn gives_the_rows_of_the_cone(rt: HostRuntime) -> Result<(), Fail> {
     let alloc = rt.alloc();
     for case in CASES {
-        let poly = poly_of(alloc, case.file.kind, case.file.n, case.file.entries, case.file.linear)?;
+        let poly = poly_of(
+            alloc,
+            case.file.kind,
+            case.file.n,
+            case.file.entries,
+            case.file.linear,
+        )?;
         let found = cone_of(alloc, &system_of(alloc, &poly)?)?;
         let want = Cone {
             kind: case.file.kind,

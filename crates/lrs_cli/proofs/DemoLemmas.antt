@@ -17,9 +17,6 @@ same_rows a b c d e = cc
 same_lines : (a b c d : ℕ) → Done a b ≡ Done c d → b ≡ d
 same_lines a b c d e = cc
 
-same_overflow : (a b : Passed) → Overflow a ≡ Overflow b → a ≡ b
-same_overflow a b e = cc
-
 module _ (p : Polyhedron) (old new : Option (List ℕ)) (before now : ℕ) (Unwritten : Type 0) where
   pub answers_done : (totals : Totals) → AreTotals p totals →
       Appends old new (totals_text totals) → now ≡ before →
@@ -62,7 +59,7 @@ module _ (p : Polyhedron) (old new : Option (List ℕ)) (before now : ℕ) (Unwr
       done = λ rows lines e. absurd (cc);
       feasible = λ e. cc;
       comes = tt;
-      overflow = λ a e. (subst (λ (x : Passed). IsDueInSearch p x) (same_overflow o a e) due, unwritten);
+      overflow = λ a e. (subst (λ (x : Passed). IsDueInSearch p x) (cc) due, unwritten);
       memory = λ e. absurd (cc);
       write_fault = λ e. absurd (cc);
       writes = λ n. same;

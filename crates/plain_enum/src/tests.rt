@@ -221,7 +221,10 @@ const CASES: [Case; 24] = [
 fn tells_whether_a_file_is_feasible(rt: HostRuntime) -> Result<(), Fail> {
     for case in CASES {
         let alloc = rt.alloc();
-        let cone = system_of(alloc, &poly_of(alloc, case.kind, case.n, case.entries, case.linear)?)?;
+        let cone = system_of(
+            alloc,
+            &poly_of(alloc, case.kind, case.n, case.entries, case.linear)?,
+        )?;
         let found = (is_feasible(alloc, &cone)?, is_listed(alloc, &cone)?);
         assert_eq!(rt; found, (case.feasible, case.feasible), "{}", case.name);
     }

@@ -5,11 +5,11 @@ use Rattle.poly_model.specs.Dictionaries.{Table}
 use Rattle.dictionary.specs.Views.{Dictionary}
 use Rattle.reverse_step.specs.Walks.{Walk, IsWalkIn}
 use Rattle.reverse_step.specs.Runs.{HasRun}
-use Rattle.reverse_step.specs.Ways.{IsReached}
+use Rattle.reverse_step.specs.Ways.{StandsAtKey}
 use Rattle.reverse_step.specs.Starts.{unparented, IsAtKey}
 use Rattle.reverse_step.proofs.WayLemmas.{reached_feasible}
 
-pub at_key : (old : Walk) (now : Dictionary) (key : List ℕ) → IsReached old.root old.dict key now →
+pub at_key : (old : Walk) (now : Dictionary) (key : List ℕ) → StandsAtKey old.root old.dict key now →
     IsAtKey old key (record { dict = now; root = old.root; job = key; at = 0; parent = None })
 at_key old now key h = record {
   root = refl;

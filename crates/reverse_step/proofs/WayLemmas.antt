@@ -24,7 +24,7 @@ use Rattle.dictionary.specs.Views.{Dictionary, table_of, IsDictionaryIn, IsPivot
 use Rattle.search_laws.proofs.AnyShown.{feasible_too}
 use Rattle.lex_pivot.specs.Feasible.{AreListsPositive}
 use Rattle.reverse_step.specs.Walks.{Stands}
-use Rattle.reverse_step.specs.Ways.{IsOnTheWay, NoneGivesWay, StopsOnTheWay, IsNoCobasis, IsReached, IsNoFeasibleKey, Reaches}
+use Rattle.reverse_step.specs.Ways.{LiesBetween, NoneGivesWay, StopsOnTheWay, IsNoCobasis, StandsAtKey, IsNoFeasibleKey, Reaches}
 
 -- ---- labels one after the other
 -- what holds of those before one and of it
@@ -46,10 +46,10 @@ is_not_false true h = refl
 is_not_false false h = absurd (true≢false h)
 
 -- ---- the way
-pub stays : (d : Dictionary) (to : List ℕ) → IsOnTheWay d to d
+pub stays : (d : Dictionary) (to : List ℕ) → LiesBetween d to d
 stays d to = record { phase = refl; labels = refl; width = refl; between = λ k c. inl c; dictionary = λ space p h. h }
 
-pub goes_on : (a b c : Dictionary) (to : List ℕ) → IsOnTheWay a to b → IsOnTheWay b to c → IsOnTheWay a to c
+pub goes_on : (a b c : Dictionary) (to : List ℕ) → LiesBetween a to b → LiesBetween b to c → LiesBetween a to c
 goes_on a b c to v w = record {
   phase = w.phase ∙ v.phase;
   labels = w.labels ∙ v.labels;
@@ -59,7 +59,7 @@ goes_on a b c to v w = record {
 }
 
 -- a pivot of a label of the key
-pub pivots_on : (old new : Dictionary) (to : List ℕ) (r s : ℕ) → Contains to r → IsPivot old r s new → IsOnTheWay old to new
+pub pivots_on : (old new : Dictionary) (to : List ℕ) (r s : ℕ) → Contains to r → IsPivot old r s new → LiesBetween old to new
 pivots_on old new to r s c p = record {
   phase = p.phase;
   labels = p.labels;
@@ -76,7 +76,7 @@ pub stays_in : (old new : Dictionary) (to : List ℕ) (r s : ℕ) → (Contains 
 stays_in old new to r s n p k m c = p.key.exchanges.kept k c (λ e. n (subst (Contains to) e m))
 
 -- an overflow further on
-pub stops_later : (a b : Dictionary) (to : List ℕ) (o : Overflow) → IsOnTheWay a to b → StopsOnTheWay b to o → StopsOnTheWay a to o
+pub stops_later : (a b : Dictionary) (to : List ℕ) (o : Overflow) → LiesBetween a to b → StopsOnTheWay b to o → StopsOnTheWay a to o
 stops_later a b to o w x = record {
   at = x.at;
   way = goes_on a b x.at to w x.way;
@@ -88,7 +88,7 @@ stops_later a b to o w x = record {
 }
 
 -- what is no cobasis was none
-pub none_before : (a b : Dictionary) (to : List ℕ) → IsOnTheWay a to b → IsNoCobasis b to → IsNoCobasis a to
+pub none_before : (a b : Dictionary) (to : List ℕ) → LiesBetween a to b → IsNoCobasis b to → IsNoCobasis a to
 none_before a b to w n space p h c = n space p (w.dictionary space p h) c
 
 -- ---- cobases
@@ -143,7 +143,7 @@ same_key space key to c g a b all = ascending_is_one key to a b back all
 -- ---- the end of the way
 -- it is lexicographically feasible
 pub reached_feasible : (space : Space) (home : Table) (root : List ℕ) (from now : Dictionary) (to : List ℕ) →
-    IsReached root from to now → Stands space home root from → Stands space home root now
+    StandsAtKey root from to now → Stands space home root from → Stands space home root now
 reached_feasible space home root from now to h st = record {
   ascending = st.ascending;
   feasible_root = st.feasible_root;
@@ -176,7 +176,7 @@ module _ (root : List ℕ) (from : Dictionary) (to : List ℕ) where
   pub not_cobasis : IsNoCobasis from to → IsNoFeasibleKey root from to
   not_cobasis n space home st f = n space st.feasible.dictionary.points st.dictionary f.1.dictionary.dictionary.cobasis
 
-  module _ (now : Dictionary) (w : IsOnTheWay from to now) (all : (k : ℕ) → Contains to k → Contains now.key k) where
+  module _ (now : Dictionary) (w : LiesBetween from to now) (all : (k : ℕ) → Contains to k → Contains now.key k) where
     -- the labels are in the cobasis, and it has others
     pub not_there : IsAscending now.key → (now.key ≡ to → ⊥) → IsNoFeasibleKey root from to
     not_there up n space home st f =

@@ -12,7 +12,7 @@ use Rattle.lex_pivot.specs.Feasible.{AreListsPositive}
 use Rattle.reverse_step.specs.Walks.{Stands}
 
 -- a dictionary on the way: its key has labels of the two keys alone, and it is that of its cobasis wherever the first is
-pub record IsOnTheWay (from : Dictionary) (to : List ℕ) (now : Dictionary) : Type 0 where
+pub record LiesBetween (from : Dictionary) (to : List ℕ) (now : Dictionary) : Type 0 where
   pub phase : now.phase ≡ from.phase
   pub labels : now.labels ≡ from.labels
   pub width : length now.columns ≡ length from.columns
@@ -31,7 +31,7 @@ NoneGivesWay d to r = (k : ℕ) → Contains d.key k → (Contains to k → ⊥)
 -- on the way a number passes, in such a pivot of a label of the key
 pub record StopsOnTheWay (from : Dictionary) (to : List ℕ) (o : Overflow) : Type 0 where
   pub at : Dictionary
-  pub way : IsOnTheWay from to at
+  pub way : LiesBetween from to at
   pub r : ℕ
   pub s : ℕ
   pub row : Contains to r
@@ -43,18 +43,18 @@ abbrev pub IsNoCobasis : Dictionary → List ℕ → Type 0
 IsNoCobasis d key = (space : Space) → HasPoints space → IsDictionaryIn space d → IsCobasis space key → ⊥
 
 -- true: the label is in the cobasis; false: the key is no cobasis
-abbrev pub IsEntered : Dictionary → List ℕ → ℕ → Bool → Dictionary → Type 0
-IsEntered from to label true now = Contains now.key label
-IsEntered from to label false now = IsNoCobasis from to
+abbrev pub IsTakenIn : Dictionary → List ℕ → ℕ → Bool → Dictionary → Type 0
+IsTakenIn from to label true now = Contains now.key label
+IsTakenIn from to label false now = IsNoCobasis from to
 
 -- the same of all labels of the key
-abbrev pub AreEntered : Dictionary → List ℕ → Bool → Dictionary → Type 0
-AreEntered from to true now = (k : ℕ) → Contains to k → Contains now.key k
-AreEntered from to false now = IsNoCobasis from to
+abbrev pub AreTakenIn : Dictionary → List ℕ → Bool → Dictionary → Type 0
+AreTakenIn from to true now = (k : ℕ) → Contains to k → Contains now.key k
+AreTakenIn from to false now = IsNoCobasis from to
 
 -- at the key, which is a lexicographically feasible cobasis of rows wherever the first is one
-pub record IsReached (root : List ℕ) (from : Dictionary) (to : List ℕ) (now : Dictionary) : Type 0 where
-  pub way : IsOnTheWay from to now
+pub record StandsAtKey (root : List ℕ) (from : Dictionary) (to : List ℕ) (now : Dictionary) : Type 0 where
+  pub way : LiesBetween from to now
   pub there : now.key ≡ to
   pub ascending : IsAscending to
   pub rows : (k : ℕ) → Contains to k → Contains (rows_in from.labels) k
@@ -66,5 +66,5 @@ IsNoFeasibleKey root d key = (space : Space) (home : Table) → Stands space hom
 
 -- true: it is reached; false: it is none
 abbrev pub Reaches : List ℕ → Dictionary → List ℕ → Bool → Dictionary → Type 0
-Reaches root from to true now = IsReached root from to now
+Reaches root from to true now = StandsAtKey root from to now
 Reaches root from to false now = IsNoFeasibleKey root from to

@@ -9,7 +9,7 @@ ghost use Rattle.poly_model.specs.Spaces.{is_member};
 ghost use Rattle.dictionary.specs.Views.{table_of};
 ghost use Rattle.lex_pivot.specs.Feasible.{AreListsPositive};
 ghost use Rattle.reverse_step.specs.Walks.{AreAlike};
-ghost use Rattle.reverse_step.specs.Ways.{IsOnTheWay, GivesWay, NoneGivesWay, StopsOnTheWay, IsEntered, AreEntered, Reaches};
+ghost use Rattle.reverse_step.specs.Ways.{LiesBetween, GivesWay, NoneGivesWay, StopsOnTheWay, IsTakenIn, AreTakenIn, Reaches};
 
 use dictionary::{Dict, Steps};
 use lex_pivot::{Order, is_lex_feasible_by};
@@ -75,8 +75,8 @@ fn enter_all<L: Ledger>(
     steps: &mut Steps<L>,
 ) -> Result<bool, Overflow>
     requires { (k : ℕ) → Contains key.now k → Contains dict.old.labels k }
-    ensures way { IsOnTheWay dict.old key.now dict.new }
-    ensures entered { IfOk result (λ b. AreEntered dict.old key.now b dict.new) }
+    ensures way { LiesBetween dict.old key.now dict.new }
+    ensures entered { IfOk result (λ b. AreTakenIn dict.old key.now b dict.new) }
     ensures stops { IfErr result (λ o. StopsOnTheWay dict.old key.now o) }
     ensures counted { steps.new ≤ steps.old + length key.now }
 {
@@ -98,9 +98,9 @@ fn enter<L: Ledger>(
 ) -> Result<bool, Overflow>
     requires label { Contains dict.old.labels label }
     requires key { Contains key.now label }
-    ensures way { IsOnTheWay dict.old key.now dict.new }
+    ensures way { LiesBetween dict.old key.now dict.new }
     ensures kept { (k : ℕ) → Contains key.now k → Contains dict.old.key k → Contains dict.new.key k }
-    ensures entered { IfOk result (λ b. IsEntered dict.old key.now label b dict.new) }
+    ensures entered { IfOk result (λ b. IsTakenIn dict.old key.now label b dict.new) }
     ensures stops { IfErr result (λ o. StopsOnTheWay dict.old key.now o) }
     ensures counted { steps.new ≤ steps.old + 1 }
 {

@@ -3,7 +3,7 @@ use Rattle.std.proofs.Common.{◌≡◌, ℕ, ◌+◌, ◌%◌, ◌^◌, List, [
 use Rattle.std.proofs.lemmas.List.Sums.{sum_by-append}
 use Rattle.poly_num.specs.Vectors.{Vector}
 use Rattle.row_printer.specs.declared.tally.Tally.{Tally}
-use Rattle.row_printer.specs.Rows.{counted, sizes_of, sum_of_sizes, Counts}
+use Rattle.row_printer.specs.Rows.{counted, entries_size, sum_of_sizes, Counts}
 
 -- no rows
 pub counts_none : (a : Tally) → Counts a a []
@@ -21,5 +21,5 @@ counts_more a b c xs ys f g = record {
   rows = g.rows ∙ ap (λ n. counted n (length ys)) f.rows ∙ counted_more a.rows (length xs) (length ys)
       ∙ ap (counted a.rows) (sym (length-append xs ys));
   sum = g.sum ∙ ap (λ n. (n + sum_of_sizes ys) % 2 ^ 64) f.sum ∙ summed_more a.sum (sum_of_sizes xs) (sum_of_sizes ys)
-      ∙ ap (λ n. (a.sum + n) % 2 ^ 64) (sym (sum_by-append sizes_of xs ys));
+      ∙ ap (λ n. (a.sum + n) % 2 ^ 64) (sym (sum_by-append entries_size xs ys));
 }

@@ -12,12 +12,12 @@ abbrev pub counted : ℕ → ℕ → ℕ
 counted rows more = min (rows + more) (2 ^ 64 - 1)
 
 -- the sum of the sizes of the entries of a vector
-abbrev pub sizes_of : Vector → ℕ
-sizes_of v = sum_by unsigned_abs v
+abbrev pub entries_size : Vector → ℕ
+entries_size v = sum_by unsigned_abs v
 
 -- the sum of the sizes of all entries of these vectors
 abbrev pub sum_of_sizes : List Vector → ℕ
-sum_of_sizes shown = sum_by sizes_of shown
+sum_of_sizes shown = sum_by entries_size shown
 
 -- the rows of these vectors were counted; of the sizes of their entries the sum is known modulo 2^64
 pub record Counts (before now : Tally) (shown : List Vector) : Type 0 where

@@ -1,6 +1,6 @@
 //! Rows that are counted.
 ghost use Rattle.std.specs.Prelude.{◌≡◌, ◌^◌, ◌+◌, ◌%◌, ◌∷◌, []};
-ghost use Rattle.row_printer.specs.Rows.{Counts, sizes_of};
+ghost use Rattle.row_printer.specs.Rows.{Counts, entries_size};
 
 use crate::tally::Tally;
 use poly_num::Num;
@@ -27,7 +27,7 @@ impl Tally {
 
 // The sum with the sizes of these entries, modulo 2^64.
 fn with_sizes(sum: u64, v: &[Num]) -> u64
-    ensures { result ≡ (sum + sizes_of v.now) % 2 ^ 64 }
+    ensures { result ≡ (sum + entries_size v.now) % 2 ^ 64 }
 {
     let mut sum = sum;
     for x in v {

@@ -1,13 +1,13 @@
 use Rattle.std.proofs.Common.{Err, sym, ap, subst, ◌∙◌, true≢false}
 use Rattle.std.specs.Prelude.{IfErr}
 use Rattle.std.proofs.lemmas.Result.{err_from_is_err_and}
-use Rattle.reverse_step.specs.Ways.{IsOnTheWay, StopsOnTheWay}
+use Rattle.reverse_step.specs.Ways.{LiesBetween, StopsOnTheWay}
 use Rattle.reverse_step.proofs.WayLemmas.{stays, pivots_on, depends}
 use Rattle.reverse_step.proofs.way.enter.Goals as goal
 
 pub returns-in_err-pivot-in-Some-clause-way : goal.returns-in_err-pivot-in-Some-clause-way
 returns-in_err-pivot-in-Some-clause-way g c =
-    subst (IsOnTheWay c.args.dict.now c.args.key.now) (sym c.in_err-pivot-in-Some.ensures.unchanged)
+    subst (LiesBetween c.args.dict.now c.args.key.now) (sym c.in_err-pivot-in-Some.ensures.unchanged)
     (stays c.args.dict.now c.args.key.now)
 
 pub returns-in_err-pivot-in-Some-clause-stops : goal.returns-in_err-pivot-in-Some-clause-stops

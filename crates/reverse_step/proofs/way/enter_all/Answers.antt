@@ -3,7 +3,7 @@ use Rattle.std.specs.Prelude.{IfErr}
 use Rattle.std.specs.List.{Contains}
 use Rattle.std.proofs.lemmas.Result.{err_from_is_err_and}
 use Rattle.lex_pivot.proofs.EarlierLemmas.{at_each}
-use Rattle.reverse_step.specs.Ways.{StopsOnTheWay, IsEntered}
+use Rattle.reverse_step.specs.Ways.{StopsOnTheWay, IsTakenIn}
 use Rattle.reverse_step.proofs.WayLemmas.{and_one, stands_at, goes_on, stops_later}
 use Rattle.reverse_step.proofs.way.enter_all.Goals as goal
 
@@ -35,7 +35,7 @@ labels-preserved g c =
     record {
       way = goes_on c.args.dict.now c.labels.dict c.enter.new.dict key c.labels.invariant.way c.in_ok-enter.ensures.way;
       entered = and_one (Contains c.enter.new.dict.key) key c.labels.i c.index-key-i.result l c.index-key-i.is
-          (subst (λ (b : Bool). IsEntered c.labels.dict key c.index-key-i.result b c.enter.new.dict) c.if-not-branch.false
+          (subst (λ (b : Bool). IsTakenIn c.labels.dict key c.index-key-i.result b c.enter.new.dict) c.if-not-branch.false
           c.in_ok-enter.ensures.entered)
           (λ j m. c.in_ok-enter.ensures.kept (get_or key j 0) (stands_at key j (omega arith)) (c.labels.invariant.entered j m));
       counted = let a = c.in_ok-enter.ensures.counted in let b = c.labels.invariant.counted in omega arith;

@@ -3,7 +3,7 @@ use Rattle.std.specs.List.{Contains}
 use Rattle.dictionary.specs.Views.{Dictionary}
 use Rattle.poly_model.specs.Keys.{IsAscending}
 use Rattle.lex_pivot.proofs.EarlierLemmas.{row_only}
-use Rattle.reverse_step.specs.Ways.{IsOnTheWay, AreEntered, Reaches}
+use Rattle.reverse_step.specs.Ways.{LiesBetween, AreTakenIn, Reaches}
 use Rattle.reverse_step.proofs.WayLemmas.{not_rows, not_there, ends_there}
 use Rattle.reverse_step.proofs.way.reach.Goals.{then-is_at, else-is_at}
 use Rattle.reverse_step.proofs.way.reach.Goals as goal
@@ -26,12 +26,12 @@ returns-clause-reached g c =
     let up = subst IsAscending key c.labels.ensures.key.ascending in
     let rows = λ (k : ℕ) (m : Contains c.args.key.now k). c.if-not-are_rows.ensures.0 refl k
     (subst (λ (ks : List ℕ). Contains ks k) (sym key) m) in
-    let way = subst (λ (d : Dictionary). IsOnTheWay d c.args.key.now c.enter_all.new.dict) c.copy_into.ensures
-    (subst (λ (ks : List ℕ). IsOnTheWay c.copy_into.new.to ks c.enter_all.new.dict) c.labels-2.ensures.value
+    let way = subst (λ (d : Dictionary). LiesBetween d c.args.key.now c.enter_all.new.dict) c.copy_into.ensures
+    (subst (λ (ks : List ℕ). LiesBetween c.copy_into.new.to ks c.enter_all.new.dict) c.labels-2.ensures.value
     c.in_ok-enter_all.ensures.way) in
     let all = subst (λ (ks : List ℕ). (k : ℕ) → Contains ks k → Contains c.enter_all.new.dict.key k)
     c.labels-2.ensures.value
-    (subst (λ (b : Bool). AreEntered c.copy_into.new.to c.labels-2.result.now b c.enter_all.new.dict)
+    (subst (λ (b : Bool). AreTakenIn c.copy_into.new.to c.labels-2.result.now b c.enter_all.new.dict)
     c.if-not-branch.false c.in_ok-enter_all.ensures.entered) in
     elim c.if-is_at.branch [
       | then-is_at w ↦ subst (λ (b : Bool). Reaches c.args.order.now c.args.here.now c.args.key.now b c.enter_all.new.dict)
