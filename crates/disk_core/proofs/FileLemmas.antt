@@ -4,10 +4,10 @@ use Rattle.std.specs.Prelude.{◌⊎◌}
 use Rattle.std.proofs.lemmas.List.{take_at, drop_at, drop-drop, take-append-le, take_all, length-take-le}
 use Rattle.std.proofs.lemmas.Bool.{cases_lt}
 use Rattle.disk_core.specs.Contents.{Holds, Torn as IsTorn, resized}
-use Rattle.disk_core.specs.Images.{Follows, Images, Only}
+use Rattle.disk_core.specs.Images.{ComesFrom, Images, Only}
 use Rattle.disk_core.specs.Moments.{Elapses}
 use Rattle.disk_core.specs.Memory.{After, History, first_image, images_of, next_history, replayed, since_of, step_images}
-use Rattle.disk_core.specs.Real.{IsReal, IsStep}
+use Rattle.disk_core.specs.Real.{IsReal, KeepsReal}
 use Rattle.disk_core.specs.declared.steps.Step.{Step}
 use Rattle.disk_core.specs.declared.steps.Step.TheVariants.{Written, Resized, Synced}
 use Rattle.disk_core.proofs.Moments.{torn_not}
@@ -21,7 +21,7 @@ pub after_more : (images : Images) (steps : List Step) (s : Step) (c : List ℕ)
 after_more images [] s c left = left
 after_more images (t ∷ steps) s c left = after_more (step_images t images) steps s c left
 
-pub real_next : (h : History) (s : Step) (bytes : List ℕ) (at len : ℕ) → IsStep h s bytes at len → IsReal (next_history h s bytes at len)
+pub real_next : (h : History) (s : Step) (bytes : List ℕ) (at len : ℕ) → KeepsReal h s bytes at len → IsReal (next_history h s bytes at len)
 real_next h s bytes at len step = record {
   reads = after_more (first_image h.first) h.steps s bytes step.reads;
   old = after_more (first_image h.first) h.steps s h.bytes step.old;
@@ -49,7 +49,7 @@ held_is_torn f b g at n le few e =
     }
 
 pub step_write : (h : History) (at done : ℕ) (b next : List ℕ) → IsReal h → at ≤ length h.bytes → at + length b < 2 ^ 64 → length (take done b) ≤ length b → Holds h.bytes at (take done b) next
-    → IsStep h (Written at (length b)) next at (length b)
+    → KeepsReal h (Written at (length b)) next at (length b)
 step_write h at done b next real le small few holds =
     let torn = held_is_torn h.bytes (take done b) next at (length b) le few holds in
     record {
@@ -58,14 +58,14 @@ step_write h at done b next real le small few holds =
       last = record { within = le; small = small; whole = λ _. torn; torn = λ _ c t. (h.bytes, real.reads, λ _. t) };
     }
 
-pub step_cut : (h : History) (len : ℕ) → IsReal h → IsStep h (Resized len) (resized len h.bytes) 0 0
+pub step_cut : (h : History) (len : ℕ) → IsReal h → KeepsReal h (Resized len) (resized len h.bytes) 0 0
 step_cut h len real = record {
   reads = (h.bytes, real.reads, inr refl);
   old = (h.bytes, real.reads, inl refl);
   last = record { within = omega arith; small = omega arith; whole = λ some. absurd (omega (arith, some)); torn = λ some. absurd (omega (arith, some)) };
 }
 
-pub step_sync : (h : History) → IsReal h → IsStep h (Synced h.bytes) h.bytes 0 0
+pub step_sync : (h : History) → IsReal h → KeepsReal h (Synced h.bytes) h.bytes 0 0
 step_sync h real = record {
   reads = refl;
   old = refl;
@@ -75,7 +75,7 @@ step_sync h real = record {
 -- each new image is an old one after the step
 pub follows_next : (rel : List ℕ → List ℕ → Type 0) (h : History) (s : Step) (bytes : List ℕ) (at len : ℕ)
     → ((old : Images) (c : List ℕ) → step_images s old c → (d : List ℕ) × old d × rel d c) → rel h.bytes bytes
-    → Follows rel (images_of h) (images_of (next_history h s bytes at len))
+    → ComesFrom rel (images_of h) (images_of (next_history h s bytes at len))
 follows_next rel h s bytes at len step here c (inl now) = (h.bytes, inl refl, subst (rel h.bytes) (sym now) here)
 follows_next rel h s bytes at len step here c (inr left) =
     let (d, old, to) = step (replayed h) c (after_push (first_image h.first) h.steps s c left) in

@@ -1,14 +1,14 @@
 -- How a run of calls of a disk goes on.
 use Rattle.std.proofs.Common.{inl, inr, ⊎_elim, ℕ, List, arith, refl, subst}
 use Rattle.disk_core.specs.Contents.{Torn}
-use Rattle.disk_core.specs.Images.{Follows, Images, Only}
+use Rattle.disk_core.specs.Images.{ComesFrom, Images, Only}
 use Rattle.disk_core.specs.Moments.{Elapses, LeavesOnly}
 
 pub torn_not : (at n : ℕ) (f : List ℕ) → Torn at n f f
 torn_not at n f = record { before = refl; after = refl; no_shorter = omega arith; no_longer = grind arith }
 
 -- what a step may leave where only f stood
-pub after_step : (step : List ℕ → List ℕ → Type 0) (f : List ℕ) (old new : Images) → Only f old → Follows step old new → (c : List ℕ) → new c → step f c
+pub after_step : (step : List ℕ → List ℕ → Type 0) (f : List ℕ) (old new : Images) → Only f old → ComesFrom step old new → (c : List ℕ) → new c → step f c
 after_step step f old new only follows c left =
     let from = follows c left in
     subst (λ d. step d c) (only from.0 from.1) from.2

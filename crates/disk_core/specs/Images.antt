@@ -5,8 +5,8 @@ abbrev pub Images : Type 1
 Images = List ℕ → Type 0
 
 -- each image now is one from before, after a step
-abbrev pub Follows : (List ℕ → List ℕ → Type 0) → Images → Images → Type 0
-Follows step old new = (c : List ℕ) → new c → (d : List ℕ) × old d × step d c
+abbrev pub ComesFrom : (List ℕ → List ℕ → Type 0) → Images → Images → Type 0
+ComesFrom step old new = (c : List ℕ) → new c → (d : List ℕ) × old d × step d c
 
 -- no image is new
 abbrev pub NothingNew : Images → Images → Type 0

@@ -19,7 +19,7 @@ pub record IsReal (h : History) : Type 0 where
   pub last : IsTornInto (replayed h) h.at h.len h.before h.bytes
 
 -- a step that leaves these bytes to be read, with the range that it wrote, keeps a file real
-pub record IsStep (h : History) (step : Step) (bytes : List ℕ) (at len : ℕ) : Type 0 where
+pub record KeepsReal (h : History) (step : Step) (bytes : List ℕ) (at len : ℕ) : Type 0 where
   pub reads : step_images step (replayed h) bytes
   pub old : step_images step (replayed h) h.bytes
   pub last : IsTornInto (step_images step (replayed h)) at len h.bytes bytes

@@ -3,7 +3,7 @@ ghost use Rattle.std.specs.Prelude.{◌≡◌, ◌≤◌, ◌<◌, List, ℕ, Op
 ghost use Rattle.std.specs.Io.{ReadsAtMost};
 ghost use Rattle.poly_io.specs.Causes.{HasCause};
 ghost use Rattle.disk_core.specs.Contents.{Cut, Holds, Told, TornWithin, resized};
-ghost use Rattle.disk_core.specs.Images.{Follows, NothingNew, Only};
+ghost use Rattle.disk_core.specs.Images.{ComesFrom, NothingNew, Only};
 ghost use Rattle.disk_core.specs.Moments.{Elapses};
 
 use poly_io::Failed;
@@ -57,14 +57,14 @@ pub trait Disk {
     fn write_at(&mut self, at: u64, bytes: &[u8]) -> Result<(), Failed>
         ensures written { OnOk result (Told (seen self.old) (λ f. at ≤ length f
             → (g : List ℕ) × (seen self.new ≡ Some g) × Holds f at bytes.now g)) }
-        ensures crash { Follows (TornWithin at (length bytes.now)) (images self.old) (images self.new) }
+        ensures crash { ComesFrom (TornWithin at (length bytes.now)) (images self.old) (images self.new) }
         ensures time { Elapses (moment self.old) (moment self.new) (since self.old) (since self.new) (images self.new) }
         ensures cause { HasCause (faults self.old) (faults self.new) result };
 
     /// Gives the file this length: its first bytes, or zeros behind it. Until the next sync a crash leaves it cut or not.
     fn cut(&mut self, len: u64) -> Result<(), Failed>
         ensures cut { OnOk result (Told (seen self.old) (λ f. seen self.new ≡ Some (resized len f))) }
-        ensures crash { Follows (Cut len) (images self.old) (images self.new) }
+        ensures crash { ComesFrom (Cut len) (images self.old) (images self.new) }
         ensures time { Elapses (moment self.old) (moment self.new) (since self.old) (since self.new) (images self.new) }
         ensures cause { HasCause (faults self.old) (faults self.new) result };
 

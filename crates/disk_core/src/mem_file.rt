@@ -2,9 +2,9 @@
 ghost use Rattle.std.specs.Prelude.{◌≡◌, ◌≤◌, ◌<◌, ◌-◌, ◌^◌, ℕ, List, Some, length, take, drop, min, IfOk, IfSome, OnOk, OnErr};
 ghost use Rattle.std.specs.Counts.{IsPrefixLen};
 ghost use Rattle.disk_core.specs.Contents.{Cut, Holds, TornWithin, resized};
-ghost use Rattle.disk_core.specs.Images.{Follows, NothingNew, Only};
+ghost use Rattle.disk_core.specs.Images.{ComesFrom, NothingNew, Only};
 ghost use Rattle.disk_core.specs.Moments.{Elapses};
-ghost use Rattle.disk_core.specs.Real.{IsStep};
+ghost use Rattle.disk_core.specs.Real.{KeepsReal};
 ghost use Rattle.disk_core.specs.Memory.{images_of, listed_count, listed_image, next_history, replayed, since_of, torn_image};
 
 use crate::DiskCall;
@@ -124,7 +124,7 @@ impl MemFile {
 
     /// Notes a step, which leaves these bytes to be read, and the range that it wrote.
     fn step(&mut self, step: Step, next: Vec<u8>, at: usize, len: usize) -> Result<(), AllocError>
-        requires { IsStep self.old step next.items at len }
+        requires { KeepsReal self.old step next.items at len }
         ensures ok { OnOk result (self.new ≡ next_history self.old step next.items at len) }
         ensures err { OnErr result (self.new ≡ self.old) }
     {
@@ -151,7 +151,7 @@ impl MemFile {
     /// A call that writes.
     pub(crate) fn write_at(&mut self, call: DiskCall, at: u64, bytes: &[u8]) -> Result<(), Failed>
         ensures written { OnOk result (Holds self.old.bytes at bytes.now self.new.bytes) }
-        ensures crash { Follows (TornWithin at (length bytes.now)) (images_of self.old) (images_of self.new) }
+        ensures crash { ComesFrom (TornWithin at (length bytes.now)) (images_of self.old) (images_of self.new) }
         ensures time { Elapses (length self.old.steps) (length self.new.steps) (since_of self.old) (since_of self.new) (images_of self.new) }
     {
         if at > self.bytes.len() as u64 {
@@ -179,7 +179,7 @@ impl MemFile {
     /// A call that cuts.
     pub(crate) fn cut(&mut self, call: DiskCall, len: u64) -> Result<(), Failed>
         ensures cut { OnOk result (self.new.bytes ≡ resized len self.old.bytes) }
-        ensures crash { Follows (Cut len) (images_of self.old) (images_of self.new) }
+        ensures crash { ComesFrom (Cut len) (images_of self.old) (images_of self.new) }
         ensures time { Elapses (length self.old.steps) (length self.new.steps) (since_of self.old) (since_of self.new) (images_of self.new) }
     {
         if part(call, 0).is_none() {

@@ -4,7 +4,8 @@ use Rattle.std.proofs.lemmas.List.{take_at, drop-drop, length-take-le, append-ni
 use Rattle.job_ledger.specs.Records.{HasNoFrame, frame, header, layout}
 use Rattle.job_ledger.proofs.HeaderLemmas.{length-header, value-header}
 
-front : (p rest : List ℕ) → take 14 (frame p ++ rest) ≡ header (length p)
+-- the header of a record stands first
+pub front : (p rest : List ℕ) → take 14 (frame p ++ rest) ≡ header (length p)
 front p rest = ap (take 14) (append_assoc (header (length p)) p rest) ∙ take_at (header (length p)) (p ++ rest) 14 (length-header (length p))
 
 pub length-frame : (p : List ℕ) → length (frame p) ≡ 14 + length p

@@ -4,10 +4,10 @@ use Rattle.std.specs.Prelude.{min}
 use Rattle.std.proofs.lemmas.List.{get_or_at, take_at, take_all}
 use Rattle.std.proofs.lemmas.List.Sums.{fold_more, fold-append}
 use Rattle.job_ledger.specs.Records.{digits, header}
-use Rattle.job_ledger.specs.Values.{value_of, with_digit}
+use Rattle.job_ledger.specs.Values.{decimal_value, with_digit}
 
-pub value_more : (text : List ℕ) (i d : ℕ) → i < length text → (v : ℕ) → v ≡ min (value_of (take i text)) (2 ^ 64 - 1) → (r : ℕ) → r ≡ min (min (10 * v) (2 ^ 64 - 1) + (get_or text i d - 48)) (2 ^ 64 - 1) → r ≡ min (value_of (take (i + 1) text)) (2 ^ 64 - 1)
-unfolding value_of
+pub value_more : (text : List ℕ) (i d : ℕ) → i < length text → (v : ℕ) → v ≡ min (decimal_value (take i text)) (2 ^ 64 - 1) → (r : ℕ) → r ≡ min (min (10 * v) (2 ^ 64 - 1) + (get_or text i d - 48)) (2 ^ 64 - 1) → r ≡ min (decimal_value (take (i + 1) text)) (2 ^ 64 - 1)
+unfolding decimal_value
 value_more text i d lt v e r h = rw (fold_more with_digit 0 text i d lt) (omega (arith, e, h))
 
 pub digits_more : (k n : ℕ) → 0 < k → digits k n ≡ digits (k - 1) (n / 10) ++ (48 + n % 10) ∷ []
@@ -29,8 +29,8 @@ unfolding digits
 length-digits zero n = refl
 length-digits (suc k) n = omega (arith, length-append (digits k (n / 10)) ((48 + n % 10) ∷ []), length-digits k (n / 10))
 
-pub value-digits : (k n : ℕ) → n < 10 ^ k → value_of (digits k n) ≡ n
-unfolding digits value_of
+pub value-digits : (k n : ℕ) → n < 10 ^ k → decimal_value (digits k n) ≡ n
+unfolding digits decimal_value
 value-digits zero n lt = omega (arith, lt)
 value-digits (suc k) n lt =
     let small : n / 10 < 10 ^ k = omega (arith, lt) in
@@ -39,8 +39,8 @@ value-digits (suc k) n lt =
 pub length-header : (n : ℕ) → length (header n) ≡ 14
 length-header n = omega (arith, length-append (digits 13 n) (10 ∷ []), length-digits 13 n)
 
-pub value-header : (text : List ℕ) (n : ℕ) → n < 10 ^ 13 → text ≡ header n → value_of (take 13 text) ≡ n
-value-header text n lt e = ap (λ l. value_of (take 13 l)) e ∙ ap value_of (take_at (digits 13 n) (10 ∷ []) 13 (length-digits 13 n)) ∙ value-digits 13 n lt
+pub value-header : (text : List ℕ) (n : ℕ) → n < 10 ^ 13 → text ≡ header n → decimal_value (take 13 text) ≡ n
+value-header text n lt e = ap (λ l. decimal_value (take 13 l)) e ∙ ap decimal_value (take_at (digits 13 n) (10 ∷ []) 13 (length-digits 13 n)) ∙ value-digits 13 n lt
 
 -- a text and its last byte
 pub snoc : (text : List ℕ) (k : ℕ) → length text ≡ k + 1 → text ≡ take k text ++ get_or text k 0 ∷ []

@@ -5,14 +5,11 @@ use Rattle.std.specs.Prelude.{◌==◌, ◌&&◌}
 use Rattle.std.proofs.lemmas.Bool.{cases_eq, cases_lt, eqb-true, eq-eqb}
 use Rattle.std.proofs.lemmas.List.{take_at, drop_at, length-take-le}
 use Rattle.job_ledger.specs.Records.{HasNoFrame, HasOneLayout, IsBrokenAt, IsShort, Records, frame, header, layout}
-use Rattle.job_ledger.specs.Values.{value_of}
-use Rattle.job_ledger.proofs.FrameLemmas.{no_frame_header, no_frame_past, some_frame}
+use Rattle.job_ledger.specs.Values.{decimal_value}
+use Rattle.job_ledger.proofs.FrameLemmas.{front, no_frame_header, no_frame_past, some_frame}
 use Rattle.job_ledger.proofs.HeaderLemmas.{length-header, value-header}
 
 -- a text begins with one record at most
-front : (p rest : List ℕ) → take 14 (frame p ++ rest) ≡ header (length p)
-front p rest = ap (take 14) (append_assoc (header (length p)) p rest) ∙ take_at (header (length p)) (p ++ rest) 14 (length-header (length p))
-
 back : (p rest : List ℕ) → drop 14 (frame p ++ rest) ≡ p ++ rest
 back p rest = ap (drop 14) (append_assoc (header (length p)) p rest) ∙ drop_at (header (length p)) (p ++ rest) 14 (length-header (length p))
 
@@ -114,7 +111,7 @@ framed_or_not text = elim (same_or_not (take 14 text) (header n)) [
 ]
   where
     n : ℕ
-    n = value_of (take 13 (take 14 text))
+    n = decimal_value (take 13 (take 14 text))
 
     size : (m : ℕ) → m < 10 ^ 13 → take 14 text ≡ header m → n ≡ m
     size m small h = value-header (take 14 text) m small h

@@ -3,6 +3,7 @@ pub mod EntryLemmas
 pub mod FrameLemmas
 pub mod GateLemmas
 pub mod HeaderLemmas
+pub mod KnownTexts
 pub mod LayoutLemmas
 pub mod LedgerLemmas
 pub mod SpanLemmas

@@ -3,10 +3,10 @@ use Rattle.std.proofs.Common.{◌≡◌, ◌<◌, ◌+◌, ◌-◌, ℕ, ◌∙�
 use Rattle.std.proofs.lemmas.List.{drop_at, length-map, map-append}
 use Rattle.std.proofs.lemmas.List.Elements.{All-push}
 use Rattle.job_ledger.specs.Entries.{IsEntry}
-use Rattle.job_ledger.specs.Ledgers.{end_of, sizes_of}
+use Rattle.job_ledger.specs.Ledgers.{end_of, payload_sizes}
 use Rattle.job_ledger.specs.Records.{HasNoRun, IsBrokenAt, IsShort, frame, layout}
 use Rattle.job_ledger.specs.Spans.{ArePlaced, sizes_in, spans_of}
-use Rattle.job_ledger.specs.Walks.{HasSpans, IsReached}
+use Rattle.job_ledger.specs.Walks.{HasSpans, HasReached}
 use Rattle.job_ledger.specs.declared.entry.Entry.{Entry}
 use Rattle.job_ledger.specs.declared.entry.Entry.TheVariants.{Broken, Closed, Record}
 use Rattle.job_ledger.specs.declared.span.Span.{Span}
@@ -35,7 +35,7 @@ placed_more spans end next s placed at is = record {
 }
 
 -- where the closed gate of records stands
-pub length-layout : (ps : List (List ℕ)) → length (layout ps) ≡ end_of (sizes_of ps)
+pub length-layout : (ps : List (List ℕ)) → length (layout ps) ≡ end_of (payload_sizes ps)
 length-layout [] = refl
 length-layout (p ∷ ps) = omega (arith, length-layout ps, length-append (frame p) (layout ps), length-frame p)
 
@@ -46,10 +46,10 @@ pub entry_at : (entry : Entry) (head f : List ℕ) (at size : ℕ) → at < size
     → ((text : List ℕ) → head ≡ take 15 text → 0 < length text → length text ≡ size - at → IsEntry entry text) → IsEntry entry (drop at f)
 entry_at entry head f at size within is same of = of (drop at f) same (omega (arith, within, is, length-drop at f)) (omega (arith, is, length-drop at f))
 
-pub reached_first : (f : List ℕ) → IsReached [] 0 f
+pub reached_first : (f : List ℕ) → HasReached [] 0 f
 reached_first f = record { payloads = []; short = λ i d lt. absurd (omega (arith, lt)); split = refl; place = refl; sizes = refl }
 
-pub reached_more : (spans : List Span) (at next len : ℕ) (s : Span) (f : List ℕ) → IsReached spans at f → IsEntry (Record len) (drop at f) → s.len ≡ len → next ≡ at + 15 + len → IsReached (spans ++ s ∷ []) next f
+pub reached_more : (spans : List Span) (at next len : ℕ) (s : Span) (f : List ℕ) → HasReached spans at f → IsEntry (Record len) (drop at f) → s.len ≡ len → next ≡ at + 15 + len → HasReached (spans ++ s ∷ []) next f
 reached_more spans at next len s f r (behind, gate, (payload, rest, framed, some, size, short)) same is =
     let more = r.payloads ++ payload ∷ [] in
     let split : f ≡ layout more ++ rest = r.split ∙ ap (λ (l : List ℕ). layout r.payloads ++ l) (gate ∙ ap (λ (l : List ℕ). 245 ∷ l) framed) ∙ sym (layout-push r.payloads payload rest) in
@@ -63,11 +63,11 @@ reached_more spans at next len s f r (behind, gate, (payload, rest, framed, some
       sizes = sizes_push spans s ∙ ap₂ (λ (l : List ℕ) (n : ℕ). l ++ n ∷ []) r.sizes (same ∙ size) ∙ sym (map-append length r.payloads (payload ∷ []));
     }
 
-as_many : (spans : List Span) (at : ℕ) (f : List ℕ) (r : IsReached spans at f) → length spans ≡ length r.payloads
+as_many : (spans : List Span) (at : ℕ) (f : List ℕ) (r : HasReached spans at f) → length spans ≡ length r.payloads
 as_many spans at f r = sym (length-map spans (λ (t : Span). t.len)) ∙ ap length r.sizes ∙ length-map r.payloads length
 
 -- a closed gate behind some records
-pub closed_here : (spans : List Span) (at : ℕ) (f : List ℕ) → IsReached spans at f → IsEntry Closed (drop at f) → 0 < length spans → HasSpans spans f
+pub closed_here : (spans : List Span) (at : ℕ) (f : List ℕ) → HasReached spans at f → IsEntry Closed (drop at f) → 0 < length spans → HasSpans spans f
 closed_here spans at f r (gate, rest, here, closed) some = record {
   payloads = r.payloads;
   some = omega (arith, some, as_many spans at f r);
@@ -79,7 +79,7 @@ closed_first : (gate : ℕ) (rest : List ℕ) → (gate ≡ 245 → ⊥) → Has
 closed_first gate rest closed (more, is) = closed (ap (λ (l : List ℕ). get_or l 0 0) is)
 
 -- and behind none
-pub closed_at_first : (spans : List Span) (at : ℕ) (f : List ℕ) → IsReached spans at f → IsEntry Closed (drop at f) → length spans ≡ 0 → HasNoRun f
+pub closed_at_first : (spans : List Span) (at : ℕ) (f : List ℕ) → HasReached spans at f → IsEntry Closed (drop at f) → length spans ≡ 0 → HasNoRun f
 closed_at_first spans at f r (gate, rest, here, closed) none =
     let no_payload : length r.payloads ≡ 0 = omega (arith, none, as_many spans at f r) in
     subst HasNoRun (sym (r.split ∙ empty r.payloads (drop at f) no_payload ∙ here)) (closed_first gate rest closed)
@@ -89,7 +89,7 @@ closed_at_first spans at f r (gate, rest, here, closed) none =
     empty (p ∷ ps) l e = absurd (omega (arith, e))
 
 -- an open gate with no record behind it
-pub broken_here : (spans : List Span) (at : ℕ) (f : List ℕ) → IsReached spans at f → IsEntry Broken (drop at f) → IsBrokenAt (length spans + 1) f
+pub broken_here : (spans : List Span) (at : ℕ) (f : List ℕ) → HasReached spans at f → IsEntry Broken (drop at f) → IsBrokenAt (length spans + 1) f
 broken_here spans at f r (behind, gate, none) = record {
   payloads = r.payloads;
   short = r.short;

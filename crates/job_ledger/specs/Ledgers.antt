@@ -8,8 +8,8 @@ pub record Known : Type 0 where
   pub limit : ℕ
   pub sizes : List ℕ
 
-abbrev pub sizes_of : List (List ℕ) → List ℕ
-sizes_of payloads = map length payloads
+abbrev pub payload_sizes : List (List ℕ) → List ℕ
+payload_sizes payloads = map length payloads
 
 -- where the first closed gate stands
 abbrev pub end_of : List ℕ → ℕ
@@ -22,11 +22,11 @@ need_of ledger size = end_of ledger.sizes + size + 16
 
 -- the file is as the ledger's last call left it: it has these records, of the sizes that the ledger knows, and a crash
 -- leaves it as it is
-pub record IsAt (ledger : Known) (payloads : List (List ℕ)) (seen : Option (List ℕ)) (images : Images) : Type 0 where
+pub record IsLedgerAt (ledger : Known) (payloads : List (List ℕ)) (seen : Option (List ℕ)) (images : Images) : Type 0 where
   pub file : List ℕ
   pub told : seen ≡ Some file
   pub has : Records payloads file
-  pub sizes : ledger.sizes ≡ sizes_of payloads
+  pub sizes : ledger.sizes ≡ payload_sizes payloads
   pub settled : Only file images
 
 -- refused for its size: the need is that of the ledger, as a number of 64 bits, and past the limit

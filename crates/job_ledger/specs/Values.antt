@@ -6,5 +6,5 @@ use Rattle.std.specs.List.{fold}
 abbrev pub with_digit : ℕ → ℕ → ℕ
 with_digit value digit = 10 * value + (digit - 48)
 
-unfoldable pub value_of : List ℕ → ℕ
-value_of text = fold with_digit 0 text
+unfoldable pub decimal_value : List ℕ → ℕ
+decimal_value text = fold with_digit 0 text

@@ -1,7 +1,7 @@
 //! The length of a payload as it stands before it: 13 decimal digits and LF.
 ghost use Rattle.std.specs.Prelude.{true, false, ◌≡◌, ◌<◌, ◌^◌, ◌-◌, ◌++◌, ℕ, List, length, IsTrue, ◌↔◌, MatchOption, OnOk, min};
 ghost use Rattle.job_ledger.specs.Records.{digits, header};
-ghost use Rattle.job_ledger.specs.Values.{value_of};
+ghost use Rattle.job_ledger.specs.Values.{decimal_value};
 
 use std::alloc::AllocError;
 
@@ -33,7 +33,7 @@ pub(crate) fn push_header(bytes: &mut Vec<u8>, len: u64) -> Result<(), AllocErro
 
 /// The number that a text of digits says, or the greatest one where it passes; any other byte counts as some digit.
 fn value(text: &[u8]) -> u64
-    ensures { result ≡ min (value_of text.now) (2 ^ 64 - 1) }
+    ensures { result ≡ min (decimal_value text.now) (2 ^ 64 - 1) }
 {
     let mut value = 0u64;
     for byte in text {

@@ -3,7 +3,7 @@ ghost use Rattle.std.specs.Prelude.{◌≡◌, ◌⊎◌, ◌≤◌, ◌<◌, �
 ghost use Rattle.disk_core.specs.Contents.{Told};
 ghost use Rattle.disk_core.specs.Images.{Only};
 ghost use Rattle.disk_core.specs.Moments.{IsQuiet, LeavesOnly};
-ghost use Rattle.job_ledger.specs.Ledgers.{IsAt, IsPastLimit, bytes_of, end_of, grown, need_of, new_ledger, sizes_of};
+ghost use Rattle.job_ledger.specs.Ledgers.{IsLedgerAt, IsPastLimit, bytes_of, end_of, grown, need_of, new_ledger, payload_sizes};
 ghost use Rattle.job_ledger.specs.Records.{HasNoRun, IsBrokenAt, IsOpen, IsShort, Records, RecordsOldOrNew, frame};
 ghost use Rattle.job_ledger.specs.Stops.{IsCaused, StopsByDevice};
 
@@ -64,7 +64,7 @@ impl Ledger {
         requires { limit ≤ 2 ^ 40 }
         ensures moments { Told (D.seen disk.old) (λ f. LeavesOnly D.moment D.since disk.old disk.new
             (λ c. D.images disk.old c ⊎ (HasNoRun c ⊎ Records (payload.now ∷ []) c))) }
-        ensures kept { IfOk result (λ l. Told (D.seen disk.old) (λ f. IsAt l (payload.now ∷ []) (D.seen disk.new) (D.images disk.new))) }
+        ensures kept { IfOk result (λ l. Told (D.seen disk.old) (λ f. IsLedgerAt l (payload.now ∷ []) (D.seen disk.new) (D.images disk.new))) }
         ensures knows { IfOk result (λ l. l ≡ grown (new_ledger limit) (length payload.now)) }
         ensures fresh { OnOk result (Told (D.seen disk.old) HasNoRun) }
         ensures fits { OnOk result (need_of (new_ledger limit) (length payload.now) ≤ limit) }
@@ -91,7 +91,7 @@ impl Ledger {
         requires { limit ≤ 2 ^ 40 }
         ensures quiet { LeavesOnly D.moment D.since disk.old disk.new (D.images disk.old) }
         ensures records { IfOk result (λ l. Told (D.seen disk.old) (λ f. (payloads : List (List ℕ))
-            × (0 < length payloads) × Records payloads f × (D.seen disk.new ≡ Some f) × IsAt l payloads (D.seen disk.new) (D.images disk.new))) }
+            × (0 < length payloads) × Records payloads f × (D.seen disk.new ≡ Some f) × IsLedgerAt l payloads (D.seen disk.new) (D.images disk.new))) }
         ensures knows { IfOk result (λ l. l.limit ≡ limit) }
         ensures none { IsErrOf result LedgerStop.NoRun → Told (D.seen disk.old) (λ f. HasNoRun f × (D.seen disk.new ≡ Some f)) }
         ensures bad { (place : ℕ) → IsErrOf result (LedgerStop.BadLedger place) → Told (D.seen disk.old) (λ f. IsBrokenAt place f × (D.seen disk.new ≡ Some f)) }
@@ -113,10 +113,10 @@ impl Ledger {
     /// Adds a record. At `Ok` it is acknowledged: each image has it. At every moment of the call an image has the records
     /// from before, with the new one or without.
     pub fn append<D: Disk>(&mut self, disk: &mut D, payload: &[u8]) -> Result<(), LedgerStop>
-        ensures moments { (payloads : List (List ℕ)) → IsAt self.old payloads (D.seen disk.old) (D.images disk.old)
+        ensures moments { (payloads : List (List ℕ)) → IsLedgerAt self.old payloads (D.seen disk.old) (D.images disk.old)
             → LeavesOnly D.moment D.since disk.old disk.new (RecordsOldOrNew payloads payload.now) }
-        ensures kept { (payloads : List (List ℕ)) → IsAt self.old payloads (D.seen disk.old) (D.images disk.old)
-            → OnOk result (IsAt self.new (payloads ++ payload.now ∷ []) (D.seen disk.new) (D.images disk.new)) }
+        ensures kept { (payloads : List (List ℕ)) → IsLedgerAt self.old payloads (D.seen disk.old) (D.images disk.old)
+            → OnOk result (IsLedgerAt self.new (payloads ++ payload.now ∷ []) (D.seen disk.new) (D.images disk.new)) }
         ensures knows { OnOk result (self.new ≡ grown self.old (length payload.now)) }
         ensures fits { OnOk result (need_of self.old (length payload.now) ≤ self.old.limit) }
         ensures past { (need most : ℕ) → IsErrOf result (LedgerStop.LedgerLimit need most)
@@ -140,7 +140,7 @@ impl Ledger {
         requires { i < length self.now.sizes }
         ensures quiet { IsQuiet D.seen D.images D.moment D.since disk.old disk.new }
         ensures read { IfOk result (λ b. Told (D.seen disk.old) (λ f. b ≡ bytes_of self.now i f)) }
-        ensures bytes { (payloads : List (List ℕ)) → IsAt self.now payloads (D.seen disk.old) (D.images disk.old)
+        ensures bytes { (payloads : List (List ℕ)) → IsLedgerAt self.now payloads (D.seen disk.old) (D.images disk.old)
             → IfOk result (λ b. slice_get payloads i ≡ Some b) }
         ensures stops { StopsByDevice result }
         ensures cause { IsCaused (D.faults disk.old) (D.faults disk.new) result }

@@ -1,10 +1,10 @@
 use Rattle.std.proofs.Common.{refl, rules}
-use Rattle.job_ledger.specs.Values.{value_of}
+use Rattle.job_ledger.specs.Values.{decimal_value}
 use Rattle.job_ledger.proofs.HeaderLemmas.{value_more}
 use Rattle.job_ledger.proofs.header.value.Goals as goal
 
 pub loop-byte-init : goal.loop-byte-init
-unfolding value_of
+unfolding decimal_value
 loop-byte-init c = refl
 
 pub loop-byte-preserved : goal.loop-byte-preserved

@@ -1,7 +1,7 @@
 use Rattle.std.proofs.Common.{rules, ◌≡◌, ◌<◌, ◌+◌, ◌∙◌, ◌++◌, ◌∷◌, [], List, sym, subst, length, refl}
 use Rattle.job_ledger.specs.Records.{IsBrokenAt}
 use Rattle.job_ledger.specs.Spans.{ArePlaced}
-use Rattle.job_ledger.specs.Walks.{IsReached}
+use Rattle.job_ledger.specs.Walks.{HasReached}
 use Rattle.job_ledger.specs.declared.entry.Entry.TheVariants.{Broken, Closed, Record}
 use Rattle.job_ledger.specs.declared.span.Span.{Span}
 use Rattle.disk_core.proofs.Quiets.{quiet_then}
@@ -41,7 +41,7 @@ records-preserved g c =
       reached = λ f told size.
           let head = (c.in_ok-reach.ensures.head f (i.quiet.same ∙ told) size (i.window f told size)).1 in
           let entry = entry_at (Record n) c.head.result.now f at c.args.size i.within size (c.head.ensures ∙ head) c.in-Record.ensures.entry in
-          subst (λ (l : List Span). IsReached l (at + 15 + n) f) (sym pushed) (reached_more spans at (at + 15 + n) n s f (i.reached f told size) entry refl refl);
+          subst (λ (l : List Span). HasReached l (at + 15 + n) f) (sym pushed) (reached_more spans at (at + 15 + n) n s f (i.reached f told size) entry refl refl);
     }
 
 pub returns-in-Broken-clause-bad : goal.returns-in-Broken-clause-bad

@@ -2,7 +2,7 @@ use Rattle.std.proofs.Common.{◌≡◌, ◌<◌, ◌-◌, ℕ, List, Some, leng
 use Rattle.disk_core.specs.Moments.{IsQuiet}
 use Rattle.job_ledger.specs.Entries.{IsWindow}
 use Rattle.job_ledger.specs.Spans.{ArePlaced}
-use Rattle.job_ledger.specs.Walks.{IsReached}
+use Rattle.job_ledger.specs.Walks.{HasReached}
 use Rattle.job_ledger.proofs.walk.walk.Given as goal
 
 abbrev pub invariant-records : goal.invariant-records
@@ -12,7 +12,7 @@ invariant-records g l = record {
   within : l.at < l.size;
   placed : ArePlaced l.spans.items l.at;
   window : (f : List ℕ) → g.D.Disk.seen l.fn.disk ≡ Some f → l.size ≡ length f → IsWindow l.window f;
-  reached : (f : List ℕ) → g.D.Disk.seen l.fn.disk ≡ Some f → l.size ≡ length f → IsReached l.spans.items l.at f;
+  reached : (f : List ℕ) → g.D.Disk.seen l.fn.disk ≡ Some f → l.size ≡ length f → HasReached l.spans.items l.at f;
 }
 
 abbrev pub decreases-records : goal.decreases-records

@@ -1,6 +1,6 @@
 use Rattle.std.proofs.Common.{rules, ◌≤◌, length, take, subst, sym}
 use Rattle.disk_core.specs.Contents.{TornWithin}
-use Rattle.disk_core.specs.Images.{Follows}
+use Rattle.disk_core.specs.Images.{ComesFrom}
 use Rattle.disk_core.specs.Moments.{Elapses}
 use Rattle.disk_core.specs.Memory.{History, images_of, since_of}
 use Rattle.disk_core.specs.declared.steps.Step.TheVariants.{Written}
@@ -16,7 +16,7 @@ returns-in-Ok-clause-crash c =
     let (next, holds, is) = c.in-Ok.ensures.ok in
     let within : a.at ≤ length h.bytes = search rules in
     let few : length (take c.in-Some.done b) ≤ n = search rules in
-    subst (λ (g : History). Follows (TornWithin a.at n) (images_of h) (images_of g)) (sym is)
+    subst (λ (g : History). ComesFrom (TornWithin a.at n) (images_of h) (images_of g)) (sym is)
     (follows_next (TornWithin a.at n) h (Written a.at n) next a.at n (λ old e torn. torn) (λ _. held_is_torn h.bytes (take c.in-Some.done b) next a.at n within few holds))
 
 pub returns-in-Ok-clause-time : goal.returns-in-Ok-clause-time
