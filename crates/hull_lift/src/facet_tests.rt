@@ -4,7 +4,7 @@ ghost use Rattle.std.specs.List.{Contains};
 ghost use Rattle.poly_model.specs.Systems.{row_of};
 ghost use Rattle.hull_lift.specs.Facets.{IsColumn, HasPointRows};
 
-use crate::tests::File;
+use crate::tests::{File, poly_in};
 use crate::{facet_row, is_shown, system_of};
 use dictionary::{Dict, Steps};
 use poly_model::{Kind, Label, OutOfMemory, Phase, System};
@@ -13,7 +13,6 @@ use std::alloc::Global;
 use std::marker::Brand;
 use std::sync::ledger::{Blank, Ledger};
 use std::test::Fail;
-use test_polys::poly_of;
 
 /// A label, for tables that are constants.
 #[derive(Clone, Copy)]
@@ -172,13 +171,7 @@ fn reads_columns(rt: HostRuntime) -> Result<(), Fail> {
 
 /// The vector of the column, and whether it is shown.
 fn column(alloc: Global, case: Case) -> Result<(Vec<i128>, Option<bool>), Fail> {
-    let poly = poly_of(
-        alloc,
-        case.file.kind,
-        case.file.n,
-        case.file.entries,
-        case.file.linear,
-    )?;
+    let poly = poly_in(alloc, &case.file)?;
     let sys = system_of(alloc, &poly)?;
     let dict = dictionary_at(alloc, &sys, case.exchanges)?;
     let col = label_of(case.col).ok_or("a label")?;

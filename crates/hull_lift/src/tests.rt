@@ -2,7 +2,7 @@
 ghost use Rattle.std.specs.Prelude.{◌≡◌, ◌<◌};
 
 use crate::system_of;
-use poly_model::{Kind, System};
+use poly_model::{Kind, Poly, System};
 use std::alloc::{AllocFailed, Global};
 use std::test::Fail;
 use test_polys::poly_of;
@@ -140,13 +140,7 @@ struct Cone {
 fn gives_the_rows_of_the_cone(rt: HostRuntime) -> Result<(), Fail> {
     let alloc = rt.alloc();
     for case in CASES {
-        let poly = poly_of(
-            alloc,
-            case.file.kind,
-            case.file.n,
-            case.file.entries,
-            case.file.linear,
-        )?;
+        let poly = poly_in(alloc, &case.file)?;
         let found = cone_of(alloc, &system_of(alloc, &poly)?)?;
         let want = Cone {
             kind: case.file.kind,
@@ -168,6 +162,10 @@ fn cone_of(alloc: Global, system: &System) -> Result<Cone, Fail> {
         linear: marks_of(alloc, system)?,
         points: points_of(alloc, system)?,
     })
+}
+
+pub(crate) fn poly_in(alloc: Global, file: &File) -> Result<Poly, Fail> {
+    poly_of(alloc, file.kind, file.n, file.entries, file.linear)
 }
 
 fn joined(alloc: Global, front: &[i128], back: &[i128]) -> Result<Vec<i128>, Fail> {
