@@ -5,3 +5,4 @@ pub mod Moves
 pub mod Runs
 pub mod Ways
 pub mod Starts
+pub mod Kept

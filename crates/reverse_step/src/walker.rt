@@ -38,8 +38,9 @@ pub struct Walker {
     // room for the next dictionary, or the parent's
     other: Dict,
     order: Order,
-    // those of the dictionary where it stands
+    // those of the dictionary where it stands, and, where the other one is the parent's, those of that one
     leads: Leads,
+    kept: Leads,
     job: Key,
     // the place in the key of the next column to try
     at: usize,
@@ -55,6 +56,7 @@ impl Drop for Walker {
             other: _,
             order: _,
             leads: _,
+            kept: _,
             job: _,
             at: _,
             back: _,
@@ -63,14 +65,14 @@ impl Drop for Walker {
 }
 
 impl Model for Walker {
-    ghost use Rattle.lex_pivot.specs.Leads.{AreLeads};
     ghost use Rattle.reverse_step.specs.Walks.{Walk, kept_parent, AreAlike};
+    ghost use Rattle.reverse_step.specs.Kept.{AreLeadsKept};
 
     ghost Value = { Walk };
 
     ghost view = { λ w. record { dict = w.here; root = w.order; job = w.job; at = w.at; parent = kept_parent w.back w.other } };
 
-    ghost invariant = { λ w. AreAlike w.here w.other × AreLeads w.here w.order w.leads };
+    ghost invariant = { λ w. AreAlike w.here w.other × AreLeadsKept w.here w.other w.order w.back w.leads w.kept };
 }
 
 impl Walker {
@@ -82,6 +84,7 @@ impl Walker {
     {
         let order = Order::marked(alloc, root)?;
         let leads = Leads::of(alloc, &dict, &order)?;
+        let kept = Leads::of(alloc, &dict, &order)?;
         let other = dict.copy()?;
         let job = dict.key();
         Ok(Walker {
@@ -89,6 +92,7 @@ impl Walker {
             other,
             order,
             leads,
+            kept,
             job,
             at: 0,
             back: None,
@@ -210,6 +214,7 @@ impl Walker {
         ensures counted { steps.new ≤ steps.old + 1 }
     {
         pivot_over(&mut self.here, &mut self.other, row, col, steps)?;
+        swap(&mut self.leads, &mut self.kept);
         self.leads.read(&self.here, &self.order);
         self.at = 0;
         self.back = Some(col);
@@ -227,7 +232,7 @@ impl Walker {
         match self.back {
             Some(col) => {
                 swap(&mut self.here, &mut self.other);
-                self.leads.read(&self.here, &self.order);
+                swap(&mut self.leads, &mut self.kept);
                 self.back = None;
                 self.at = place_of(self.here.cobasis(), col) + 1;
                 Ok(Some(col))
