@@ -3,26 +3,28 @@ ghost use Rattle.std.specs.Prelude.{◌≡◌, ◌∷◌, ◌≤◌, ◌↔◌, 
 ghost use Rattle.std.specs.List.{Contains};
 ghost use Rattle.poly_model.specs.Limits.{most_columns};
 ghost use Rattle.hull_lift.specs.Facets.{IsColumn};
+ghost use Rattle.lex_pivot.specs.Leads.{AreLeads};
 ghost use Rattle.convert_core.specs.Rows.{IsPointShown, IsRayShown, IsColumnShown, CanTest, ShowsColumns, columns_of};
 
 use crate::rays::Rays;
 use dictionary::Dict;
 use hull_lift::{facet_row, is_shown};
-use lex_pivot::Order;
+use lex_pivot::{Leads, Order};
 use lexmin_test::{shows_point_by, shows_ray_by};
 use poly_io::{Sink, WriteFault};
 use poly_model::{Kind, Label, System};
 use poly_num::Num;
 use row_printer::Shown;
 
-/// A cobasis at which a walk stands, by its dictionary, with the cone of the file, which of its rays are shown, and the
-/// order of rows.
+/// A cobasis at which a walk stands, by its dictionary, with the cone of the file, which of its rays are shown, the
+/// order of rows, and the leads of the dictionary.
 #[derive(Clone, Copy)]
 pub(crate) struct Basis<'a> {
     pub cone: &'a System,
     pub rays: Rays,
     pub dict: &'a Dict,
     pub order: &'a Order,
+    pub leads: &'a Leads,
 }
 
 // Whether the point of the cobasis is shown. A V file has none.
@@ -38,10 +40,11 @@ fn is_point_shown(at: &Basis) -> bool
 // Whether the ray along the column of a label of the cobasis is shown.
 fn is_ray_shown(at: &Basis, col: Label) -> bool
     requires can { CanTest at.now.cone.now at.now.dict.now at.now.rays }
+    requires leads { AreLeads at.now.dict.now at.now.order.now at.now.leads.now }
     requires column { Contains at.now.dict.now.key col }
     ensures { IsTrue result ↔ IsRayShown at.now.cone.now at.now.order.now at.now.dict.now col }
 {
-    if !shows_ray_by(at.dict, at.order, col) {
+    if !shows_ray_by(at.dict, at.order, at.leads, col) {
         return false;
     }
     match at.rays {
@@ -53,6 +56,7 @@ fn is_ray_shown(at: &Basis, col: Label) -> bool
 // Whether the vector of a column is shown.
 fn is_column_shown(at: &Basis, col: Label) -> bool
     requires can { CanTest at.now.cone.now at.now.dict.now at.now.rays }
+    requires leads { AreLeads at.now.dict.now at.now.order.now at.now.leads.now }
     requires column { IsColumn at.now.dict.now col }
     ensures { IsTrue result ↔ IsColumnShown at.now.cone.now at.now.order.now at.now.dict.now col }
 {
@@ -72,6 +76,7 @@ fn show_column<S: Sink>(
     out: &mut S,
 ) -> Result<Shown, WriteFault>
     requires can { CanTest at.now.cone.now at.now.dict.now at.now.rays }
+    requires leads { AreLeads at.now.dict.now at.now.order.now at.now.leads.now }
     requires column { IsColumn at.now.dict.now col }
     requires width { length vector.old ≡ at.now.cone.now.n }
     requires narrow { at.now.cone.now.n ≤ most_columns }
@@ -94,6 +99,7 @@ pub(crate) fn show_columns<S: Sink>(
     out: &mut S,
 ) -> Result<Shown, WriteFault>
     requires can { CanTest at.now.cone.now at.now.dict.now at.now.rays }
+    requires leads { AreLeads at.now.dict.now at.now.order.now at.now.leads.now }
     requires width { length vector.old ≡ at.now.cone.now.n }
     requires narrow { at.now.cone.now.n ≤ most_columns }
     ensures shows { ShowsColumns S.written S.faults at.now.cone.now at.now.order.now at.now.dict.now

@@ -99,6 +99,7 @@ fn show<S: Sink>(search: &mut Search, shown: Shown, out: &mut S) -> Result<Shown
         rays: search.rays,
         dict: search.walker.dict(),
         order: search.walker.order(),
+        leads: search.walker.leads(),
     };
     match show_columns(&at, &mut search.vector, shown, out) {
         Ok(shown) => Ok(shown),

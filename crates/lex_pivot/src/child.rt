@@ -1,11 +1,12 @@
 //! Whether a neighbour is a child, read from the dictionary of the cobasis itself: no pivot is needed.
 ghost use Rattle.std.specs.Prelude.{◌≡◌, ◌<◌, ◌↔◌, IsTrue, length, pos};
 ghost use Rattle.std.specs.List.{Contains, slice_index_or};
-ghost use Rattle.poly_model.specs.Tree.{Leaves};
+ghost use Rattle.poly_model.specs.Tree.{Leaves, MayEnter};
 ghost use Rattle.dictionary.specs.Views.{table_of};
 ghost use Rattle.search_laws.specs.ChildTest.{IsDown, LeadsUp, WouldEnter, downward};
 ghost use Rattle.lex_pivot.specs.Children.{DecidesChild, EntersInPlace, NoneInPlace};
 ghost use Rattle.lex_pivot.specs.Leads.{AreLeads};
+ghost use Rattle.lex_pivot.specs.Ratios.{NoneLeaves};
 
 use crate::orderings::{is_greater, is_less};
 use crate::rows::{comes_before, label_of_column};
@@ -40,6 +41,18 @@ pub fn leads_up(dict: &Dict, order: &Order, leads: &Leads, col: Label) -> bool
     ensures { IsTrue result ↔ LeadsUp dict.now.labels order.now (table_of dict.now) col }
 {
     is_greater(leads.sign(dict, order, col))
+}
+
+/// Whether it is negative. Then some row leaves in the column.
+pub fn leads_down(dict: &Dict, order: &Order, leads: &Leads, col: Label) -> bool
+    requires leads { AreLeads dict.now order.now leads.now }
+    requires column { Contains dict.now.key col }
+    ensures may { IsTrue result ↔ MayEnter dict.now.labels order.now (table_of dict.now) col }
+    ensures leaves { IsTrue result → NoneLeaves dict.now col → ⊥ }
+{
+    // each label of the cobasis is positive in its own column, and 0 in the others
+    let (_units, _denominator) = (dict.cobasis(), dict.denominator());
+    is_less(leads.sign(dict, order, col))
 }
 
 // Whether no label before the row that leaves would enter in its place.

@@ -14,7 +14,7 @@ mod rows;
 mod scan;
 mod ties;
 
-pub use child::{is_child, leads_up};
+pub use child::{is_child, leads_down, leads_up};
 pub use feasible::{is_lex_feasible, is_lex_feasible_by};
 pub use leads::Leads;
 pub use parents::{Pivot, parent, parent_by};

@@ -8,6 +8,7 @@ use std::cmp::Ordering;
 
 /// The order of `a / b` and `c / d`, for positive `b` and `d`: at once where both are 0, else by the two products, and only where one of them passes 127
 /// bits by repeated division, which takes longer.
+#[inline(always)]
 pub(crate) fn cmp_ratios(a: Num, b: Num, c: Num, d: Num) -> Ordering
     requires left { pos 0 <ℤ b }
     requires right { pos 0 <ℤ d }

@@ -59,6 +59,7 @@ impl Order {
     }
 
     /// Whether the label is one of the root.
+    #[inline(always)]
     pub fn has(&self, label: Label) -> bool
         ensures { result ≡ is_member label self.now }
     {
@@ -69,6 +70,7 @@ impl Order {
     }
 
     /// Whether the label is that of a row outside the root.
+    #[inline(always)]
     pub fn is_before_root(&self, label: Label) -> bool
         ensures { result ≡ is_before_root self.now label }
     {
@@ -95,6 +97,7 @@ fn is_one_of(labels: &[Label], label: Label) -> bool
 }
 
 // The same by their marks.
+#[inline(always)]
 fn is_marked(marks: &[bool], labels: &[Label], label: Label) -> bool
     requires { AreMarks labels.now marks.now }
     ensures { result ≡ is_member label labels.now }

@@ -42,6 +42,7 @@ pub(crate) fn label_of_column(dict: &Dict, j: usize) -> Label
 }
 
 /// Whether the label is that of a row which comes before another one in the order.
+#[inline(always)]
 pub fn comes_before(dict: &Dict, order: &Order, label: Label, row: Label) -> bool
     requires label { Contains dict.now.labels label }
     requires row { Contains (rows_in dict.now.labels) row }

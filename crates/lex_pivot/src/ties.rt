@@ -47,6 +47,7 @@ fn cmp_constants(dict: &Dict, pair: &Pair) -> Ordering
 }
 
 // The order of the numbers of two rows in column j of the cells, each over its factor.
+#[inline(always)]
 fn cmp_in_column(dict: &Dict, j: usize, one: &Candidate, other: &Candidate) -> Ordering
     requires column { j < suc (length dict.now.columns) }
     requires one { IsPlaced dict.now one.now }

@@ -4,10 +4,13 @@ ghost use Rattle.std.specs.List.{Contains};
 ghost use Rattle.poly_model.specs.Tree.{ShowsRay};
 ghost use Rattle.dictionary.specs.Views.{table_of};
 ghost use Rattle.lex_pivot.specs.Ratios.{NoneLeaves};
+ghost use Rattle.lex_pivot.specs.Leads.{AreLeads};
 ghost use Rattle.lexmin_test.specs.Zeros.{AreOthersPositive, IsPositiveOnZeros, IsOtherPositive};
 
 use dictionary::Dict;
-use lex_pivot::{Order, Reading, differs, is_greater, none_leaves, outside_sign, root_sign};
+use lex_pivot::{
+    Leads, Order, Reading, differs, is_greater, leads_down, none_leaves, outside_sign, root_sign,
+};
 use poly_model::{Label, Root};
 
 /// Whether the ray along the column of a label of the cobasis is shown there: no row outside the cobasis is negative in
@@ -17,11 +20,24 @@ pub fn shows_ray(dict: &Dict, root: &Root, col: Label) -> bool
     requires { Contains dict.now.key col }
     ensures { IsTrue result ↔ ShowsRay dict.now.labels root.now.key dict.now.key (table_of dict.now) col }
 {
-    shows_ray_by(dict, &Order::of(root), col)
+    is_ray(dict, &Order::of(root), col)
 }
 
-/// The same by the order relative to the root.
-pub fn shows_ray_by(dict: &Dict, order: &Order, col: Label) -> bool
+/// The same by the order relative to the root, and by the leads of the dictionary: where that of the column is negative,
+/// nothing else is asked.
+pub fn shows_ray_by(dict: &Dict, order: &Order, leads: &Leads, col: Label) -> bool
+    requires leads { AreLeads dict.now order.now leads.now }
+    requires column { Contains dict.now.key col }
+    ensures { IsTrue result ↔ ShowsRay dict.now.labels order.now dict.now.key (table_of dict.now) col }
+{
+    if leads_down(dict, order, leads, col) {
+        return false;
+    }
+    is_ray(dict, order, col)
+}
+
+// The same by the order alone.
+fn is_ray(dict: &Dict, order: &Order, col: Label) -> bool
     requires { Contains dict.now.key col }
     ensures { IsTrue result ↔ ShowsRay dict.now.labels order.now dict.now.key (table_of dict.now) col }
 {

@@ -5,6 +5,7 @@ ghost use Rattle.reverse_step.specs.Walks.{Walk};
 ghost use Rattle.std.specs.List.{Contains};
 ghost use Rattle.std.specs.Option.{MatchOption};
 ghost use Rattle.lex_pivot.specs.Above.{NoneEnters};
+ghost use Rattle.lex_pivot.specs.Leads.{AreLeads};
 ghost use Rattle.reverse_step.specs.Children.{LeadsToChild, StopsWalk};
 ghost use Rattle.reverse_step.specs.Ways.{StopsOnTheWay};
 ghost use Rattle.reverse_step.specs.Starts.{unparented, Starts};
@@ -111,6 +112,13 @@ impl Walker {
         ensures { result.now ≡ self.now.root }
     {
         &self.order
+    }
+
+    /// The leads of the dictionary where it stands.
+    pub fn leads(&self) -> &Leads
+        ensures { AreLeads self.now.dict self.now.root result.now }
+    {
+        &self.leads
     }
 
     /// Passes over the columns that are still to be tried: the next step leads to the parent.

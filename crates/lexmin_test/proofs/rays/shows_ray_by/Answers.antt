@@ -1,12 +1,8 @@
-use Rattle.std.proofs.Common.{refl}
+use Rattle.std.proofs.Common.{refl, sym, true≢false}
 use Rattle.lexmin_test.proofs.rays.shows_ray_by.Goals as goal
 
-pub returns : goal.returns
-returns c = (
-  (λ t. record {
-    column = c.requires;
-    none = c.if-not-none_leaves.ensures.0 refl;
-    others = c.are_others_positive.ensures.0 t;
-  }),
-  (λ h. c.are_others_positive.ensures.1 h.others),
+pub returns-then-leads_down : goal.returns-then-leads_down
+returns-then-leads_down c = (
+  (λ t. absurd (true≢false (sym t))),
+  (λ h. absurd (c.if-leads_down.ensures.leaves refl h.none)),
 )
