@@ -3,6 +3,7 @@ use Rattle.std.proofs.Common.{◌≡◌, ◌≢◌, ◌⊎◌, ⊎_elim, ℕ, �
 use Rattle.std.specs.List.{Contains}
 use Rattle.std.specs.Ordering.{int_cmp}
 use Rattle.std.specs.Cmp.{int_cmp_is}
+use Rattle.std.proofs.lemmas.List.Elements.{Contains-get_or}
 use Rattle.std.specs.declared.cmp.Ordering.TheVariants.{Less, Equal, Greater}
 use Rattle.std.proofs.lemmas.Bool.{ne_eqb, eq-eqb}
 use Rattle.poly_num.proofs.Ring.{lin, mul_zero}
@@ -14,10 +15,12 @@ use Rattle.poly_model.specs.LexOrder.{gaps, outside, listed_at}
 use Rattle.poly_model.specs.Spaces.{is_member}
 use Rattle.dictionary_laws.specs.Keys.{place_in}
 use Rattle.dictionary_laws.proofs.Members.{contains_or}
+use Rattle.dictionary_laws.proofs.Filters.{filter_kept, filter_only, ascending_filter}
 use Rattle.dictionary.specs.Views.{Dictionary, table_of}
 use Rattle.dictionary.proofs.PlaceLemmas.{place_within, at_place}
 use Rattle.tree_laws.proofs.ListSums.{gaps_of_maps}
 use Rattle.lex_pivot.specs.Earlier.{is_before_root}
+use Rattle.lex_pivot.specs.BeforeRoot.{before_root}
 use Rattle.lex_pivot.specs.Pairs.{ArePair, pair_gaps, constant_gap, gap_at, IsEnd, IsEndAt, IsPastEnd, end_sign}
 use Rattle.lex_pivot.specs.declared.ties.Pair.{Pair}
 use Rattle.lex_pivot.proofs.EarlierLemmas.{before_has, before_only, row_only, outside_ascending}
@@ -63,6 +66,15 @@ gaps_behind d root pair z =
     (map (listed_at d.key (table_of d) pair.one.row) (outside d.labels root)) pair.one.over
     (map (listed_at d.key (table_of d) pair.other.row) (outside d.labels root))) z)
 
+-- a label at a place of those before the root is in the cobasis, and outside the root
+pub before_at : (d : Dictionary) (root : List ℕ) → ((i : ℕ) → Contains d.key i → Contains d.labels i) → (n k : ℕ) →
+    n < length (before_root d root) → k ≡ get_or (before_root d root) n 0 →
+    Contains d.key k × Contains (outside d.labels root) k
+before_at d root labels n k l e =
+    let m = filter_only (is_before_root root) d.key k
+    (subst (Contains (before_root d root)) (sym e) (Contains-get_or (before_root d root) n 0 l)) in
+    (m.0, before_has d.labels root k (labels k m.0) m.1)
+
 module _ (d : Dictionary) (root : List ℕ) (pair : Pair) (two : ArePair d pair) (differ : pair.one.row ≢ pair.other.row)
     (up : IsAscending d.labels) (key_up : IsAscending d.key) (positive : pos 0 <ℤ d.denominator) where
   elsewhere : (k : ℕ) → (Contains d.key k → ⊥) → k ≢ pair.one.row → k ≢ pair.other.row → gap_at d.key (table_of d) pair k ≡ pos 0
@@ -78,30 +90,40 @@ module _ (d : Dictionary) (root : List ℕ) (pair : Pair) (two : ArePair d pair)
   not_other : (k : ℕ) → Contains d.key k → k ≢ pair.other.row
   not_other k c e = two.other.at.row.outside (subst (Contains d.key) e c)
 
-  module _ (n : ℕ) (h : IsZeroBelow (gap_at d.key (table_of d) pair) d.key (outside d.labels root) n) where
+  ascends : IsAscending (before_root d root)
+  ascends = ascending_filter (is_before_root root) d.key key_up
+
+  module _ (n : ℕ) (h : IsZeroBelow (gap_at d.key (table_of d) pair) (before_root d root) (outside d.labels root) n) where
     below_or : (p n : ℕ) → (p < n) ⊎ (n ≤ p)
     below_or p n = grind arith
 
-    -- below b, which is at most the next label of the cobasis and the end, the lists do not differ
-    zero_below : (b : ℕ) → (n < length d.key → b ≤ get_or d.key n 0) →
+    -- below b, which is at most the next of these labels and the end, the lists do not differ
+    zero_below : (b : ℕ) → (n < length (before_root d root) → b ≤ get_or (before_root d root) n 0) →
         ((k : ℕ) → Contains (outside d.labels root) k → k < b → (k ≢ pair.one.row) × (k ≢ pair.other.row)) →
         (k : ℕ) → Contains (outside d.labels root) k → k < b → gap_at d.key (table_of d) pair k ≡ pos 0
     zero_below b far other k c l =
         ⊎_elim
-        (λ (m : Contains d.key k). ⊎_elim
-        (λ (s : place_in d.key k < n). subst (λ z. gap_at d.key (table_of d) pair z ≡ pos 0) (at_place d.key k 0 m)
-        (h (place_in d.key k) s (subst (Contains (outside d.labels root)) (sym (at_place d.key k 0 m)) c)))
-        (λ (s : n ≤ place_in d.key k). absurd (passed (place_in d.key k) (at_place d.key k 0 m) (place_within d.key k m) s))
-        (below_or (place_in d.key k) n))
+        (λ (m : Contains d.key k). inside (filter_kept (is_before_root root) d.key k m (before_only d.labels root k c).1))
         (λ (m : Contains d.key k → ⊥). elsewhere k m (other k c l).0 (other k c l).1)
         (contains_or d.key k)
       where
-        passed : (p : ℕ) → get_or d.key p 0 ≡ k → p < length d.key → n ≤ p → ⊥
+        passed : (p : ℕ) → get_or (before_root d root) p 0 ≡ k → p < length (before_root d root) → n ≤ p → ⊥
         passed p e w s =
-            let f = far (omega arith) in let g = not_below d.key key_up n p s w in omega arith
+            let f = far (omega arith) in let g = not_below (before_root d root) ascends n p s w in omega arith
+
+        inside : Contains (before_root d root) k → gap_at d.key (table_of d) pair k ≡ pos 0
+        inside m =
+            let at = at_place (before_root d root) k 0 m in
+            ⊎_elim
+            (λ (s : place_in (before_root d root) k < n). subst (λ z. gap_at d.key (table_of d) pair z ≡ pos 0) at
+            (h (place_in (before_root d root) k) s (subst (Contains (outside d.labels root)) (sym at) c)))
+            (λ (s : n ≤ place_in (before_root d root) k).
+            absurd (passed (place_in (before_root d root) k) at (place_within (before_root d root) k m) s))
+            (below_or (place_in (before_root d root) k) n)
 
     -- at a label of the cobasis
-    pub differs_here : (end : Option ℕ) (k : ℕ) (o : Ordering) → IsEnd root pair end → k ≡ get_or d.key n 0 →
+    pub differs_here : (end : Option ℕ) (k : ℕ) (o : Ordering) → IsEnd root pair end →
+        k ≡ get_or (before_root d root) n 0 →
         (IsPastEnd k end → ⊥) → Contains (outside d.labels root) k → o ≢ Equal →
         o ≡ sign_of (gap_at d.key (table_of d) pair k) →
         o ≡ lex_sign_of (map (gap_at d.key (table_of d) pair) (outside d.labels root))
@@ -173,7 +195,8 @@ module _ (d : Dictionary) (root : List ℕ) (pair : Pair) (two : ArePair d pair)
         ))
         is.one
 
-    pub at_end : (end : Option ℕ) → IsEnd root pair end → (n < length d.key → IsPastEnd (get_or d.key n 0) end) →
+    pub at_end : (end : Option ℕ) → IsEnd root pair end →
+        (n < length (before_root d root) → IsPastEnd (get_or (before_root d root) n 0) end) →
         end_sign pair end ≡ lex_sign_of (map (gap_at d.key (table_of d) pair) (outside d.labels root))
     at_end (Some x) is far =
         let w = end_at x is in

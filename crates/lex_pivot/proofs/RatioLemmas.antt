@@ -1,5 +1,5 @@
 -- The least row so far, and the row that leaves.
-use Rattle.std.proofs.Common.{◌≡◌, ◌≢◌, ◌⊎◌, inl, inr, ⊎_elim, ℕ, zero, suc, ◌+◌, ◌<◌, ℤ, pos, neg_ℤ, ◌<ℤ◌, List, [], ◌∷◌, ◌++◌, map, length, take, get_or, sym, ap, subst, ◌∙◌, arith, add-one, Option, Some, None}
+use Rattle.std.proofs.Common.{◌≡◌, ◌≢◌, ◌⊎◌, inl, inr, ⊎_elim, ℕ, zero, suc, ◌+◌, ◌-◌, ◌<◌, ◌≤◌, ℤ, pos, neg_ℤ, ◌<ℤ◌, List, [], ◌∷◌, ◌++◌, map, length, take, get_or, refl, sym, ap, subst, ◌∙◌, arith, add-one, Option, Some, None}
 use Rattle.std.specs.Prelude.{IfSome}
 use Rattle.std.specs.List.{Contains}
 use Rattle.std.specs.Option.{MatchOption}
@@ -199,6 +199,30 @@ module _ (d : Dictionary) (root : List ℕ) (s : ℕ) where
     at_place = h.at_place;
     least = best_kept d root s rows q (candidate_row best) h.least n;
   }
+
+-- rows are passed over that are no candidates
+module _ (d : Dictionary) (root : List ℕ) (s : ℕ) (best : Option Candidate) where
+  pub kept_to : (m a b : ℕ) → b ≡ a + m → b ≤ length d.rows → IsBestAt d root s (take a d.rows) best →
+      ((i : ℕ) → a ≤ i → i < b → IsCandidate d s (get_or d.rows i 0) → ⊥) → IsBestAt d root s (take b d.rows) best
+  kept_to zero a b e l h n = subst (λ k. IsBestAt d root s (take k d.rows) best) (sym (omega (arith, e))) h
+  kept_to (suc m) a b e l h n =
+      subst (λ k. IsBestAt d root s (take k d.rows) best) (last a m b e)
+      (subst (λ ks. IsBestAt d root s ks best)
+      (one_more d.rows (a + m) (get_or d.rows (a + m) 0) (omega (arith, e, l)) refl)
+      (kept_best d root s (take (a + m) d.rows) (get_or d.rows (a + m) 0) best
+      (kept_to m a (a + m) refl (omega (arith, e, l)) h (λ i f g. n i f (omega (arith, e, g))))
+      (n (a + m) (omega arith) (omega (arith, e)))))
+    where
+      last : (a m b : ℕ) → b ≡ a + suc m → a + m + 1 ≡ b
+      last a m b e = omega (arith, e)
+
+  -- the cells of the column say so
+  pub passed_over : (cells : List ℤ) → IsCellColumn d (suc (place_in d.columns s)) cells → (a b : ℕ) → a ≤ b →
+      b ≤ length d.rows → IsBestAt d root s (take a d.rows) best →
+      ((i : ℕ) → a ≤ i → i < b → get_or cells i (pos 0) <ℤ pos 0 → ⊥) → IsBestAt d root s (take b d.rows) best
+  passed_over cells h a b k l best_so n =
+      kept_to (b - a) a b (omega (arith, k)) l best_so
+      (λ i f g c. n i f g (subst (λ z. z <ℤ pos 0) (sym (h.numbers i (omega (arith, g, l)))) c.negative))
 
 -- no row leaves where none of the rows of cells is a candidate
 pub none_everywhere : (d : Dictionary) (s : ℕ) → AreOutside d d.rows →

@@ -1,12 +1,12 @@
 -- The signs of a gap, of a sum with a positive factor, and of a number of a list.
-use Rattle.std.proofs.Common.{◌≡◌, ◌≢◌, ℕ, ℤ, pos, neg_ℤ, ◌+ℤ◌, ◌-ℤ◌, ◌*ℤ◌, ◌<ℤ◌, List, true, false, cond, true≢false, sym, ap, ◌∙◌, arith, Ordering}
+use Rattle.std.proofs.Common.{◌≡◌, ◌≢◌, ℕ, ℤ, pos, neg_ℤ, ◌+ℤ◌, ◌-ℤ◌, ◌*ℤ◌, ◌<ℤ◌, ◌≤ℤ◌, List, true, false, cond, true≢false, sym, ap, ◌∙◌, arith, Ordering}
 use Rattle.std.specs.List.{Contains}
 use Rattle.std.specs.Ordering.{int_cmp, MatchOrdering}
 use Rattle.std.specs.Cmp.{int_ranks, int_cmp_is}
 use Rattle.std.specs.declared.cmp.Ordering.TheVariants.{Less, Equal, Greater}
 use Rattle.std.proofs.lemmas.Bool.{ne_eqb, false_from_ne_true}
 use Rattle.poly_num.proofs.Ring.{expand, lin, mul_zero}
-use Rattle.poly_num.proofs.Order.{keeps_order}
+use Rattle.poly_num.proofs.Order.{keeps_order, keeps_at_most}
 use Rattle.poly_num.specs.Signs.{sign_of}
 use Rattle.poly_model.specs.Spaces.{is_member}
 use Rattle.poly_model.specs.Dictionaries.{Table}
@@ -21,6 +21,60 @@ sign_of_gap x y z e = sym (int_cmp_is x y (int_cmp z (pos 0)) (by (int_cmp z (po
     by Less h = omega (arith, lin)
     by Equal h = omega (arith, lin)
     by Greater h = omega (arith, lin)
+
+turned : (x y : ℤ) → x *ℤ y ≡ y *ℤ x
+turned x y = simp expand (omega (arith, lin))
+
+-- one positive factor for both keeps the order
+pub same_over : (a c b d : ℤ) → pos 0 <ℤ d → b ≡ d → int_cmp a c ≡ int_cmp (a *ℤ d) (c *ℤ b)
+same_over a c b d h e = int_cmp_is (a *ℤ d) (c *ℤ b) (int_cmp a c) (by (int_cmp a c) (int_ranks a c))
+  where
+    left : a *ℤ d ≡ d *ℤ a
+    left = turned a d
+
+    right : c *ℤ b ≡ d *ℤ c
+    right = ap (λ z. c *ℤ z) e ∙ turned c d
+
+    by : (o : Ordering) → MatchOrdering o (a <ℤ c) (a ≡ c) (c <ℤ a) →
+        MatchOrdering o ((a *ℤ d) <ℤ (c *ℤ b)) (a *ℤ d ≡ c *ℤ b) ((c *ℤ b) <ℤ (a *ℤ d))
+    by Less l = let k = keeps_order d a c h l in let x = left in let y = right in omega (arith, lin)
+    by Equal l = left ∙ ap (λ z. d *ℤ z) l ∙ sym right
+    by Greater l = let k = keeps_order d c a h l in let x = left in let y = right in omega (arith, lin)
+
+-- where 0 lies between two numbers that are not both 0, it lies between their positive multiples too
+pub apart : (a c d b : ℤ) → pos 0 <ℤ d → pos 0 <ℤ b → a ≤ℤ pos 0 → pos 0 ≤ℤ c → (a ≡ pos 0 → c ≡ pos 0 → ⊥) →
+    (a *ℤ d) <ℤ (c *ℤ b)
+apart a c d b h k l m n = by_sign ((a *ℤ d) <ℤ (c *ℤ b)) a above zero below
+  where
+    at_most : (d *ℤ a) ≤ℤ pos 0
+    at_most = let x = keeps_at_most d a (pos 0) h l in let z = mul_zero d in omega (arith, lin)
+
+    at_least : pos 0 ≤ℤ (b *ℤ c)
+    at_least = let x = keeps_at_most b (pos 0) c k m in let z = mul_zero b in omega (arith, lin)
+
+    below : a <ℤ pos 0 → (a *ℤ d) <ℤ (c *ℤ b)
+    below s =
+        let x = keeps_order d a (pos 0) h s in
+        let z = mul_zero d in
+        let t = turned a d in
+        let u = turned c b in
+        let v = at_least in
+        omega (arith, lin)
+
+    zero : a ≡ pos 0 → (a *ℤ d) <ℤ (c *ℤ b)
+    zero e = by_sign ((a *ℤ d) <ℤ (c *ℤ b)) c positive (λ s. absurd (n e s)) (λ s. absurd (omega (arith, lin)))
+      where
+        positive : pos 0 <ℤ c → (a *ℤ d) <ℤ (c *ℤ b)
+        positive s =
+            let x = keeps_order b (pos 0) c k s in
+            let z = mul_zero b in
+            let t = turned a d in
+            let u = turned c b in
+            let v = at_most in
+            omega (arith, lin)
+
+    above : pos 0 <ℤ a → (a *ℤ d) <ℤ (c *ℤ b)
+    above s = absurd (omega (arith, lin))
 
 -- x over p and y over q
 pub cross_sign : (p q x y : ℤ) → int_cmp (x *ℤ p) (y *ℤ q) ≡ sign_of (p *ℤ x -ℤ q *ℤ y)

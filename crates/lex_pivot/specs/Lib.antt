@@ -1,4 +1,5 @@
 pub mod Earlier
+pub mod BeforeRoot
 pub mod Places
 pub mod Readings
 pub mod Pairs

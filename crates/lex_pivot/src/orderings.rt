@@ -1,13 +1,14 @@
 // What an order of two numbers is, and that of two fractions.
 ghost use Rattle.std.specs.declared.cmp.Ordering.TheVariants.{Less, Equal, Greater};
 ghost use Rattle.std.specs.Ordering.{int_cmp};
-ghost use Rattle.std.specs.Prelude.{◌≡◌, ◌≢◌, ◌*ℤ◌, ◌<ℤ◌, pos, IsTrue, IsFalse};
+ghost use Rattle.std.specs.Prelude.{◌≡◌, ◌≢◌, ◌↔◌, ◌*ℤ◌, ◌<ℤ◌, ◌≤ℤ◌, pos, IsTrue, IsFalse};
 
 use poly_num::{Num, cmp_cross, mul};
 use std::cmp::Ordering;
 
-/// The order of `a / b` and `c / d`, for positive `b` and `d`: at once where both are 0, else by the two products, and only where one of them passes 127
-/// bits by repeated division, which takes longer.
+/// The order of `a / b` and `c / d`, for positive `b` and `d`: by the signs of `a` and `c` where these decide, by `a` and `c`
+/// where `b` and `d` are equal, else by the two products, and only where one of them passes 127 bits by repeated division,
+/// which takes longer.
 #[inline(always)]
 pub(crate) fn cmp_ratios(a: Num, b: Num, c: Num, d: Num) -> Ordering
     requires left { pos 0 <ℤ b }
@@ -16,6 +17,15 @@ pub(crate) fn cmp_ratios(a: Num, b: Num, c: Num, d: Num) -> Ordering
 {
     if are_zero(a, c) {
         return Ordering::Equal;
+    }
+    if are_apart(a, c) {
+        return Ordering::Less;
+    }
+    if are_apart(c, a) {
+        return Ordering::Greater;
+    }
+    if is_same(b, d) {
+        return order_of(a, c);
     }
     if let Some(x) = mul(a, d)
         && let Some(y) = mul(c, b)
@@ -28,9 +38,33 @@ pub(crate) fn cmp_ratios(a: Num, b: Num, c: Num, d: Num) -> Ordering
 // Whether both are 0.
 #[inline(always)]
 fn are_zero(a: Num, c: Num) -> bool
-    ensures { IsTrue result → (a ≡ pos 0) × (c ≡ pos 0) }
+    ensures { IsTrue result ↔ (a ≡ pos 0) × (c ≡ pos 0) }
 {
     a.get() == 0 && c.get() == 0
+}
+
+// Whether they are equal.
+#[inline(always)]
+fn is_same(b: Num, d: Num) -> bool
+    ensures { IsTrue result → b ≡ d }
+{
+    b.get() == d.get()
+}
+
+// The order of the two.
+#[inline(always)]
+fn order_of(a: Num, c: Num) -> Ordering
+    ensures { result ≡ int_cmp a c }
+{
+    a.get().cmp(&c.get())
+}
+
+// Whether 0 lies between them, `a` below `c`.
+#[inline(always)]
+fn are_apart(a: Num, c: Num) -> bool
+    ensures { IsTrue result → (a ≤ℤ pos 0) × (pos 0 ≤ℤ c) }
+{
+    a.get() <= 0 && c.get() >= 0
 }
 
 /// Whether it is not `Equal`.

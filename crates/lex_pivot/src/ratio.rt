@@ -1,19 +1,20 @@
 //! The ratio test: which row leaves in a column.
-ghost use Rattle.std.specs.Prelude.{◌≡◌, ◌≢◌, ◌<◌, ◌↔◌, suc, length, IsTrue, IfSome};
+ghost use Rattle.std.specs.Prelude.{◌≡◌, ◌≢◌, ◌<◌, ◌≤◌, ◌<ℤ◌, ◌↔◌, ℕ, suc, pos, length, IsTrue, IfSome};
 ghost use Rattle.std.specs.List.{Contains, slice_index_or};
 ghost use Rattle.std.specs.Option.{MatchOption};
 ghost use Rattle.poly_model.specs.Tree.{Leaves};
 ghost use Rattle.dictionary_laws.specs.Keys.{place_in};
 ghost use Rattle.dictionary.specs.Positions.{IsCellColumn};
 ghost use Rattle.dictionary.specs.Views.{table_of};
+ghost use Rattle.lex_pivot.specs.BeforeRoot.{before_root};
 ghost use Rattle.lex_pivot.specs.Pairs.{IsPlaced};
 ghost use Rattle.lex_pivot.specs.Ratios.{NoneLeaves, IsCandidate, IsCandidateAt, IsLess, IsBetter, candidate_row};
 
-use crate::Order;
 use crate::candidates::Candidate;
 use crate::orderings::is_less;
 use crate::rows::row_at;
 use crate::ties::{Pair, compare};
+use crate::{BeforeRoot, Order};
 use columns::Column;
 use dictionary::Dict;
 use poly_model::{Label, Root};
@@ -35,14 +36,47 @@ pub fn leaving_by(dict: &Dict, order: &Order, col: Label) -> Option<Label>
     ensures { MatchOption result (NoneLeaves dict.now col)
         (λ r. Leaves dict.now.labels order.now dict.now.key (table_of dict.now) col r) }
 {
+    leaving_along(dict, order, &BeforeRoot::of(dict, order), col)
+}
+
+/// The same with the rows of the cobasis that are outside the root, for a caller that asks in several columns.
+pub fn leaving_along(dict: &Dict, order: &Order, before: &BeforeRoot, col: Label) -> Option<Label>
+    requires before { before.now ≡ before_root dict.now order.now }
+    requires column { Contains dict.now.key col }
+    ensures { MatchOption result (NoneLeaves dict.now col)
+        (λ r. Leaves dict.now.labels order.now dict.now.key (table_of dict.now) col r) }
+{
+    // the labels outside the cobasis stand once
+    let _rows = dict.rows();
     let column = dict.column(dict.column_of(col));
     let mut best: Option<Candidate> = None;
-    'rows: for place in 0..dict.rows().len() {
+    let mut from = 0;
+    'rows: loop {
+        let place = next_negative(&column, from);
+        if place >= column.len() {
+            return candidate_row(best);
+        }
         if let Some(next) = candidate_at(dict, col, &column, place) {
-            best = Some(better(dict, order, best, next));
+            best = Some(better(dict, order, before, best, next));
+        }
+        from = place + 1;
+    }
+}
+
+// The first place from this one on at which the cell is negative, or how many cells there are: most cells are passed over.
+#[inline]
+fn next_negative(cells: &Column, from: usize) -> usize
+    requires { from ≤ length cells.now }
+    ensures within { result ≤ length cells.now }
+    ensures behind { from ≤ result }
+    ensures passed { (i : ℕ) → from ≤ i → i < result → slice_index_or cells.now i (pos 0) <ℤ pos 0 → ⊥ }
+{
+    'places: for place in from..cells.len() {
+        if cells.is_negative(place) {
+            return place;
         }
     }
-    candidate_row(best)
+    cells.len()
 }
 
 // The row at a place of the rows of cells, if it is a candidate in the column of a label, whose cells these are.
@@ -66,22 +100,38 @@ fn candidate_at(dict: &Dict, col: Label, cells: &Column, place: usize) -> Option
 }
 
 // The better of the best candidate so far and the next one: that with the less list over minus its entry.
-fn better(dict: &Dict, order: &Order, best: Option<Candidate>, next: Candidate) -> Candidate
+#[inline(always)]
+fn better(
+    dict: &Dict,
+    order: &Order,
+    before: &BeforeRoot,
+    best: Option<Candidate>,
+    next: Candidate,
+) -> Candidate
+    requires before { before.now ≡ before_root dict.now order.now }
     requires next { IsPlaced dict.now next }
     requires best { IfSome best (λ c. IsPlaced dict.now c) }
     ensures { IsBetter dict.now order.now best next result }
 {
-    let Some(before) = best else {
+    let Some(so_far) = best else {
         return next;
     };
-    if is_lesser(dict, order, &next, &before) {
+    if is_lesser(dict, order, before, &next, &so_far) {
         return next;
     }
-    before
+    so_far
 }
 
 // Whether the list of the one, over its factor, is less than that of the other.
-fn is_lesser(dict: &Dict, order: &Order, one: &Candidate, other: &Candidate) -> bool
+#[inline(always)]
+fn is_lesser(
+    dict: &Dict,
+    order: &Order,
+    before: &BeforeRoot,
+    one: &Candidate,
+    other: &Candidate,
+) -> bool
+    requires before { before.now ≡ before_root dict.now order.now }
     requires one { IsPlaced dict.now one.now }
     requires other { IsPlaced dict.now other.now }
     ensures { one.now.row ≢ other.now.row → IsTrue result ↔ IsLess dict.now order.now one.now other.now }
@@ -90,7 +140,7 @@ fn is_lesser(dict: &Dict, order: &Order, one: &Candidate, other: &Candidate) -> 
         one: *one,
         other: *other,
     };
-    is_less(compare(dict, order, &pair))
+    is_less(compare(dict, order, before, &pair))
 }
 
 // The row of a candidate.

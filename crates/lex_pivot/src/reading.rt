@@ -1,12 +1,13 @@
 //! A number that is read off each row of a dictionary.
-ghost use Rattle.std.specs.Prelude.{◌≡◌, ◌<ℤ◌, ◌↔◌, ◌*ℤ◌, ◌+ℤ◌, pos, IsTrue};
-ghost use Rattle.std.specs.List.{Contains};
+ghost use Rattle.std.specs.Prelude.{◌≡◌, ◌<ℤ◌, ◌↔◌, ◌*ℤ◌, ◌+ℤ◌, ◌<◌, pos, length, IsTrue};
+ghost use Rattle.std.specs.List.{Contains, slice_index_or};
+ghost use Rattle.poly_model.specs.Dictionaries.{Table};
 ghost use Rattle.poly_num.specs.Signs.{sign_of};
 ghost use Rattle.dictionary.specs.Views.{table_of};
 ghost use Rattle.lex_pivot.specs.Readings.{reading_at, IsReadable};
 
 use crate::orderings::cmp_ratios;
-use dictionary::Dict;
+use dictionary::{Dict, Position};
 use poly_model::Label;
 use poly_num::{Num, neg, sign};
 use std::cmp::Ordering;
@@ -34,14 +35,62 @@ pub enum Reading {
 
 impl Reading {
     /// The sign of the number of a row.
+    #[inline(always)]
     pub fn sign_at(&self, dict: &Dict, row: Label) -> Ordering
         requires row { Contains dict.now.labels row }
+        requires columns { IsReadable dict.now.key self.now }
+        ensures { result ≡ sign_of (reading_at (table_of dict.now) self.now row) }
+    {
+        match dict.position(row) {
+            Position::Row(place) => self.sign_in_cells(dict, place),
+            Position::Column(_) => self.sign_of_unit(dict, row),
+        }
+    }
+
+    // That of the label at a place of the rows of cells.
+    #[inline(always)]
+    fn sign_in_cells(&self, dict: &Dict, place: usize) -> Ordering
+        requires place { place < length dict.now.rows }
+        requires columns { IsReadable dict.now.key self.now }
+        ensures { result ≡
+            sign_of (reading_at (table_of dict.now) self.now (slice_index_or dict.now.rows place 0)) }
+    {
+        match *self {
+            Reading::Entry { col } => sign(cell(dict, place, col)),
+            Reading::Sum { p, col, f, other } => {
+                sum_sign(p, cell(dict, place, col), f, cell(dict, place, other))
+            }
+            Reading::Where { col, zero } => {
+                if is_zero(cell(dict, place, zero)) {
+                    sign(cell(dict, place, col))
+                } else {
+                    Ordering::Equal
+                }
+            }
+        }
+    }
+
+    // That of a label of the cobasis: it is 0 where its own column is not read, and no entry needs to be looked up.
+    #[inline(always)]
+    fn sign_of_unit(&self, dict: &Dict, row: Label) -> Ordering
+        requires row { Contains dict.now.key row }
         requires columns { IsReadable dict.now.key self.now }
         ensures { result ≡ sign_of (reading_at (table_of dict.now) self.now row) }
     {
         if self.is_elsewhere(dict, row) {
             return Ordering::Equal;
         }
+        self.sign_of_entries(dict, row)
+    }
+
+    // That of a label of the cobasis by its entries.
+    fn sign_of_entries(&self, dict: &Dict, row: Label) -> Ordering
+        requires row { Contains dict.now.key row }
+        requires columns { IsReadable dict.now.key self.now }
+        ensures { result ≡ sign_of (reading_at (table_of dict.now) self.now row) }
+    {
+        // its labels are labels of the dictionary
+        let _units = dict.cobasis();
         match *self {
             Reading::Entry { col } => sign(dict.entry(row, col)),
             Reading::Sum { p, col, f, other } => {
@@ -58,19 +107,26 @@ impl Reading {
     }
 }
 
+// The number at a place of the rows of cells in the column of a label of the cobasis.
+#[inline(always)]
+fn cell(dict: &Dict, place: usize, col: Label) -> Num
+    requires place { place < length dict.now.rows }
+    requires column { Contains dict.now.key col }
+    ensures { result ≡ Table.entry (table_of dict.now) (slice_index_or dict.now.rows place 0) col }
+{
+    dict.column(dict.column_of(col)).at(place)
+}
+
 impl Reading {
-    // Whether the row is one of the cobasis, and its own column is not read: then its number is 0, and its entries need not
-    // be looked up.
+    // Whether the own column of a label of the cobasis is not read: then its number is 0.
     #[inline(always)]
     fn is_elsewhere(&self, dict: &Dict, row: Label) -> bool
-        requires { IsReadable dict.now.key self.now }
+        requires row { Contains dict.now.key row }
+        requires columns { IsReadable dict.now.key self.now }
         ensures { IsTrue result → reading_at (table_of dict.now) self.now row ≡ pos 0 }
     {
         // each label of the cobasis is 0 in the columns of the others
         let _units = dict.cobasis();
-        if !dict.in_cobasis(row) {
-            return false;
-        }
         match *self {
             Reading::Entry { col } => !row.is_same(col),
             Reading::Sum { col, other, .. } => !row.is_same(col) && !row.is_same(other),

@@ -78,6 +78,7 @@ impl Order {
     }
 
     /// Whether row `k` comes before row `i`.
+    #[inline(always)]
     pub fn is_earlier(&self, k: Label, i: Label) -> bool
         ensures { result ≡ is_earlier self.now k i }
     {

@@ -31,6 +31,7 @@ pub fn root_sign(dict: &Dict, order: &Order, reading: &Reading) -> Ordering
 }
 
 // The sign of the number of a row of the dictionary, and else `Equal`.
+#[inline(always)]
 fn row_sign(dict: &Dict, reading: &Reading, row: Label) -> Ordering
     requires { IsReadable dict.now.key reading.now }
     ensures value { Contains (rows_in dict.now.labels) row → result ≡ sign_of (reading_at (table_of dict.now) reading.now row) }
@@ -59,6 +60,7 @@ pub fn outside_sign(dict: &Dict, order: &Order, reading: &Reading) -> Ordering
 }
 
 // The sign of the number of a row outside the root, and else `Equal`.
+#[inline(always)]
 fn sign_before_root(dict: &Dict, order: &Order, reading: &Reading, row: Label) -> Ordering
     requires row { Contains dict.now.labels row }
     requires columns { IsReadable dict.now.key reading.now }

@@ -7,11 +7,12 @@ ghost use Rattle.std.specs.List.{Contains};
 ghost use Rattle.poly_num.specs.Signs.{sign_of, lex_sign_of};
 ghost use Rattle.poly_model.specs.LexOrder.{outside};
 ghost use Rattle.dictionary.specs.Views.{number, table_of};
+ghost use Rattle.lex_pivot.specs.BeforeRoot.{before_root};
 ghost use Rattle.lex_pivot.specs.Pairs.{pair_gaps, gap_at, constant_gap, IsPlaced, ArePair, IsEnd, IsPastEnd, end_sign};
 
-use crate::Order;
 use crate::candidates::Candidate;
 use crate::orderings::{cmp_ratios, differs};
+use crate::{BeforeRoot, Order};
 use dictionary::Dict;
 use poly_model::Label;
 use std::cmp::Ordering;
@@ -27,18 +28,21 @@ pub struct Pair {
 ///
 /// At a row outside the root that is not in the cobasis both lists are 0, but for the two rows themselves. So the first
 /// difference is at a label of the cobasis, or at the first of the two rows that is outside the root.
-pub fn compare(dict: &Dict, order: &Order, pair: &Pair) -> Ordering
-    requires { ArePair dict.now pair.now }
+#[inline(always)]
+pub fn compare(dict: &Dict, order: &Order, before: &BeforeRoot, pair: &Pair) -> Ordering
+    requires before { before.now ≡ before_root dict.now order.now }
+    requires pair { ArePair dict.now pair.now }
     ensures { pair.now.one.row ≢ pair.now.other.row → result ≡ lex_sign_of (pair_gaps dict.now order.now pair.now) }
 {
     let first = cmp_constants(dict, pair);
     if differs(first) {
         return first;
     }
-    compare_behind(dict, order, pair)
+    compare_behind(dict, order, before, pair)
 }
 
 // The order of the two constants, each over its factor.
+#[inline(always)]
 fn cmp_constants(dict: &Dict, pair: &Pair) -> Ordering
     requires { ArePair dict.now pair.now }
     ensures { result ≡ sign_of (constant_gap (table_of dict.now) pair.now) }
@@ -65,20 +69,21 @@ fn cmp_in_column(dict: &Dict, j: usize, one: &Candidate, other: &Candidate) -> O
 }
 
 // The order by the rows outside the root, where the constants are equal.
-fn compare_behind(dict: &Dict, order: &Order, pair: &Pair) -> Ordering
-    requires { ArePair dict.now pair.now }
+fn compare_behind(dict: &Dict, order: &Order, before: &BeforeRoot, pair: &Pair) -> Ordering
+    requires before { before.now ≡ before_root dict.now order.now }
+    requires pair { ArePair dict.now pair.now }
     ensures { pair.now.one.row ≢ pair.now.other.row → constant_gap (table_of dict.now) pair.now ≡ pos 0 →
         result ≡ lex_sign_of (pair_gaps dict.now order.now pair.now) }
 {
-    // the labels ascend, and the denominator is positive
-    let (_all, _denominator) = (dict.labels(), dict.denominator());
-    let labels = dict.cobasis();
+    // the labels ascend, those of the cobasis too, and the denominator is positive
+    let (_all, _cobasis, _denominator) = (dict.labels(), dict.cobasis(), dict.denominator());
+    let labels = before.labels();
     let end = end_of(order, pair);
     'labels: for k in labels {
         if is_behind(*k, &end) {
             return end_sign(pair, &end);
         }
-        let here = gap_sign(dict, order, pair, *k);
+        let here = gap_sign(dict, pair, *k);
         if differs(here) {
             return here;
         }
@@ -126,17 +131,13 @@ fn end_sign(pair: &Pair, end: &Option<Label>) -> Ordering
     }
 }
 
-// The order at a label of the cobasis, which is `Equal` at those of the root.
-fn gap_sign(dict: &Dict, order: &Order, pair: &Pair, k: Label) -> Ordering
+// The order at a label of the cobasis.
+#[inline(always)]
+fn gap_sign(dict: &Dict, pair: &Pair, k: Label) -> Ordering
     requires pair { ArePair dict.now pair.now }
     requires inside { Contains dict.now.key k }
-    requires label { Contains dict.now.labels k }
-    ensures value { Contains (outside dict.now.labels order.now) k → result ≡ sign_of (gap_at dict.now.key (table_of dict.now) pair.now k) }
-    ensures outside { result ≢ Equal → Contains (outside dict.now.labels order.now) k }
+    ensures { result ≡ sign_of (gap_at dict.now.key (table_of dict.now) pair.now k) }
 {
-    if !order.is_before_root(k) {
-        return Ordering::Equal;
-    }
     // a list has minus the entry there
     cmp_in_column(dict, dict.column_of(k), &pair.other, &pair.one)
 }

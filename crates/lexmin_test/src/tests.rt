@@ -1,6 +1,7 @@
 //! The trees of the square and of the pyramid, and what is shown at their cobases and at those of unbounded polyhedra,
 //! worked out by hand.
 ghost use Rattle.std.specs.Prelude.{◌≡◌, ◌<◌};
+ghost use Rattle.dictionary.specs.Blanks.{IsBlankOf};
 
 use crate::{shows_point, shows_ray};
 use dictionary::{Dict, Steps};
@@ -309,7 +310,7 @@ fn exchange_counted<L: Ledger>(
     col: Label,
     blank: Blank,
 ) -> Result<(), Fail>
-    requires blank { (blank.name ≡ L.name) × (blank.parts ≡ L.parts) × (0 < blank.parts) }
+    requires blank { IsBlankOf blank.name blank.parts L.name L.parts }
 {
     if !dict.can_pivot(row, col) {
         return Err("no pivot")?;

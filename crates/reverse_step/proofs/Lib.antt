@@ -8,3 +8,4 @@ pub mod RunLemmas
 pub mod DueLemmas
 pub mod WayLemmas
 pub mod StartLemmas
+pub mod DepthLemmas

@@ -7,7 +7,7 @@ use Rattle.reverse_step.specs.Walks.{Walk, IsWalkIn}
 use Rattle.reverse_step.specs.Runs.{HasRun}
 use Rattle.reverse_step.specs.Ways.{StandsAtKey}
 use Rattle.reverse_step.specs.Starts.{unparented, IsAtKey}
-use Rattle.reverse_step.proofs.WayLemmas.{reached_feasible}
+use Rattle.reverse_step.proofs.WayLemmas.{reached_stands}
 
 pub at_key : (old : Walk) (now : Dictionary) (key : List ℕ) → StandsAtKey old.root old.dict key now →
     IsAtKey old key (record { dict = now; root = old.root; job = key; at = 0; parent = None })
@@ -17,8 +17,9 @@ at_key old now key h = record {
   start = record { key = h.there; at = refl };
   parent = refl;
   phase = h.way.phase;
+  reached = h;
   walk = λ space home w. record {
-    stands = reached_feasible space home old.root old.dict now key h w.stands;
+    stands = reached_stands space home old.root old.dict now key h w.stands;
     kept = tt;
   };
 }
@@ -28,9 +29,9 @@ pub still_a_walk : (space : Space) (home : Table) (walk : Walk) → IsWalkIn spa
     IsWalkIn space home (unparented walk)
 still_a_walk space home walk w = record { stands = w.stands; kept = tt }
 
-pub still_as_far : (space : Space) (home : Table) (first walk : Walk) (visited : List (List ℕ)) (left taken : ℕ) →
-    HasRun space home first walk visited left taken → HasRun space home first (unparented walk) visited left taken
-still_as_far space home first walk visited left taken h = record {
+pub still_as_far : (space : Space) (home : Table) (first walk : Walk) (visited given : List (List ℕ)) (left taken : ℕ) →
+    HasRun space home first walk visited given left taken → HasRun space home first (unparented walk) visited given left taken
+still_as_far space home first walk visited given left taken h = record {
   root = h.root;
   job = h.job;
   phase = h.phase;

@@ -11,7 +11,7 @@ use Rattle.poly_num.proofs.Order.{zero_factor}
 use Rattle.poly_num.proofs.VectorLemmas.{dot-zero}
 use Rattle.poly_model.specs.declared.overflow.Overflow.{Overflow}
 use Rattle.poly_model.specs.Keys.{IsAscending}
-use Rattle.poly_model.specs.Spaces.{Space}
+use Rattle.poly_model.specs.Spaces.{Space, HasPoints}
 use Rattle.poly_model.specs.Dictionaries.{Table, IsCobasis, IsDictionary, sum_over}
 use Rattle.poly_model.specs.LexOrder.{rows_in, IsPositive, list_of}
 use Rattle.poly_model.specs.Tree.{IsRowOutside, IsRowDictionary, IsLexFeasible}
@@ -141,62 +141,69 @@ same_key space key to c g a b all = ascending_is_one key to a b back all
         (contains_or to k)
 
 -- ---- the end of the way
--- it is lexicographically feasible
-pub reached_feasible : (space : Space) (home : Table) (root : List ℕ) (from now : Dictionary) (to : List ℕ) →
-    StandsAtKey root from to now → Stands space home root from → Stands space home root now
-reached_feasible space home root from now to h st = record {
-  ascending = st.ascending;
-  feasible_root = st.feasible_root;
-  dictionary = is;
-  feasible = record {
+module _ (space : Space) (root : List ℕ) (from now : Dictionary) (to : List ℕ) (h : StandsAtKey root from to now)
+    (points : HasPoints space) (is : IsDictionaryIn space from) where
+  pub reached_dictionary : IsDictionaryIn space now
+  reached_dictionary = h.way.dictionary space points is
+
+  -- it is lexicographically feasible
+  pub reached_feasible : IsLexFeasible space root now.key (table_of now)
+  reached_feasible = record {
     dictionary = record {
-      points = st.feasible.dictionary.points;
+      points = points;
       ascending = subst IsAscending (sym h.there) h.ascending;
       rows = All-from_recursion (Contains (rows_in space.labels)) now.key
           (all_from (Contains (rows_in space.labels)) now.key
-          (λ k c. subst (λ ls. Contains (rows_in ls) k) st.dictionary.labels
+          (λ k c. subst (λ ls. Contains (rows_in ls) k) is.labels
           (h.rows k (subst (λ ks. Contains ks k) h.there c))));
-      dictionary = is.dictionary;
+      dictionary = reached_dictionary.dictionary;
     };
-    lists = λ i o. subst (λ ls. IsPositive (list_of ls root now.key (table_of now) i)) is.labels
-        (h.lists i (subst (λ ls. IsRowOutside ls now.key i) (sym is.labels) o));
-  };
-}
-  where
-    is : IsDictionaryIn space now
-    is = h.way.dictionary space st.feasible.dictionary.points st.dictionary
+    lists = λ i o. subst (λ ls. IsPositive (list_of ls root now.key (table_of now) i)) reached_dictionary.labels
+        (h.lists i (subst (λ ls. IsRowOutside ls now.key i) (sym reached_dictionary.labels) o));
+  }
+
+pub reached_stands : (space : Space) (home : Table) (root : List ℕ) (from now : Dictionary) (to : List ℕ) →
+    StandsAtKey root from to now → Stands space home root from → Stands space home root now
+reached_stands space home root from now to h st =
+    let points = st.feasible.dictionary.points in
+    record {
+      ascending = st.ascending;
+      feasible_root = st.feasible_root;
+      dictionary = reached_dictionary space root from now to h points st.dictionary;
+      feasible = reached_feasible space root from now to h points st.dictionary;
+    }
 
 module _ (root : List ℕ) (from : Dictionary) (to : List ℕ) where
   -- not all labels are rows
   pub not_rows : (((k : ℕ) → Contains to k → Contains (rows_in from.labels) k) → ⊥) → IsNoFeasibleKey root from to
-  not_rows n space home st f =
-      n (λ k c. subst (λ ls. Contains (rows_in ls) k) (sym st.dictionary.labels)
+  not_rows n space points is f =
+      n (λ k c. subst (λ ls. Contains (rows_in ls) k) (sym is.labels)
       (All-contains (Contains (rows_in space.labels)) to k f.1.dictionary.rows c))
 
   pub not_cobasis : IsNoCobasis from to → IsNoFeasibleKey root from to
-  not_cobasis n space home st f = n space st.feasible.dictionary.points st.dictionary f.1.dictionary.dictionary.cobasis
+  not_cobasis n space points is f = n space points is f.1.dictionary.dictionary.cobasis
 
   module _ (now : Dictionary) (w : LiesBetween from to now) (all : (k : ℕ) → Contains to k → Contains now.key k) where
     -- the labels are in the cobasis, and it has others
     pub not_there : IsAscending now.key → (now.key ≡ to → ⊥) → IsNoFeasibleKey root from to
-    not_there up n space home st f =
-        let is = w.dictionary space st.feasible.dictionary.points st.dictionary in
+    not_there up n space points is f =
+        let there = w.dictionary space points is in
         let d = f.1.dictionary in
-        n (same_key space now.key to is.dictionary.cobasis d.dictionary.cobasis up d.ascending all)
+        n (same_key space now.key to there.dictionary.cobasis d.dictionary.cobasis up d.ascending all)
 
     -- there, and some list is not positive
     pub not_feasible : now.key ≡ to → (AreListsPositive now root → ⊥) → IsNoFeasibleKey root from to
-    not_feasible e n space home st f = n positive
+    not_feasible e n space points is f = n positive
       where
-        is : IsDictionaryIn space now
-        is = w.dictionary space st.feasible.dictionary.points st.dictionary
+        there : IsDictionaryIn space now
+        there = w.dictionary space points is
 
         rows : IsRowDictionary space to (table_of now)
         rows = record {
           points = f.1.dictionary.points;
           ascending = f.1.dictionary.ascending;
           rows = f.1.dictionary.rows;
-          dictionary = subst (λ k. IsDictionary space k (table_of now)) e is.dictionary;
+          dictionary = subst (λ k. IsDictionary space k (table_of now)) e there.dictionary;
         }
 
         feasible : IsLexFeasible space root now.key (table_of now)
@@ -204,8 +211,8 @@ module _ (root : List ℕ) (from : Dictionary) (to : List ℕ) where
             (feasible_too space root to f.0 (table_of now) f.1.dictionary rows f.1)
 
         positive : AreListsPositive now root
-        positive i o = subst (λ ls. IsPositive (list_of ls root now.key (table_of now) i)) (sym is.labels)
-            (feasible.lists i (subst (λ ls. IsRowOutside ls now.key i) is.labels o))
+        positive i o = subst (λ ls. IsPositive (list_of ls root now.key (table_of now) i)) (sym there.labels)
+            (feasible.lists i (subst (λ ls. IsRowOutside ls now.key i) there.labels o))
 
     -- whether it is the key of a lexicographically feasible cobasis
     pub ends_there : (b : Bool) → IsAscending to → ((k : ℕ) → Contains to k → Contains (rows_in from.labels) k) →

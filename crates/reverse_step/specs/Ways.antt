@@ -9,7 +9,6 @@ use Rattle.poly_model.specs.LexOrder.{rows_in}
 use Rattle.dictionary.specs.Views.{Dictionary, table_of, IsDictionaryIn, CanPivot, IsOverflow}
 use Rattle.search_laws.specs.Shares.{IsFeasibleKey}
 use Rattle.lex_pivot.specs.Feasible.{AreListsPositive}
-use Rattle.reverse_step.specs.Walks.{Stands}
 
 -- a dictionary on the way: its key has labels of the two keys alone, and it is that of its cobasis wherever the first is
 pub record LiesBetween (from : Dictionary) (to : List ℕ) (now : Dictionary) : Type 0 where
@@ -60,9 +59,9 @@ pub record StandsAtKey (root : List ℕ) (from : Dictionary) (to : List ℕ) (no
   pub rows : (k : ℕ) → Contains to k → Contains (rows_in from.labels) k
   pub lists : AreListsPositive now root
 
--- the key is no lexicographically feasible cobasis
+-- where d is a dictionary, the key is no lexicographically feasible cobasis
 abbrev pub IsNoFeasibleKey : List ℕ → Dictionary → List ℕ → Type 0
-IsNoFeasibleKey root d key = (space : Space) (home : Table) → Stands space home root d → IsFeasibleKey space root key → ⊥
+IsNoFeasibleKey root d key = (space : Space) → HasPoints space → IsDictionaryIn space d → IsFeasibleKey space root key → ⊥
 
 -- true: it is reached; false: it is none
 abbrev pub Reaches : List ℕ → Dictionary → List ℕ → Bool → Dictionary → Type 0

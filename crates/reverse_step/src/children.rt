@@ -2,11 +2,12 @@
 ghost use Rattle.std.specs.Prelude.{◌≡◌, length};
 ghost use Rattle.std.specs.List.{Contains};
 ghost use Rattle.std.specs.Option.{MatchOption};
+ghost use Rattle.lex_pivot.specs.BeforeRoot.{before_root};
 ghost use Rattle.lex_pivot.specs.Leads.{AreLeads};
 ghost use Rattle.reverse_step.specs.Children.{HasNoChildAt, LeadsToChild, NoneBetween, IsFirstChild};
 
 use dictionary::Dict;
-use lex_pivot::{Leads, Order, is_child, leads_up, leaving_by};
+use lex_pivot::{BeforeRoot, Leads, Order, is_child, leads_up, leaving_along};
 use poly_model::Label;
 
 /// The pivot that leads to a child: the row that leaves, the column that it enters for, and the place of that in the key.
@@ -29,26 +30,43 @@ pub(crate) fn first_child(
     ensures { MatchOption result (NoneBetween order.now dict.now at (length dict.now.key))
         (λ p. IsFirstChild order.now dict.now at p) }
 {
+    let before = BeforeRoot::of(dict, order);
     let labels = dict.cobasis();
     'columns: for place in at..labels.len() {
         let col = labels[place];
-        if let Some(row) = child_at(dict, order, leads, col) {
+        if let Some(row) = child_along(dict, order, leads, &before, col) {
             return Some(ChildPivot { row, col, place });
         }
     }
     None
 }
 
-/// The row that leaves in a column, if the neighbour there is a child. About half of the columns need no ratio test for it.
+/// The row that leaves in a column, if the neighbour there is a child.
 pub(crate) fn child_at(dict: &Dict, order: &Order, leads: &Leads, col: Label) -> Option<Label>
     requires leads { AreLeads dict.now order.now leads.now }
+    requires column { Contains dict.now.key col }
+    ensures { MatchOption result (HasNoChildAt order.now dict.now col) (λ r. LeadsToChild order.now dict.now col r) }
+{
+    child_along(dict, order, leads, &BeforeRoot::of(dict, order), col)
+}
+
+// The same with the rows of the cobasis that are outside the root. About half of the columns need no ratio test for it.
+fn child_along(
+    dict: &Dict,
+    order: &Order,
+    leads: &Leads,
+    before: &BeforeRoot,
+    col: Label,
+) -> Option<Label>
+    requires leads { AreLeads dict.now order.now leads.now }
+    requires before { before.now ≡ before_root dict.now order.now }
     requires column { Contains dict.now.key col }
     ensures { MatchOption result (HasNoChildAt order.now dict.now col) (λ r. LeadsToChild order.now dict.now col r) }
 {
     if !leads_up(dict, order, leads, col) {
         return None;
     }
-    let Some(row) = leaving_by(dict, order, col) else {
+    let Some(row) = leaving_along(dict, order, before, col) else {
         return None;
     };
     if is_child(dict, order, leads, col, row) {

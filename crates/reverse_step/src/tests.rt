@@ -1,5 +1,6 @@
 //! Walks through the trees of the square and of a pyramid, worked out by hand.
 ghost use Rattle.std.specs.Prelude.{◌≡◌, ◌<◌};
+ghost use Rattle.dictionary.specs.Blanks.{IsBlankOf};
 
 use crate::{Visit, Walker};
 use dictionary::{Dict, Steps};
@@ -33,7 +34,7 @@ fn walk(alloc: Global, dict: Dict) -> Result<Vec<Step>, Fail> {
 }
 
 fn walk_counted<L: Ledger>(alloc: Global, dict: Dict, blank: Blank) -> Result<Vec<Step>, Fail>
-    requires blank { (blank.name ≡ L.name) × (blank.parts ≡ L.parts) × (0 < blank.parts) }
+    requires blank { IsBlankOf blank.name blank.parts L.name L.parts }
 {
     let mut steps = Steps::<L>::new(blank);
     let root = Root::new(dict.key());
@@ -91,7 +92,7 @@ fn dict_at(alloc: Global, n: u32, entries: &[i128], start: &[(u32, u32)]) -> Res
 }
 
 fn exchange<L: Ledger>(dict: &mut Dict, row: u32, coordinate: u32, blank: Blank) -> Result<(), Fail>
-    requires blank { (blank.name ≡ L.name) × (blank.parts ≡ L.parts) × (0 < blank.parts) }
+    requires blank { IsBlankOf blank.name blank.parts L.name L.parts }
 {
     if row == 0 || row >= 8192 || coordinate >= 8192 {
         return Err("labels")?;
@@ -167,7 +168,7 @@ fn start_counted<L: Ledger>(
     rows: &[u16],
     blank: Blank,
 ) -> Result<Start, Fail>
-    requires blank { (blank.name ≡ L.name) × (blank.parts ≡ L.parts) × (0 < blank.parts) }
+    requires blank { IsBlankOf blank.name blank.parts L.name L.parts }
 {
     let mut steps = Steps::<L>::new(blank);
     let root = Root::new(dict.key());

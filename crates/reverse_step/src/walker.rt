@@ -78,7 +78,8 @@ impl Model for Walker {
 
 impl Walker {
     /// A walk under this root that begins at the dictionary, whose cobasis is the job's root. Takes memory for a second
-    /// dictionary, for the order of rows and for the leads.
+    /// dictionary, for the order of rows and for the leads. Where the cobasis is not lexicographically feasible under the
+    /// root, it is no walk until a start at a key that is.
     pub fn new(alloc: Global, dict: Dict, root: &Root) -> Result<Walker, OutOfMemory>
         ensures { IfOk result (λ walk.
             walk ≡ record { dict = dict; root = root.now.key; job = dict.key; at = 0; parent = None }) }
