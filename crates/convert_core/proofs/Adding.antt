@@ -10,13 +10,13 @@ use Rattle.row_printer.specs.declared.tally.Tally.{Tally}
 use Rattle.row_printer.specs.Rows.{counted, sum_of_sizes, Counts}
 use Rattle.convert_core.specs.declared.rays.Rays.{Rays}
 use Rattle.convert_core.specs.declared.totals.Totals.{Totals}
-use Rattle.convert_core.specs.Searches.{IsSearch}
+use Rattle.convert_core.specs.Searches.{IsSearch, IsAtRoot}
 use Rattle.convert_core.specs.Totals.{AreTotals}
 
 -- a file that is searched has a point
 pub has_point : (p : Polyhedron) (cone : System) (rays : Rays) (walk : Walk) (vector : Vector) →
-    IsSearch p cone rays walk vector → IsFeasible (cone_of p)
-has_point p cone rays walk vector x = (has_search_root p x.few).exactly.0 (walk.root, x.search_root)
+    IsSearch p cone rays walk vector → IsAtRoot p walk → IsFeasible (cone_of p)
+has_point p cone rays walk vector x a = (has_search_root p x.few).exactly.0 (walk.root, a.search_root)
 
 from_nothing : (m : ℕ) → (0 + m) % 2 ^ 64 ≡ m % 2 ^ 64
 from_nothing m = omega arith

@@ -21,10 +21,10 @@ use Rattle.dictionary.specs.Views.{Dictionary, table_of}
 use Rattle.linearity.specs.Prepared.{IsPrepared}
 use Rattle.phase_one.specs.Found.{IsFound}
 use Rattle.reverse_step.specs.Walks.{Walk, Stands}
+use Rattle.reverse_step.proofs.DepthLemmas.{once_of}
 use Rattle.convert_core.specs.declared.rays.Rays.{Rays}
 use Rattle.convert_core.specs.Rays.{AreShown}
-use Rattle.convert_core.specs.Searches.{IsSearch, IsRootOf}
-use Rattle.convert_core.proofs.ColumnsBefore.{once_of}
+use Rattle.convert_core.specs.Searches.{IsSearch, IsAtRoot, IsRootOf}
 
 -- ---- the lines are few
 line_for_each : (sys : System) (free : List ℕ) (lines : List Vector) → AreLinesOf sys free lines → length lines ≡ length free
@@ -56,7 +56,7 @@ is_root_of p lines free start x root d found = record {
 
 -- ---- the walk
 -- a walk that begins at this dictionary
-abbrev walk_at : Dictionary → List ℕ → Walk
+abbrev pub walk_at : Dictionary → List ℕ → Walk
 walk_at d root = record { dict = d; root = root; job = d.key; at = 0; parent = None }
 
 module _ (p : Polyhedron) (root : List ℕ) (d : Dictionary) (lines : List Vector) (x : IsRootOf p root d lines) where
@@ -107,8 +107,15 @@ module _ (p : Polyhedron) (root : List ℕ) (d : Dictionary) (lines : List Vecto
     home = begins.home;
     walk_in = record { stands = stands; kept = tt };
     phase = x.found.phase;
-    search_root = x.found.search_root;
   }
+
+  -- at its root
+  pub is_at_root : (walk : Walk) → walk ≡ walk_at d root → IsAtRoot p walk
+  is_at_root walk e = subst (λ (w : Walk). IsAtRoot p w) (sym e) (record {
+    start = record { key = refl; at = refl };
+    job = x.found.key;
+    search_root = x.found.search_root;
+  })
 
   pub is_search : (cone : System) (rays : Rays) (walk : Walk) (vector : Vector) → walk ≡ walk_at d root →
       cone ≡ cone_of p → AreShown cone rays → length vector ≡ p.n → IsSearch p cone rays walk vector

@@ -6,14 +6,10 @@ use Rattle.std.proofs.lemmas.List.Elements.{Contains-append_left, Contains-get_o
 use Rattle.poly_model.specs.Keys.{IsAscending}
 use Rattle.poly_model.specs.Labels.{constant_label}
 use Rattle.linear_laws.proofs.Members.{Contains-first, Contains-later, Contains-cons_cases}
-use Rattle.dictionary_laws.specs.Keys.{AreDistinct}
 use Rattle.dictionary_laws.proofs.KeyExchange.{ascending_distinct}
 use Rattle.search_laws.specs.Shares.{StandOnce}
+use Rattle.reverse_step.proofs.DepthLemmas.{once_of}
 use Rattle.convert_core.proofs.RowLists.{apart}
-
-pub once_of : (ks : List ℕ) → AreDistinct ks → StandOnce ks
-once_of [] h = tt
-once_of (k ∷ ks) h = (h.0, once_of ks h.1)
 
 -- ---- a label that stands there
 module _ (ks : List ℕ) (i x : ℕ) (lt : i < length ks) (is : x ≡ get_or ks i x) where

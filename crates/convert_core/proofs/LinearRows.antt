@@ -133,9 +133,14 @@ module _ (p : Polyhedron) (free : List ℕ) where
       zero = zero_of_kind V h.vector h.inside;
     }
 
+-- where the main space has a point they have one
+pub points_are_consistent : (p : Polyhedron) (free : List ℕ) → length (cone_of p).rows < coordinates_from →
+    HasPoints (main_space p free) → AreConsistent p
+points_are_consistent p free few h = point_of_kind p free few p.kind h
+
 pub feasible_is_consistent : (p : Polyhedron) → length (cone_of p).rows < coordinates_from → IsFeasible (cone_of p) →
     AreConsistent p
 feasible_is_consistent p few e =
     let columns = one_list_of_columns (cone_of p) in
     let (root, home, f) = feasible_root p columns.one columns.has few e in
-    point_of_kind p columns.one few p.kind f.dictionary.points
+    points_are_consistent p columns.one few f.dictionary.points

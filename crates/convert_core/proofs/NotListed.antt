@@ -27,7 +27,7 @@ use Rattle.row_printer.specs.declared.stop.ListStop.TheVariants.{Infeasible, Ove
 use Rattle.row_printer.specs.Listings.{WritesListing, ListsIfFeasible}
 use Rattle.row_printer.proofs.ListingParts.{stops_at_once}
 use Rattle.convert_core.specs.declared.rays.Rays.{Rays}
-use Rattle.convert_core.specs.Searches.{IsSearch}
+use Rattle.convert_core.specs.Searches.{IsSearch, IsAtRoot}
 use Rattle.convert_core.specs.Listed.{TakesSteps, IsDueInSearch}
 
 pub not_listed : (p : Polyhedron) (old : Option (List ℕ)) (Unwritten : Type 0) (Passes : Passed → Type 0) → Unwritten →
@@ -65,16 +65,17 @@ no_steps p before root bases r (ones, l, count) =
 
 -- ---- a file that is listed
 pub is_listed : (p : Polyhedron) (cone : System) (rays : Rays) (walk : Walk) (vector : Vector) →
-    IsSearch p cone rays walk vector → (old new : Option (List ℕ)) (Unwritten : Type 0) (result : Result Listed ListStop) →
+    IsSearch p cone rays walk vector → IsAtRoot p walk → (old new : Option (List ℕ)) (Unwritten : Type 0)
+    (result : Result Listed ListStop) →
     WritesListing p old new result → (IsErrOf result Infeasible → ⊥) →
     ((o : Passed) → IsErrOf result (Overflow o) → IsDue p o (IsAskedInMain p walk.root o)) →
     ListsIfFeasible p old new Unwritten (IsDueInSearch p) result
-is_listed p cone rays walk vector x old new Unwritten result w never due =
-    let feasible = (has_search_root p x.few).exactly.0 (walk.root, x.search_root) in
+is_listed p cone rays walk vector x a old new Unwritten result w never due =
+    let feasible = (has_search_root p x.few).exactly.0 (walk.root, a.search_root) in
     record {
       written = w;
       feasible = λ e. feasible;
       infeasible = λ e. absurd (never e);
-      overflow = λ o e. inr (inr (walk.root, x.search_root, due o e));
+      overflow = λ o e. inr (inr (walk.root, a.search_root, due o e));
       printed = inr feasible;
     }

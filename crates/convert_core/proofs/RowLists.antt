@@ -1,5 +1,6 @@
--- Lists in which each member stands once: in another order, of the values of a function, and as lists of vectors.
-use Rattle.std.proofs.Common.{◌≡◌, ⊎_elim, List, [], ◌∷◌, ◌++◌, map, sym, subst}
+-- Lists in which each member stands once: in another order, with what one column more adds, of the values of a function,
+-- and as lists of vectors.
+use Rattle.std.proofs.Common.{◌≡◌, ⊎_elim, ℕ, List, [], ◌∷◌, ◌++◌, map, sym, subst}
 use Rattle.std.specs.List.{Contains}
 use Rattle.std.proofs.lemmas.List.Elements.{Contains-append_left, Contains-append_right, Contains-append_cases}
 use Rattle.poly_num.specs.Vectors.{Vector}
@@ -35,6 +36,60 @@ module _ {X : Type 0} where
     only = λ y c. l.only y (other_way ys xs y c);
     each = λ y p. other_way xs ys y (l.each y p);
   }
+
+-- ---- those of some columns with a property, and of one column more
+module _ (P : ℕ → Type 0) where
+  -- of one column
+  pub none_of_one : (c : ℕ) → (P c → ⊥) → ListsAll (λ x. Contains (c ∷ []) x × P x) []
+  none_of_one c n = record {
+    once = tt;
+    only = λ x m. absurd (Contains-nil x m);
+    each = λ x h. ⊎_elim (λ (e : c ≡ x). absurd (n (subst P (sym e) h.1)))
+        (λ (m : Contains [] x). absurd (Contains-nil x m)) (Contains-cons_cases x c [] h.0);
+  }
+
+  pub that_one : (c : ℕ) → P c → ListsAll (λ x. Contains (c ∷ []) x × P x) (c ∷ [])
+  that_one c p = record {
+    once = (λ m. Contains-nil c m, tt);
+    only = λ y m. (
+      m,
+      ⊎_elim (λ (e : c ≡ y). subst P e p) (λ (k : Contains [] y). absurd (Contains-nil y k)) (Contains-cons_cases y c [] m),
+    );
+    each = λ y h. h.0;
+  }
+
+  module _ (columns : List ℕ) (c : ℕ) (new : Contains columns c → ⊥) (xs ys : List ℕ)
+      (v : ListsAll (λ x. Contains columns x × P x) xs) where
+    -- what is among one column is that
+    pub only_here : ((x : ℕ) → Contains ys x → Contains (c ∷ []) x × P x) → (x : ℕ) → Contains ys x → c ≡ x
+    only_here only x k =
+        ⊎_elim (λ (e : c ≡ x). e) (λ (n : Contains [] x). absurd (Contains-nil x n))
+        (Contains-cons_cases x c [] (only x k).0)
+
+    pub once_more : StandOnce ys → ((x : ℕ) → Contains ys x → Contains (c ∷ []) x × P x) → StandOnce (xs ++ ys)
+    once_more once only = once-append xs ys v.once once
+        (λ x k l. new (subst (Contains columns) (sym (only_here only x l)) (v.only x k).0))
+
+    pub lists_more : ListsAll (λ x. Contains (c ∷ []) x × P x) ys →
+        ListsAll (λ x. Contains (columns ++ c ∷ []) x × P x) (xs ++ ys)
+    lists_more w = record {
+      once = once_more w.once w.only;
+      only = λ x k. ⊎_elim
+          (λ l. (Contains-append_left columns (c ∷ []) x (v.only x l).0, (v.only x l).1))
+          (λ l. (Contains-append_right columns (c ∷ []) x (w.only x l).0, (w.only x l).1))
+          (Contains-append_cases xs ys x k);
+      each = λ x h. ⊎_elim
+          (λ l. Contains-append_left xs ys x (v.each x (l, h.1)))
+          (λ l. Contains-append_right xs ys x (w.each x (l, h.1)))
+          (Contains-append_cases columns (c ∷ []) x h.0);
+    }
+
+    pub only_more : (all : List ℕ) → ((x : ℕ) → Contains columns x → Contains all x) → Contains all c →
+        ((x : ℕ) → Contains ys x → Contains (c ∷ []) x × P x) → (x : ℕ) → Contains (xs ++ ys) x → Contains all x × P x
+    only_more all within here only x k = ⊎_elim
+        (λ l. (within x (v.only x l).0, (v.only x l).1))
+        (λ l. (subst (Contains all) (only_here only x l) here, (only x l).1))
+        (Contains-append_cases xs ys x k)
 
 -- ---- the values of a function
 module _ {X Y : Type 0} (f : X → Y) where

@@ -1,18 +1,15 @@
 -- Rows written column by column: of those that are shown.
 use Rattle.std.specs.Prelude.{Result, IfOk}
-use Rattle.std.proofs.Common.{◌≡◌, ⊎_elim, ℕ, ◌≤◌, List, [], ◌∷◌, ◌++◌, Option, Ok, Err, refl, sym, subst, ◌∙◌, append-nil}
+use Rattle.std.proofs.Common.{◌≡◌, ℕ, ◌≤◌, List, [], ◌∷◌, ◌++◌, Option, Ok, Err, refl, sym, subst, ◌∙◌, append-nil}
 use Rattle.std.specs.List.{Contains, flat_map}
 use Rattle.std.specs.Io.KnownBytes.{Appends}
 use Rattle.std.proofs.KnownBytes.{Appends-nil, Appends-trans}
 use Rattle.std.proofs.lemmas.List.{map-append}
 use Rattle.std.proofs.lemmas.List.Concat.{flat_map-cons, flat_map-append}
-use Rattle.std.proofs.lemmas.List.Elements.{Contains-append_left, Contains-append_right, Contains-append_cases}
 use Rattle.poly_num.specs.Vectors.{Vector}
 use Rattle.poly_model.specs.declared.kind.Kind.{Kind}
 use Rattle.poly_model.specs.ListingText.{row_text}
 use Rattle.poly_model.specs.Systems.{System}
-use Rattle.linear_laws.proofs.Members.{Contains-nil, Contains-cons_cases}
-use Rattle.search_laws.proofs.OnceLists.{once-append}
 use Rattle.dictionary.specs.Views.{Dictionary}
 use Rattle.hull_lift.specs.Facets.{primitive_column}
 use Rattle.poly_io.specs.declared.sink.Sink.{Ghosts as Sink}
@@ -24,6 +21,7 @@ use Rattle.row_printer.specs.declared.tally.Tally.{Tally}
 use Rattle.row_printer.specs.Rows.{Counts, HasWritten}
 use Rattle.row_printer.proofs.Tallies.{counts_none, counts_more}
 use Rattle.convert_core.specs.Rows.{IsColumnShown, WritesShown, FailsShown, ShowsColumns, column_rows}
+use Rattle.convert_core.proofs.RowLists.{none_of_one, that_one, once_more, lists_more, only_more}
 
 -- ---- rows, and more rows
 pub has_more : (kind : Kind) (a b c : Option (List ℕ)) (before mid now : Tally) (xs ys : List Vector) →
@@ -72,12 +70,7 @@ module _ {O : Type 0} (sink : Sink O) (sys : System) (root : List ℕ) (d : Dict
   not_shown c s o n = record {
     kind = refl;
     shown = [];
-    all = record {
-      once = tt;
-      only = λ x m. absurd (Contains-nil x m);
-      each = λ x h. ⊎_elim (λ (e : c ≡ x). absurd (n (subst (IsColumnShown sys root d) (sym e) h.1)))
-          (λ (m : Contains [] x). absurd (Contains-nil x m)) (Contains-cons_cases x c [] h.0);
-    };
+    all = none_of_one (IsColumnShown sys root d) c n;
     rows = has_none s.listing (sink.written o) s.tally;
     same = refl;
   }
@@ -89,15 +82,7 @@ module _ {O : Type 0} (sink : Sink O) (sys : System) (root : List ℕ) (d : Dict
   is_shown c s o q (Ok t) x p kind counts = record {
     kind = kind;
     shown = c ∷ [];
-    all = record {
-      once = (λ m. Contains-nil c m, tt);
-      only = λ y m. (
-        m,
-        ⊎_elim (λ (e : c ≡ y). subst (IsColumnShown sys root d) e x)
-            (λ (k : Contains [] y). absurd (Contains-nil y k)) (Contains-cons_cases y c [] m),
-      );
-      each = λ y h. h.0;
-    };
+    all = that_one (IsColumnShown sys root d) c x;
     rows = record {
       bytes = subst (λ t. Appends (sink.written o) (sink.written q) t) (sym (one_text s.listing (row c))) p.whole;
       counts = counts;
@@ -106,12 +91,8 @@ module _ {O : Type 0} (sink : Sink O) (sys : System) (root : List ℕ) (d : Dict
   }
   is_shown c s o q (Err e) x p kind counts = record {
     shown = c ∷ [];
-    once = (λ m. Contains-nil c m, tt);
-    only = λ y m. (
-      m,
-      ⊎_elim (λ (e : c ≡ y). subst (IsColumnShown sys root d) e x)
-          (λ (k : Contains [] y). absurd (Contains-nil y k)) (Contains-cons_cases y c [] m),
-    );
+    once = (that_one (IsColumnShown sys root d) c x).once;
+    only = (that_one (IsColumnShown sys root d) c x).only;
     bytes = subst (λ t. AppendsPart (sink.written o) (sink.written q) t) (sym (one_text s.listing (row c))) p.part;
     later = p.cause.later;
     rose = p.cause.failed;
@@ -120,28 +101,11 @@ module _ {O : Type 0} (sink : Sink O) (sys : System) (root : List ℕ) (d : Dict
   -- ---- one column more
   module _ (columns : List ℕ) (c : ℕ) (new : Contains columns c → ⊥) (s : Shown) (o : O) (t : Shown) (m : O)
       (w : Writes columns s o t m) where
-    only_here : (shown : List ℕ) → ((x : ℕ) → Contains shown x → Contains (c ∷ []) x × IsColumnShown sys root d x) →
-        (x : ℕ) → Contains shown x → c ≡ x
-    only_here shown only x k =
-        ⊎_elim (λ (e : c ≡ x). e) (λ (n : Contains [] x). absurd (Contains-nil x n))
-        (Contains-cons_cases x c [] (only x k).0)
-
     pub shows_more : (u : Shown) (q : O) → Writes (c ∷ []) t m u q → Writes (columns ++ c ∷ []) s o u q
     shows_more u q v = record {
       kind = v.kind ∙ w.kind;
       shown = w.shown ++ v.shown;
-      all = record {
-        once = once-append w.shown v.shown w.all.once v.all.once
-            (λ x k l. new (subst (Contains columns) (sym (only_here v.shown v.all.only x l)) (w.all.only x k).0));
-        only = λ x k. ⊎_elim
-            (λ l. (Contains-append_left columns (c ∷ []) x (w.all.only x l).0, (w.all.only x l).1))
-            (λ l. (Contains-append_right columns (c ∷ []) x (v.all.only x l).0, (v.all.only x l).1))
-            (Contains-append_cases w.shown v.shown x k);
-        each = λ x h. ⊎_elim
-            (λ l. Contains-append_left w.shown v.shown x (w.all.each x (l, h.1)))
-            (λ l. Contains-append_right w.shown v.shown x (v.all.each x (l, h.1)))
-            (Contains-append_cases columns (c ∷ []) x h.0);
-      };
+      all = lists_more (IsColumnShown sys root d) columns c new w.shown v.shown w.all v.all;
       rows = subst (λ ys. HasWritten s.listing (sink.written o) (sink.written q) s.tally u.tally ys)
           (sym (map-append row w.shown v.shown))
           (has_more s.listing (sink.written o) (sink.written m) (sink.written q) s.tally t.tally u.tally
@@ -154,12 +118,8 @@ module _ {O : Type 0} (sink : Sink O) (sys : System) (root : List ℕ) (d : Dict
         Fails (c ∷ []) t m q → Fails all s o q
     fails_more q all within here v = record {
       shown = w.shown ++ v.shown;
-      once = once-append w.shown v.shown w.all.once v.once
-          (λ x k l. new (subst (Contains columns) (sym (only_here v.shown v.only x l)) (w.all.only x k).0));
-      only = λ x k. ⊎_elim
-          (λ l. (within x (w.all.only x l).0, (w.all.only x l).1))
-          (λ l. (subst (Contains all) (only_here v.shown v.only x l) here, (v.only x l).1))
-          (Contains-append_cases w.shown v.shown x k);
+      once = once_more (IsColumnShown sys root d) columns c new w.shown v.shown w.all v.once v.only;
+      only = only_more (IsColumnShown sys root d) columns c new w.shown v.shown w.all all within here v.only;
       bytes = subst (λ ys. AppendsPart (sink.written o) (sink.written q) (flat_map (row_text s.listing) ys))
           (sym (map-append row w.shown v.shown))
           (part_more s.listing (sink.written o) (sink.written m) (sink.written q) (column_rows sys d w.shown)

@@ -34,7 +34,7 @@ use Rattle.reverse_step.specs.Walks.{Walk, IsWalkIn}
 use Rattle.reverse_step.specs.Moves.{IsVisit}
 use Rattle.reverse_step.specs.Runs.{HasRun}
 use Rattle.linear_laws.proofs.Members.{Contains-nil, Contains-cons_cases}
-use Rattle.reverse_step.proofs.RunLemmas.{run_starts, some_left, not_visited, run_new, run_back, run_ends}
+use Rattle.reverse_step.proofs.RunLemmas.{run_starts, some_left, none_given, not_visited, run_new, run_back, run_ends}
 use Rattle.convert_core.specs.declared.rays.Rays.{Rays}
 use Rattle.convert_core.specs.Rays.{HasLinearPoint, AreShown}
 use Rattle.convert_core.specs.Rows.{IsColumnShown, CanTest, columns_of, column_rows}
@@ -85,7 +85,8 @@ module _ (p : Polyhedron) (cone : System) (rays : Rays) (walk : Walk) (vector : 
 
   -- ---- what is listed here
   pub subtree_root : IsSubtreeRoot p walk.root
-  subtree_root = (has_search_root p x.few).may_begin walk.root x.search_root
+  subtree_root =
+      record { free = x.free; columns = x.columns; home = x.home; feasible = x.walk_in.stands.feasible_root }
 
   abbrev IsListed : ℕ → Type 0
   IsListed c = Contains (columns_of walk.dict) c × IsColumnShown cone walk.root walk.dict c
@@ -114,9 +115,9 @@ module _ (p : Polyhedron) (cone : System) (rays : Rays) (walk : Walk) (vector : 
   extreme_of_some keys y s = (searches_listing p walk.root x.few subtree_root).only_extreme s.0 s.2 y s.3
 
   -- ---- elsewhere, with other room
-  abbrev elsewhere : (new : Walk) (more : Vector) → IsWalkIn space x.home new → new.dict.phase ≡ Main → IsSearchRoot p new.root →
+  abbrev pub elsewhere : (new : Walk) (more : Vector) → IsWalkIn space x.home new → new.dict.phase ≡ Main →
       length more ≡ length vector → IsSearch p cone rays new more
-  elsewhere new more w phase root width = record {
+  elsewhere new more w phase width = record {
     is_cone = x.is_cone;
     are_shown = x.are_shown;
     few = x.few;
@@ -127,18 +128,16 @@ module _ (p : Polyhedron) (cone : System) (rays : Rays) (walk : Walk) (vector : 
     home = x.home;
     walk_in = w;
     phase = phase;
-    search_root = root;
   }
 
   pub another_vector : (more : Vector) → length more ≡ length vector → IsSearch p cone rays walk more
-  another_vector more width = elsewhere walk more x.walk_in x.phase x.search_root width
+  another_vector more width = elsewhere walk more x.walk_in x.phase width
 
   -- one step further
   pub search_moves : (visit : Visit) (new : Walk) (more : Vector) → IsVisit walk visit new → length more ≡ length vector →
       IsSearch p cone rays new more
   search_moves visit new more v width =
-      elsewhere new more (v.walk space x.home x.walk_in) (v.phase ∙ x.phase)
-      (subst (IsSearchRoot p) (sym v.root) x.search_root) width
+      elsewhere new more (v.walk space x.home x.walk_in) (v.phase ∙ x.phase) width
 
 -- ---- so far
 -- the walk began at the root; the rows of the cobases visited were written, so many steps were counted, and some are left
@@ -146,21 +145,21 @@ pub record IsListedSoFar (p : Polyhedron) (cone : System) (rays : Rays) (first w
     (rows : List Vector) (before now : ℕ) : Type 0 where
   pub search : IsSearch p cone rays walk vector
   pub root : walk.root ≡ first.root
-  pub job : first.job ≡ first.root
+  pub from : IsAtRoot p first
   pub visited : List (List ℕ)
   pub taken : ℕ
-  pub run : HasRun (main_space p search.free) search.home first walk visited left taken
+  pub run : HasRun (main_space p search.free) search.home first walk visited [] left taken
   pub shown : ListsAll (IsShownAtSome p walk.root visited) rows
   pub steps : now ≤ before + taken
 
 pub starts : (p : Polyhedron) (cone : System) (rays : Rays) (walk : Walk) (vector : Vector) (left : ℕ)
-    (rows : List Vector) (before : ℕ) → IsSearch p cone rays walk vector → IsAtRoot walk → enough ≤ left →
+    (rows : List Vector) (before : ℕ) → IsSearch p cone rays walk vector → IsAtRoot p walk → enough ≤ left →
     ListsAll (IsShownAtSome p walk.root (walk.dict.key ∷ [])) rows →
     IsListedSoFar p cone rays walk walk vector left rows before before
 starts p cone rays walk vector left rows before x a e l = record {
   search = x;
   root = refl;
-  job = a.job;
+  from = a;
   visited = walk.dict.key ∷ [];
   taken = 0;
   run = run_starts (main_space p x.free) x.home walk left a.start e x.walk_in;
@@ -172,7 +171,7 @@ module _ (p : Polyhedron) (cone : System) (rays : Rays) (first walk : Walk) (vec
     (rows : List Vector) (before now : ℕ) where
   pub some_are_left : IsListedSoFar p cone rays first walk vector left rows before now → 0 < left
   some_are_left x =
-      some_left (main_space p x.search.free) x.search.home first walk x.visited left x.taken x.run
+      some_left (main_space p x.search.free) x.search.home first walk x.visited [] left x.taken x.run
 
   module _ (x : IsListedSoFar p cone rays first walk vector (left + 1) rows before now) (new : Walk) (more : Vector)
       (width : length more ≡ length vector) (then : ℕ) (counted : then ≤ now + 1) where
@@ -189,7 +188,7 @@ module _ (p : Polyhedron) (cone : System) (rays : Rays) (first walk : Walk) (vec
     goes_on v ys l = record {
       search = search_moves p cone rays walk vector x.search New new more v width;
       root = v.root ∙ x.root;
-      job = x.job;
+      from = x.from;
       visited = new.dict.key ∷ x.visited;
       taken = x.taken + 1;
       run = run;
@@ -199,8 +198,8 @@ module _ (p : Polyhedron) (cone : System) (rays : Rays) (first walk : Walk) (vec
       steps = steps_then;
     }
       where
-        run : HasRun main x.search.home first new (new.dict.key ∷ x.visited) left (x.taken + 1)
-        run = run_new main x.search.home first walk new x.visited left x.taken x.run v
+        run : HasRun main x.search.home first new (new.dict.key ∷ x.visited) [] left (x.taken + 1)
+        run = run_new main x.search.home first walk new x.visited [] left x.taken x.run v
 
         root : IsSubtreeRoot p new.root
         root = subst (IsSubtreeRoot p) (sym v.root) (subtree_root p cone rays walk vector x.search)
@@ -210,10 +209,10 @@ module _ (p : Polyhedron) (cone : System) (rays : Rays) (first walk : Walk) (vec
     goes_back v = record {
       search = search_moves p cone rays walk vector x.search Back new more v width;
       root = v.root ∙ x.root;
-      job = x.job;
+      from = x.from;
       visited = x.visited;
       taken = x.taken + 1;
-      run = run_back main x.search.home first walk new x.visited left x.taken x.run v;
+      run = run_back main x.search.home first walk new x.visited [] left x.taken x.run v;
       shown = subst (λ r. ListsAll (IsShownAtSome p r x.visited) rows) (sym v.root) x.shown;
       steps = steps_then;
     }
@@ -235,7 +234,7 @@ module _ (p : Polyhedron) (cone : System) (rays : Rays) (first walk : Walk) (vec
 
         all : ListsAll (IsFeasibleUnder main walk.root walk.root) x.visited
         all =
-            subst (λ j. ListsAll (IsFeasibleUnder main walk.root j) x.visited) (x.job ∙ sym x.root)
+            subst (λ j. ListsAll (IsFeasibleUnder main walk.root j) x.visited) (x.from.job ∙ sym x.root)
             (subst (λ r. ListsAll (IsFeasibleUnder main r first.job) x.visited) (sym x.root)
             (run_ends main x.search.home first walk new x.visited left x.taken x.run v))
 
@@ -283,7 +282,7 @@ module _ (p : Polyhedron) (cone : System) (rays : Rays) (first walk : Walk) (vec
       root = subtree_root p cone rays walk vector x.search
 
       new_key : Contains x.visited new.dict.key → ⊥
-      new_key = not_visited (main_space p x.search.free) x.search.home first walk new x.visited left x.taken x.run v
+      new_key = not_visited (main_space p x.search.free) x.search.home first walk new x.visited [] left x.taken x.run v
 
   pub stops_here : (rest : List Vector) × AreExtreme (cone_of p) (rows ++ rest)
   stops_here =
@@ -292,9 +291,9 @@ module _ (p : Polyhedron) (cone : System) (rays : Rays) (first walk : Walk) (vec
 
 -- ---- the steps
 module _ (p : Polyhedron) (cone : System) (rays : Rays) (first walk : Walk) (vector : Vector)
-    (x : IsSearch p cone rays walk vector) (root : walk.root ≡ first.root) (job : first.job ≡ first.root)
+    (x : IsSearch p cone rays walk vector) (root : walk.root ≡ first.root) (from : IsAtRoot p first)
     (visited : List (List ℕ)) (left taken : ℕ)
-    (run : HasRun (main_space p x.free) x.home first walk visited left taken) (before : ℕ) where
+    (run : HasRun (main_space p x.free) x.home first walk visited [] left taken) (before : ℕ) where
   h : IsSubtreeRoot p walk.root
   h = subtree_root p cone rays walk vector x
 
@@ -303,12 +302,14 @@ module _ (p : Polyhedron) (cone : System) (rays : Rays) (first walk : Walk) (vec
     free = x.free;
     columns = x.columns;
     split = subst (λ j. IsSplit (main_space p x.free) walk.root j visited run.waiting)
-        (run.job ∙ job ∙ sym root) run.split;
+        (run.job ∙ from.job ∙ sym root)
+        (none_given (main_space p x.free) x.home first walk visited left taken run);
   }
 
   pub steps_of_run : (then : ℕ) → then ≤ before + taken + 1 → TakesSteps p before then
   steps_of_run then counted other bases r w =
-      let one : other ≡ walk.root = (has_search_root p x.few).one other walk.root r x.search_root in
+      let one : other ≡ walk.root = (has_search_root p x.few).one other walk.root r
+      (subst (IsSearchRoot p) (sym root) from.search_root) in
       let total = (words.has_shares p walk.root h).total run.waiting
       (λ k c. ((runs_part p walk.root h).waiting_under walk.root k visited run.waiting run_of c).0) in
       let all = (runs_part p walk.root h).weight walk.root visited run.waiting total.0 run_of total.1 in
@@ -320,9 +321,9 @@ module _ (p : Polyhedron) (cone : System) (rays : Rays) (first walk : Walk) (vec
 
 -- nothing was counted yet
 pub steps_at_start : (p : Polyhedron) (cone : System) (rays : Rays) (walk : Walk) (vector : Vector) (before : ℕ) →
-    IsSearch p cone rays walk vector → IsAtRoot walk → TakesSteps p before before
+    IsSearch p cone rays walk vector → IsAtRoot p walk → TakesSteps p before before
 steps_at_start p cone rays walk vector before x a =
-    steps_of_run p cone rays walk walk vector x refl a.job (walk.dict.key ∷ []) enough 0
+    steps_of_run p cone rays walk walk vector x refl a (walk.dict.key ∷ []) enough 0
     (run_starts (main_space p x.free) x.home walk enough a.start (omega arith) x.walk_in) before before (omega arith)
 
 pub takes_steps : (p : Polyhedron) (cone : System) (rays : Rays) (first walk : Walk) (vector : Vector) (left : ℕ)
@@ -330,5 +331,5 @@ pub takes_steps : (p : Polyhedron) (cone : System) (rays : Rays) (first walk : W
     then ≤ now + 1 → TakesSteps p before then
 takes_steps p cone rays first walk vector left rows before now x then counted =
     let s = x.steps in
-    steps_of_run p cone rays first walk vector x.search x.root x.job x.visited left x.taken x.run before then
+    steps_of_run p cone rays first walk vector x.search x.root x.from x.visited left x.taken x.run before then
     (omega (arith, counted, s))

@@ -43,7 +43,7 @@ module _ {O : Type 0} (sink : Sink O) (p : Polyhedron) (cone : System) (rays : R
   of_kind s kind a b before now ys w = subst (λ (k : Kind). HasWritten k a b before now ys) kind w
 
   -- ---- the beginning
-  pub begins : (walk : Walk) (vector : Vector) (left before : ℕ) → IsSearch p cone rays walk vector → IsAtRoot walk →
+  pub begins : (walk : Walk) (vector : Vector) (left before : ℕ) → IsSearch p cone rays walk vector → IsAtRoot p walk →
       enough ≤ left → (s : Shown) → s.listing ≡ p.kind → (o : O) (t : Shown) (m : O) →
       WritesShown sink.written sink.faults cone walk.root walk.dict (columns_of walk.dict) s o t m → (more : Vector) →
       length more ≡ length vector → Going sink p cone rays walk walk more left before before s o t m

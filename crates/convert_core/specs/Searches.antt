@@ -15,8 +15,8 @@ use Rattle.phase_one.specs.Found.{IsFound}
 use Rattle.convert_core.specs.declared.rays.Rays.{Rays}
 use Rattle.convert_core.specs.Rays.{AreShown}
 
--- with the cone of p, a walk through the cobases of its main space, in the order relative to the root of its search; and
--- room for a vector
+-- with the cone of p, a walk through the cobases of its main space, in the order relative to some root; and room for a
+-- vector
 pub record IsSearch (p : Polyhedron) (cone : System) (rays : Rays) (walk : Walk) (vector : Vector) : Type 0 where
   pub is_cone : cone ≡ cone_of p
   pub are_shown : AreShown cone rays
@@ -28,12 +28,12 @@ pub record IsSearch (p : Polyhedron) (cone : System) (rays : Rays) (walk : Walk)
   pub home : Table
   pub walk_in : IsWalkIn (main_space p free) home walk
   pub phase : walk.dict.phase ≡ Main
-  pub search_root : IsSearchRoot p walk.root
 
--- the walk is one under that root, and stands at it, where no column is tried
-pub record IsAtRoot (walk : Walk) : Type 0 where
+-- the walk is one under the root of the search of p, and stands at it, where no column is tried
+pub record IsAtRoot (p : Polyhedron) (walk : Walk) : Type 0 where
   pub start : IsAtStart walk
   pub job : walk.job ≡ walk.root
+  pub search_root : IsSearchRoot p walk.root
 
 -- the root of the search of p, its dictionary, and the lines of p
 pub record IsRootOf (p : Polyhedron) (root : List ℕ) (d : Dictionary) (lines : List Vector) : Type 0 where

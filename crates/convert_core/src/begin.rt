@@ -31,7 +31,7 @@ pub enum SearchStop {
 pub(crate) fn begin<'a>(alloc: Global, poly: &'a Poly) -> Result<(Search<'a>, Lines), SearchStop>
     ensures search { IfOk result (λ r. IsSearch poly.now r.0.cone r.0.rays r.0.walker r.0.vector.items) }
     ensures poly { IfOk result (λ r. r.0.poly.now ≡ poly.now) }
-    ensures at_root { IfOk result (λ r. IsAtRoot r.0.walker) }
+    ensures at_root { IfOk result (λ r. IsAtRoot poly.now r.0.walker) }
     ensures lines { IfOk result (λ r. AreLines (cone_of poly.now) r.1) }
     ensures few { IfOk result (λ r. length r.1 ≤ most_columns) }
     ensures infeasible { IsErrOf result SearchStop.Infeasible → IsFeasible (cone_of poly.now) → ⊥ }
@@ -83,7 +83,7 @@ fn search_from<'a>(
     requires root { IsRootOf poly.now found.root.key found.dict found.lines }
     ensures search { IfOk result (λ r. IsSearch poly.now r.0.cone r.0.rays r.0.walker r.0.vector.items) }
     ensures poly { IfOk result (λ r. r.0.poly.now ≡ poly.now) }
-    ensures at_root { IfOk result (λ r. IsAtRoot r.0.walker) }
+    ensures at_root { IfOk result (λ r. IsAtRoot poly.now r.0.walker) }
     ensures lines { IfOk result (λ r. r.1 ≡ found.lines) }
 {
     let Found { root, dict, lines } = found;

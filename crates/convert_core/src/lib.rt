@@ -17,4 +17,6 @@ mod walk;
 
 pub use begin::SearchStop;
 pub use listing::{convert, list};
+pub use rays::{Rays, rays_of};
+pub use rows::{Basis, shown_vector};
 pub use totals::{Totals, totals_of};

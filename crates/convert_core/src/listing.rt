@@ -8,6 +8,7 @@ ghost use Rattle.poly_model.specs.Systems.{cone_of};
 ghost use Rattle.row_printer.specs.Listings.{WritesListing, ListsIfFeasible};
 ghost use Rattle.convert_core.specs.Searches.{IsSearch, IsAtRoot};
 ghost use Rattle.convert_core.specs.Listed.{RisesAt, IsDueInSearch, TakesSteps};
+ghost use Rattle.dictionary.specs.Blanks.{IsBlankOf};
 
 use crate::begin::{SearchStop, begin};
 use crate::search::Search;
@@ -72,7 +73,7 @@ fn list_counted<S: Sink, L: Ledger>(
     out: &mut S,
     blank: Blank,
 ) -> Result<Listed, ListStop>
-    requires blank { (blank.name ≡ L.name) × (blank.parts ≡ L.parts) × (0 < blank.parts) }
+    requires blank { IsBlankOf blank.name blank.parts L.name L.parts }
     ensures listed { ListsIfFeasible poly.now (S.written out.old) (S.written out.new) (out.new ≡ out.old)
         (IsDueInSearch poly.now) result }
     ensures infeasible { IsErrOf result ListStop.Infeasible → out.new ≡ out.old }
@@ -91,7 +92,7 @@ fn print<S: Sink, L: Ledger>(
 ) -> Result<Listed, ListStop>
     requires search { IsSearch search.old.poly.now search.old.cone search.old.rays search.old.walker
         search.old.vector.items }
-    requires at_root { IsAtRoot search.old.walker }
+    requires at_root { IsAtRoot search.old.poly.now search.old.walker }
     requires lines { AreLines (cone_of search.old.poly.now) lines.now }
     requires few { length lines.now ≤ most_columns }
     ensures listed { WritesListing search.old.poly.now (S.written out.old) (S.written out.new) result }

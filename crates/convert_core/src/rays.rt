@@ -14,7 +14,7 @@ pub enum Rays {
 }
 
 /// Which rays of the cone are shown.
-pub(crate) fn rays_of(cone: &System) -> Rays
+pub fn rays_of(cone: &System) -> Rays
     ensures { AreShown cone.now result }
 {
     match cone.kind() {

@@ -2,7 +2,7 @@
 ghost use Rattle.std.specs.Prelude.{◌≡◌, ◌∷◌, ◌≤◌, ◌↔◌, [], length, IsTrue};
 ghost use Rattle.std.specs.List.{Contains};
 ghost use Rattle.poly_model.specs.Limits.{most_columns};
-ghost use Rattle.hull_lift.specs.Facets.{IsColumn};
+ghost use Rattle.hull_lift.specs.Facets.{IsColumn, primitive_column};
 ghost use Rattle.lex_pivot.specs.Leads.{AreLeads};
 ghost use Rattle.convert_core.specs.Rows.{IsPointShown, IsRayShown, IsColumnShown, CanTest, ShowsColumns, columns_of};
 
@@ -19,7 +19,7 @@ use row_printer::Shown;
 /// A cobasis at which a walk stands, by its dictionary, with the cone of the file, which of its rays are shown, the
 /// order of rows, and the leads of the dictionary.
 #[derive(Clone, Copy)]
-pub(crate) struct Basis<'a> {
+pub struct Basis<'a> {
     pub cone: &'a System,
     pub rays: Rays,
     pub dict: &'a Dict,
@@ -67,6 +67,25 @@ fn is_column_shown(at: &Basis, col: Label) -> bool
     }
 }
 
+/// Whether the vector of a column is shown: of a label of the cobasis the ray along its column, of the constant label the
+/// point. If so, it is written to `vector`, which has a number for each column of the file. Takes no memory.
+pub fn shown_vector(at: &Basis, col: Label, vector: &mut [Num]) -> bool
+    requires can { CanTest at.now.cone.now at.now.dict.now at.now.rays }
+    requires leads { AreLeads at.now.dict.now at.now.order.now at.now.leads.now }
+    requires column { IsColumn at.now.dict.now col }
+    requires width { length vector.old ≡ at.now.cone.now.n }
+    requires narrow { at.now.cone.now.n ≤ most_columns }
+    ensures shown { IsTrue result ↔ IsColumnShown at.now.cone.now at.now.order.now at.now.dict.now col }
+    ensures value { IsTrue result → vector.new ≡ primitive_column at.now.dict.now col at.now.cone.now.n }
+    ensures width { length vector.new ≡ length vector.old }
+{
+    if !is_column_shown(at, col) {
+        return false;
+    }
+    facet_row(at.dict, col, vector);
+    true
+}
+
 // Prints the row of a column, if it is shown.
 fn show_column<S: Sink>(
     at: &Basis,
@@ -84,10 +103,9 @@ fn show_column<S: Sink>(
         out.old out.new result }
     ensures width { length vector.new ≡ length vector.old }
 {
-    if !is_column_shown(at, col) {
+    if !shown_vector(at, col, vector) {
         return Ok(shown);
     }
-    facet_row(at.dict, col, vector);
     shown.row(out, vector)
 }
 

@@ -8,6 +8,7 @@ ghost use Rattle.poly_model.specs.Systems.{cone_of};
 ghost use Rattle.convert_core.specs.Searches.{IsSearch, IsAtRoot};
 ghost use Rattle.convert_core.specs.Listed.{IsDueInSearch};
 ghost use Rattle.convert_core.specs.Totals.{AreTotals};
+ghost use Rattle.dictionary.specs.Blanks.{IsBlankOf};
 
 use crate::begin::{SearchStop, begin};
 use crate::discard::Discard;
@@ -46,7 +47,7 @@ pub fn totals_of(alloc: Global, poly: &Poly) -> Result<Totals, SearchStop>
 
 // The same with a blank for a counter of pivots, of which nothing is said.
 fn totals_counted<L: Ledger>(alloc: Global, poly: &Poly, blank: Blank) -> Result<Totals, SearchStop>
-    requires blank { (blank.name ≡ L.name) × (blank.parts ≡ L.parts) × (0 < blank.parts) }
+    requires blank { IsBlankOf blank.name blank.parts L.name L.parts }
     ensures totals { IfOk result (AreTotals poly.now) }
     ensures infeasible { IsErrOf result SearchStop.Infeasible → IsFeasible (cone_of poly.now) → ⊥ }
     ensures overflow { (o : Passed) → IsErrOf result (SearchStop.Overflow o) → IsDueInSearch poly.now o }
@@ -68,7 +69,7 @@ fn add_up<L: Ledger>(
 ) -> Result<Totals, SearchStop>
     requires search { IsSearch search.old.poly.now search.old.cone search.old.rays search.old.walker
         search.old.vector.items }
-    requires at_root { IsAtRoot search.old.walker }
+    requires at_root { IsAtRoot search.old.poly.now search.old.walker }
     requires lines { AreLines (cone_of search.old.poly.now) lines.now }
     requires few { length lines.now ≤ most_columns }
     ensures totals { IfOk result (AreTotals search.old.poly.now) }

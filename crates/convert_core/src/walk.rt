@@ -33,7 +33,7 @@ pub(crate) fn list_rows<S: Sink, L: Ledger>(
 ) -> Result<Shown, Ended>
     requires search { IsSearch search.old.poly.now search.old.cone search.old.rays search.old.walker
         search.old.vector.items }
-    requires at_root { IsAtRoot search.old.walker }
+    requires at_root { IsAtRoot search.old.poly.now search.old.walker }
     requires kind { shown.listing ≡ search.old.poly.now.kind }
     ensures rows { ListsRows search.old.poly.now (S.written out.old) (S.written out.new) shown.tally result }
     ensures kind { IfOk result (λ s. s.listing ≡ shown.listing) }

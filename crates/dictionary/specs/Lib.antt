@@ -5,3 +5,4 @@ pub mod New
 pub mod Cobases
 pub mod Positions
 pub mod Arrangements
+pub mod Blanks

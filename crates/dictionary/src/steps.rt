@@ -1,5 +1,6 @@
 //! How many pivots were carried out.
-ghost use Rattle.std.specs.Prelude.{◌≡◌, ◌<◌, ◌+◌, ℕ};
+ghost use Rattle.std.specs.Prelude.{◌≡◌, ◌+◌, ◌<◌, ℕ};
+ghost use Rattle.dictionary.specs.Blanks.{IsBlankOf};
 
 use std::marker::Model;
 use std::sync::ledger::{Blank, Book, Ledger, Share};
@@ -24,9 +25,7 @@ impl<L: Ledger> Steps<L> {
     /// No pivot yet. `blank` is of this ledger, and has a part. Who promises no bound calls a function that makes the counter
     /// with `Brand` and `Blank::new(1)`, and picks the blank's ledger in the proof of that call.
     pub fn new(blank: Blank) -> Steps<L>
-        requires name { blank.name ≡ L.name }
-        requires parts { blank.parts ≡ L.parts }
-        requires some { 0 < blank.parts }
+        requires blank { IsBlankOf blank.name blank.parts L.name L.parts }
         ensures { result ≡ 0 }
     {
         let (book, share) = blank.open::<L>();

@@ -1,6 +1,7 @@
 //! Dictionaries worked out by hand.
 ghost use Rattle.std.specs.Prelude.{◌≡◌, ◌<◌, IfOk, length};
 ghost use Rattle.poly_model.specs.Labels.{coordinates_from};
+ghost use Rattle.dictionary.specs.Blanks.{IsBlankOf};
 
 use crate::{Dict, Position, Steps};
 use poly_model::{
@@ -98,7 +99,7 @@ fn pivot_counted<L: Ledger>(
     col: Label,
     blank: Blank,
 ) -> Option<Result<(), Overflow>>
-    requires blank { (blank.name ≡ L.name) × (blank.parts ≡ L.parts) × (0 < blank.parts) }
+    requires blank { IsBlankOf blank.name blank.parts L.name L.parts }
 {
     if dict.can_pivot(row, col) {
         Some(dict.pivot(row, col, &mut Steps::<L>::new(blank)))
@@ -118,7 +119,7 @@ fn pivoted_counted<L: Ledger>(
     col: Label,
     blank: Blank,
 ) -> Result<Dict, OutOfMemory>
-    requires blank { (blank.name ≡ L.name) × (blank.parts ≡ L.parts) × (0 < blank.parts) }
+    requires blank { IsBlankOf blank.name blank.parts L.name L.parts }
 {
     let mut to = dict.copy()?;
     dict.copy_into(&mut to);
@@ -454,7 +455,7 @@ fn pivot_over(dict: &Dict, to: &mut Dict, row: Label, col: Label) {
 }
 
 fn pivot_over_counted<L: Ledger>(dict: &Dict, to: &mut Dict, row: Label, col: Label, blank: Blank)
-    requires blank { (blank.name ≡ L.name) × (blank.parts ≡ L.parts) × (0 < blank.parts) }
+    requires blank { IsBlankOf blank.name blank.parts L.name L.parts }
 {
     let same = dict.labels().len() == to.labels().len()
         && dict.columns().len() == to.columns().len();

@@ -2,7 +2,7 @@
 use Rattle.std.proofs.Common.{◌≡◌, ℕ, Bool, true, false, List, [], ◌∷◌, pos, map, length, refl, sym, ap, subst, ◌∙◌}
 use Rattle.std.specs.List.{AllByRecursion, Contains, filter}
 use Rattle.std.proofs.lemmas.List.Elements.{All-from_recursion}
-use Rattle.poly_num.specs.Vectors.{Vector, ◌·◌}
+use Rattle.poly_num.specs.Vectors.{Vector, ◌·◌, IsZero}
 use Rattle.poly_model.specs.Independence.{Vanish, IsFirstBasis}
 use Rattle.poly_model.specs.Spaces.{Space, IsInside, IsDirection, marked, IsStartCobasis}
 use Rattle.poly_model.specs.Labels.{is_row}
@@ -78,19 +78,22 @@ module _ (space : Space) where
       (map space.form (filter is_row space.labels)) h.marks k.marks h.first k.first)
       ∙ sym k.taken
 
+  -- the first basis of labels at which only 0 is 0
+  pub marked_is_cobasis : (labels : List ℕ) → ((k : ℕ) → Contains labels k → Contains space.labels k) →
+      ((z : Vector) → IsDirection space z → AllByRecursion (λ k. space.form k · z ≡ pos 0) labels → IsZero z) →
+      (ms : List Bool) → IsFirstBasis space.n (space.infinity ∷ space.fixed) (map space.form labels) ms →
+      IsCobasis space (marked labels ms)
+  marked_is_cobasis labels only zero ms first = record {
+    labels = All-from_recursion (Contains space.labels) (marked labels ms)
+        (all_from (Contains space.labels) (marked labels ms) (λ k c. only k (marked_only labels ms k c)));
+    independent = marked_independent [] (space.infinity ∷ space.fixed) labels ms stand_at_first first;
+    enough = λ z d v. zero z d
+        (all_zero (space.infinity ∷ space.fixed) labels ms first z
+        (IsInside.width d.inside) (d.level, IsInside.fixed d.inside) v);
+  }
+
   pub start_is_cobasis : RowsDetermine space → (start : List ℕ) → IsStartCobasis space start →
       IsCobasis space start
-  start_is_cobasis rows start h = subst (λ (key : List ℕ). IsCobasis space key) (sym h.taken) (record {
-    labels = All-from_recursion (Contains space.labels) key
-        (all_from (Contains space.labels) key
-        (λ k c. (filter_only is_row space.labels k
-        (marked_only (filter is_row space.labels) h.marks k c)).0));
-    independent = marked_independent [] (space.infinity ∷ space.fixed)
-        (filter is_row space.labels) h.marks stand_at_first h.first;
-    enough = λ z d v. rows z d
-        (all_zero (space.infinity ∷ space.fixed) (filter is_row space.labels) h.marks h.first z
-        (IsInside.width d.inside) (d.level, IsInside.fixed d.inside) v);
-  })
-    where
-      key : List ℕ
-      key = marked (filter is_row space.labels) h.marks
+  start_is_cobasis rows start h =
+      subst (λ (key : List ℕ). IsCobasis space key) (sym h.taken)
+      (marked_is_cobasis (filter is_row space.labels) (λ k c. (filter_only is_row space.labels k c).0) rows h.marks h.first)

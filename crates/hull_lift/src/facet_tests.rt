@@ -3,6 +3,7 @@ ghost use Rattle.std.specs.Prelude.{◌≡◌, ◌<◌, ◌≤◌, true, length,
 ghost use Rattle.std.specs.List.{Contains};
 ghost use Rattle.poly_model.specs.Systems.{row_of};
 ghost use Rattle.hull_lift.specs.Facets.{IsColumn, HasPointRows};
+ghost use Rattle.dictionary.specs.Blanks.{IsBlankOf};
 
 use crate::tests::{File, poly_in};
 use crate::{facet_row, is_shown, system_of};
@@ -198,7 +199,7 @@ fn dictionary_counted<L: Ledger>(
     exchanges: &[[u32; 2]],
     blank: Blank,
 ) -> Result<Dict, Fail>
-    requires blank { (blank.name ≡ L.name) × (blank.parts ≡ L.parts) × (0 < blank.parts) }
+    requires blank { IsBlankOf blank.name blank.parts L.name L.parts }
 {
     let mut steps = Steps::<L>::new(blank);
     let mut dict = match sys.kind() {

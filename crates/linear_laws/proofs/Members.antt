@@ -1,10 +1,17 @@
--- The members of a list, from its first element on; ascending lists with the same members are equal.
+-- The members of a list, from its first element on; ascending lists with the same members are equal; equal lists have
+-- equal first elements and equal others.
 use Rattle.std.proofs.Common.{◌≡◌, ◌⊎◌, inl, inr, ⊎_elim, ℕ, zero, suc, ◌<◌, ◌≤◌, List, [], ◌∷◌, refl, sym, subst, arith}
 use Rattle.std.proofs.lemmas.Bool.{cases_lt}
 use Rattle.std.specs.List.{Contains, AllByRecursion}
 use Rattle.poly_model.specs.Keys.{IsAscending}
 
 module _ {X : Type 0} where
+  pub same_first : (x y : X) (xs ys : List X) → (x ∷ xs) ≡ (y ∷ ys) → x ≡ y
+  same_first x y xs ys e = cc
+
+  pub same_others : (x y : X) (xs ys : List X) → (x ∷ xs) ≡ (y ∷ ys) → xs ≡ ys
+  same_others x y xs ys e = cc
+
   pub Contains-nil : (x : X) → Contains [] x → ⊥
   Contains-nil x h = let l = h.1 in omega arith
 

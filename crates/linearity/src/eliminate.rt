@@ -6,6 +6,7 @@ ghost use Rattle.poly_model.specs.declared.overflow.Overflow.{Overflow as Passed
 ghost use Rattle.poly_model.specs.Dictionaries.{Table};
 ghost use Rattle.poly_model.specs.Overflows.{Passes};
 ghost use Rattle.poly_model.specs.Systems.{Polyhedron, cone_of, row_of};
+ghost use Rattle.dictionary.specs.Blanks.{IsBlankOf};
 ghost use Rattle.dictionary.specs.Views.{table_of, CanPivot};
 ghost use Rattle.linearity.specs.Columns.{IsLeastColumn, IsZeroAtCoordinates};
 ghost use Rattle.linearity.specs.Elimination.{IsDictionaryOf, IsEliminated, tries_others};
@@ -71,7 +72,7 @@ fn least_column(dict: &Dict, row: Label) -> Option<Label>
 fn enter<L: Ledger>(dict: &mut Dict, row: Label, blank: Blank) -> Result<(), Overflow>
     requires label { Contains dict.old.labels row }
     requires row { IsRow row }
-    requires blank { (blank.name ≡ L.name) × (blank.parts ≡ L.parts) × (0 < blank.parts) }
+    requires blank { IsBlankOf blank.name blank.parts L.name L.parts }
     ensures entered { IfOk result (λ _. IsEntered dict.old row dict.new) }
     ensures unchanged { IfErr result (λ _. dict.new ≡ dict.old) }
     ensures overflows { IfErr result (λ o. (k : ℕ) × OverflowsFor dict.old row k o) }

@@ -9,6 +9,7 @@ ghost use Rattle.search_laws.specs.PhaseOne.{MeetsRows};
 ghost use Rattle.phase_one.specs.Worst.{IsWorstRow};
 ghost use Rattle.phase_one.specs.Beginning.{IsStart};
 ghost use Rattle.phase_one.specs.Found.{IsPreparationOf, IsStartOf, IsGivenFrom, IsFound, StopsPhaseOne};
+ghost use Rattle.dictionary.specs.Blanks.{IsBlankOf};
 
 use crate::begin::begin;
 use crate::finish::finish;
@@ -82,7 +83,7 @@ fn from_worst<L: Ledger>(
 ) -> Result<Dict, FirstStop>
     requires start { (space : Space) × IsStart space start }
     requires worst { IsWorstRow start worst }
-    requires blank { (blank.name ≡ L.name) × (blank.parts ≡ L.parts) × (0 < blank.parts) }
+    requires blank { IsBlankOf blank.name blank.parts L.name L.parts }
     ensures given { IfOk result (λ d. (space : Space) → IsStart space start →
         IsGivenFrom space start.key d) }
     ensures infeasible { IsErrOf result FirstStop.Infeasible → (space : Space) → IsStart space start →

@@ -1,5 +1,6 @@
 //! A dictionary of rows at random, with numbers as large as is asked.
 ghost use Rattle.std.specs.Prelude.{◌≡◌, ◌<◌};
+ghost use Rattle.dictionary.specs.Blanks.{IsBlankOf};
 
 use crate::plan::{Entries, Plan};
 use crate::random::Random;
@@ -48,7 +49,7 @@ fn exchange_counted<L: Ledger>(
     inside: Label,
     blank: Blank,
 ) -> Result<bool, Overflow>
-    requires blank { (blank.name ≡ L.name) × (blank.parts ≡ L.parts) × (0 < blank.parts) }
+    requires blank { IsBlankOf blank.name blank.parts L.name L.parts }
 {
     if !dict.can_pivot(outside, inside) {
         return Ok(false);

@@ -112,7 +112,7 @@ module _ (p : Polyhedron) (at last : Dictionary) (free : List ℕ) (b : IsBegun 
       (member_has (coordinate_index (coordinate_label j)) free (subst (Contains free) (sym there) c)))
 
   -- ---- which labels are left
-  left_only : (k : ℕ) → Contains left k → Contains at.key k × (IsCoordinate k) × (is_member (coordinate_index k) free ≡ false)
+  pub left_only : (k : ℕ) → Contains left k → Contains at.key k × (IsCoordinate k) × (is_member (coordinate_index k) free ≡ false)
   left_only k c =
       let h = filter_only (is_kept free) at.key k c in
       ⊎_elim

@@ -1,7 +1,8 @@
 -- What is shown where the dictionary stands and one label is left: the one coordinate of the key that is not free.
-use Rattle.std.proofs.Common.{◌≡◌, ⊎_elim, Bool, ℕ, ◌-◌, ◌<◌, ◌≤◌, List, [], ◌∷◌, length, map, refl, sym, ap, subst, arith}
+use Rattle.std.proofs.Common.{◌≡◌, ⊎_elim, Bool, ℕ, ◌-◌, ◌<◌, ◌≤◌, List, [], ◌∷◌, length, map, refl, sym, ap, subst, ◌∙◌, arith}
 use Rattle.std.specs.List.{Contains, range_with_len}
 use Rattle.std.proofs.lemmas.List.Elements.{Contains-append_cases}
+use Rattle.poly_num.specs.Vectors.{Vector}
 use Rattle.poly_model.specs.Limits.{most_columns}
 use Rattle.poly_model.specs.Systems.{System, Polyhedron, cone_of}
 use Rattle.poly_model.specs.Spaces.{cone_space}
@@ -94,3 +95,10 @@ module _ (sys : System) (free : List ℕ) (d : Dictionary) (from : ℕ) (p : Pol
         (one_on p cone free d fixed k marks stands are leaves listed side
         (subst (λ j. IsShownOn (cone_of p) d j side) (is_the_one col is)
         (subst (λ s. IsShownOn s d col side) at.file h))))
+
+    -- and so is one that is written as the vector of the column
+    pub one_written : (side : Side) → IsShownOn sys d col side → (n : ℕ) → n ≡ sys.n → (vector : Vector) →
+        vector ≡ vector_on side (primitive_column d col n) → Lists (IsCornerUnder cone marks) (vector ∷ [])
+    one_written side h n width vector e =
+        subst (λ (y : Vector). Lists (IsCornerUnder cone marks) (y ∷ []))
+        (sym (e ∙ ap (λ m. vector_on side (primitive_column d col m)) width)) (one_here side h)

@@ -23,7 +23,7 @@ use std::alloc::{AllocError, Global};
 
 /// What a listing begins with.
 #[derive(Drop)]
-pub(crate) struct Beginning {
+pub struct Beginning {
     /// The dictionary of the cone at which the linear rows have been tried.
     pub dict: Box<Dict>,
     /// The same once all rows have been tried.
@@ -35,14 +35,14 @@ pub(crate) struct Beginning {
 
 /// What a search writes over.
 #[derive(Drop)]
-pub(crate) struct Room {
+pub struct Room {
     /// Dictionaries of one shape, one for each row that a list takes.
     pub deeper: Vec<Dict>,
     pub vector: Vec<Num>,
 }
 
 /// What the listing of a system begins with.
-pub(crate) fn begin(alloc: Global, sys: &System) -> Result<Beginning, FeasibleStop>
+pub fn begin(alloc: Global, sys: &System) -> Result<Beginning, FeasibleStop>
     ensures begun { IfOk result (λ b. (p : Polyhedron) → sys.now ≡ cone_of p → IsBegun p b.dict.value b.last.value b.free) }
     ensures room { IfOk result (λ b. HasRoomForAll sys.now b.free b.dict.value b.room.deeper.items b.room.vector.items) }
     ensures overflow { (o : Passed) → IsErrOf result (FeasibleStop.Overflow o) → (p : Polyhedron) →

@@ -5,7 +5,7 @@ use poly_model::{FreeColumns, Overflow, System};
 /// A prefix of the rows of a system: those before the label `from`, of which exactly the ones in the cobasis of `at`
 /// are taken, beside the labels that are fixed there: linear rows, and coordinates that are free. `free` are the free
 /// columns, ascending.
-#[derive(Drop)]
+#[derive(Clone, Copy)]
 pub struct Prefix<'a> {
     pub sys: &'a System,
     pub free: &'a FreeColumns,

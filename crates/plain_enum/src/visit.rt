@@ -5,6 +5,7 @@ ghost use Rattle.std.specs.Prelude.{◌≡◌, ◌≤◌, ◌<◌, ℕ, ℤ, Boo
 ghost use Rattle.std.specs.List.{All};
 ghost use Rattle.poly_model.specs.declared.overflow.Overflow.{Overflow as Passed};
 ghost use Rattle.poly_model.specs.Systems.{Polyhedron, cone_of};
+ghost use Rattle.dictionary.specs.Blanks.{IsBlankOf};
 ghost use Rattle.dictionary.specs.Views.{Dictionary, CanPivot, IsPivot, IsOverflow};
 ghost use Rattle.listing_laws.specs.ListedCone.{ListedCone};
 ghost use Rattle.listing_laws.specs.Prefixes.{IsCornerUnder};
@@ -64,9 +65,9 @@ fn visit_left<O, E, V: Visit<O, E>>(
     }
 }
 
-// Makes the next dictionary the one of the cobasis in which a row has taken the place of a column. Where that
-// overflows, the next one is as before.
-fn take_row(dict: &Dict, row: Label, col: Label, next: &mut Dict) -> Result<(), Overflow>
+/// Makes the next dictionary the one of the cobasis in which a row has taken the place of a column. Where that
+/// overflows, the next one is as before.
+pub fn take_row(dict: &Dict, row: Label, col: Label, next: &mut Dict) -> Result<(), Overflow>
     requires can { CanPivot dict.now row col }
     requires shape { HasShapeOf dict.now next.old }
     ensures pivoted { IfOk result (λ _. IsPivot dict.now row col next.new) }
@@ -86,7 +87,7 @@ fn take_row_counted<L: Ledger>(
 ) -> Result<(), Overflow>
     requires can { CanPivot dict.now row col }
     requires shape { HasShapeOf dict.now next.old }
-    requires blank { (blank.name ≡ L.name) × (blank.parts ≡ L.parts) × (0 < blank.parts) }
+    requires blank { IsBlankOf blank.name blank.parts L.name L.parts }
     ensures pivoted { IfOk result (λ _. IsPivot dict.now row col next.new) }
     ensures passes { IfErr result (λ o. IsOverflow dict.now row col o) }
     ensures shape { HasShapeOf dict.now next.new }

@@ -12,6 +12,10 @@ use Rattle.poly_io.specs.Written.{AppendsPart, Prints}
 
 -- ---- first bytes of a text
 
+-- a text that was written is written in part
+pub part_of_all : (a b : Option (List ℕ)) (text : List ℕ) → Appends a b text → AppendsPart a b text
+part_of_all a b text p = record { sent = text; unsent = []; split = sym (append-nil text); bytes = p }
+
 -- the text stopped within its first piece
 pub part_before : {a b : Option (List ℕ)} {s : List ℕ} (t : List ℕ) → AppendsPart a b s → AppendsPart a b (s ++ t)
 part_before t p = record {

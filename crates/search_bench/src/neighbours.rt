@@ -1,5 +1,6 @@
 //! The cobases of rows that one pivot reaches from another.
 ghost use Rattle.std.specs.Prelude.{◌≡◌, ◌<◌};
+ghost use Rattle.dictionary.specs.Blanks.{IsBlankOf};
 
 use crate::stop::Stop;
 use dictionary::{Dict, Steps};
@@ -46,7 +47,7 @@ fn exchange_counted<L: Ledger>(
     col: Label,
     blank: Blank,
 ) -> Result<bool, Overflow>
-    requires blank { (blank.name ≡ L.name) × (blank.parts ≡ L.parts) × (0 < blank.parts) }
+    requires blank { IsBlankOf blank.name blank.parts L.name L.parts }
 {
     if !dict.can_pivot(row, col) {
         return Ok(false);

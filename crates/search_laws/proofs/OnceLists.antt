@@ -4,7 +4,7 @@ use Rattle.std.proofs.Common.{◌≡◌, ◌≢◌, ◌⊎◌, inl, inr, ⊎_eli
 use Rattle.std.specs.List.{Contains}
 use Rattle.std.proofs.lemmas.Bool.{cases_eq}
 use Rattle.std.proofs.lemmas.List.Elements.{Contains-append_cases}
-use Rattle.linear_laws.proofs.Members.{Contains-nil, Contains-first, Contains-later, Contains-cons_cases}
+use Rattle.linear_laws.proofs.Members.{same_first, same_others, Contains-nil, Contains-first, Contains-later, Contains-cons_cases}
 use Rattle.search_laws.specs.Shares.{StandOnce, ListsAll}
 use Rattle.tree_laws.proofs.Descents.{take_out}
 
@@ -15,18 +15,10 @@ one_key_or_not [] (y ∷ b) = inr (λ e. Contains-nil y (subst (λ k. Contains k
 one_key_or_not (x ∷ a) [] = inr (λ e. Contains-nil x (subst (λ k. Contains k x) e (Contains-first x a)))
 one_key_or_not (x ∷ a) (y ∷ b) = by (cases_eq x y) (one_key_or_not a b)
   where
-    head_of : List ℕ → ℕ
-    head_of [] = 0
-    head_of (z ∷ zs) = z
-
-    tail_of : List ℕ → List ℕ
-    tail_of [] = []
-    tail_of (z ∷ zs) = zs
-
     by : (x ≡ y) ⊎ (x ≢ y) → (a ≡ b) ⊎ (a ≢ b) → ((x ∷ a) ≡ (y ∷ b)) ⊎ ((x ∷ a) ≢ (y ∷ b))
     by (inl e) (inl f) = inl cc
-    by (inl e) (inr n) = inr (λ g. n (ap tail_of g))
-    by (inr n) f = inr (λ g. n (ap head_of g))
+    by (inl e) (inr n) = inr (λ g. n (same_others x y a b g))
+    by (inr n) f = inr (λ g. n (same_first x y a b g))
 
 pub one_of_or_not : (ks : List (List ℕ)) (k : List ℕ) → Contains ks k ⊎ (Contains ks k → ⊥)
 one_of_or_not [] k = inr (Contains-nil k)

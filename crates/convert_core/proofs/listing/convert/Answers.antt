@@ -3,7 +3,7 @@ use Rattle.poly_model.specs.declared.overflow.Overflow.{Overflow as Passed}
 use Rattle.poly_model.specs.Systems.{Polyhedron}
 use Rattle.row_printer.specs.Listings.{ListsIfFeasible}
 use Rattle.row_printer.specs.declared.stop.ListStop.{ListStop}
-use Rattle.convert_core.specs.Searches.{IsSearch}
+use Rattle.convert_core.specs.Searches.{IsSearch, IsAtRoot}
 use Rattle.convert_core.specs.Listed.{TakesSteps, IsDueInSearch}
 use Rattle.convert_core.proofs.NotListed.{not_listed, no_steps, is_listed}
 use Rattle.convert_core.proofs.listing.convert.Goals as goal
@@ -15,7 +15,9 @@ returns-in-Ok-clause-listed g c =
     (is_listed c.in-Ok.search.poly.now c.in-Ok.search.cone c.in-Ok.search.rays c.in-Ok.search.walker
     c.in-Ok.search.vector.items
     (subst (λ (p : Polyhedron). IsSearch p c.in-Ok.search.cone c.in-Ok.search.rays c.in-Ok.search.walker
-    c.in-Ok.search.vector.items) (sym c.in-Ok.ensures.poly) c.in-Ok.ensures.search) (g.S.Sink.written c.args.out.now) (g.S.Sink.written c.print.new.out) _ c.print.result
+    c.in-Ok.search.vector.items) (sym c.in-Ok.ensures.poly) c.in-Ok.ensures.search)
+    (subst (λ (p : Polyhedron). IsAtRoot p c.in-Ok.search.walker) (sym c.in-Ok.ensures.poly) c.in-Ok.ensures.at_root)
+    (g.S.Sink.written c.args.out.now) (g.S.Sink.written c.print.new.out) _ c.print.result
     c.print.ensures.listed c.print.ensures.infeasible c.print.ensures.overflow)
 
 pub returns-in-Ok-clause-cost : goal.returns-in-Ok-clause-cost

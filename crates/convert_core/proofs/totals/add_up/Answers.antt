@@ -11,7 +11,7 @@ returns-in-Ok-list_rows-clause-totals g c =
     let search = c.args.search.now in
     let rows = c.in-Ok-list_rows.ensures.rows.whole in
     adds_up search.poly.now
-    (has_point search.poly.now search.cone search.rays search.walker search.vector.items c.requires.search)
+    (has_point search.poly.now search.cone search.rays search.walker search.vector.items c.requires.search c.requires.at_root)
     c.args.lines.now c.requires.lines rows.0 rows.1 c.none.result.tally c.in-Ok-list_rows.shown.tally
     c.none.ensures.rows c.none.ensures.sum rows.2.counts _ refl refl refl
 
@@ -24,4 +24,4 @@ returns-in-Err-Overflow-clause-overflow g c o h =
     let search = c.args.search.now in
     let due = rw c.in-Err-Overflow.field-0-is at c.in-Err-Overflow.ensures.overflow in
     subst (λ (x : Passed). IsDueInSearch search.poly.now x) (same_overflow c.in-Err-Overflow.overflow o h)
-    (inr (inr (search.walker.root, c.requires.search.search_root, due c.in-Err-Overflow.overflow refl)))
+    (inr (inr (search.walker.root, c.requires.at_root.search_root, due c.in-Err-Overflow.overflow refl)))

@@ -1,6 +1,5 @@
 use Rattle.std.specs.Result.{IsErrOf}
-use Rattle.std.proofs.Common.{◌≡◌, ◌⊎◌, inl, inr, ⊎_elim, Err, IfOk, ap, subst}
-use Rattle.poly_model.specs.declared.overflow.Overflow.{Overflow as Passed}
+use Rattle.std.proofs.Common.{◌≡◌, inl, inr, ⊎_elim, Err, IfOk, ap, subst}
 use Rattle.poly_model.specs.Systems.{Polyhedron}
 use Rattle.convert_core.specs.declared.begin.SearchStop.{SearchStop}
 use Rattle.convert_core.specs.Totals.{AreTotals}

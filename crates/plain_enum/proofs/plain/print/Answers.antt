@@ -62,36 +62,31 @@ returns-in_err-listing-clause-passes g c o e p last file b =
 
 pub returns-in-Ok-finish-clause-written : goal.returns-in-Ok-finish-clause-written
 returns-in-Ok-finish-clause-written g c p last file b same =
+    let start = c.args.start.now in
     let old = g.S.Sink.written c.args.out.now in
     let mid = g.S.Sink.written c.begin.new.out in
-    let then = g.S.Sink.written c.list_rows.new.out in
-    let rows = (c.in_ok-listing.ensures.written p last file b).whole in
-    ends_whole c.args.start.now.sys.now p (begun_cone p c.args.start.now.free.now c.args.start.now.dict.now) file
-    (is_cone_of p c.args.start.now.dict.now last c.args.start.now.free.now b c.args.start.now.sys.now file)
-    c.args.lines.now
-    (begun_lines p c.args.start.now.dict.now last c.args.start.now.free.now b c.args.start.now.sys.now c.args.lines.now
-    file same)
+    ends_whole start.sys.now p (begun_cone p start.free.now start.dict.now) file
+    (is_cone_of p start.dict.now last start.free.now b start.sys.now file) c.args.lines.now
+    (begun_lines p start.dict.now last start.free.now b start.sys.now c.args.lines.now file same)
     old mid (g.S.Sink.written c.list_rows.new.out) (g.S.Sink.written c.finish.new.out) _ refl
     (subst (λ t. Appends old mid t)
-    (same_head p c.args.start.now.sys.now c.args.lines.now c.kind.result c.n.result file c.kind.ensures c.n.ensures.value)
-    c.in-Ok.ensures.prints.whole) c.none.result.tally c.in_ok-listing.field-0.tally c.none.ensures.rows refl rows
-    c.in-Ok-finish.ensures.whole
+    (same_head p start.sys.now c.args.lines.now c.kind.result c.n.result file c.kind.ensures c.n.ensures.value)
+    c.in-Ok.ensures.prints.whole) c.none.result.tally c.in_ok-listing.field-0.tally c.none.ensures.rows refl
+    (c.in_ok-listing.ensures.written p last file b).whole c.in-Ok-finish.ensures.whole
 
 pub returns-in-Err-finish-clause-written : goal.returns-in-Err-finish-clause-written
 returns-in-Err-finish-clause-written g c p last file b same =
+    let start = c.args.start.now in
     let old = g.S.Sink.written c.args.out.now in
     let mid = g.S.Sink.written c.begin.new.out in
     let rows = (c.in_ok-listing.ensures.written p last file b).whole in
-    stops_in_end c.args.start.now.sys.now p (begun_cone p c.args.start.now.free.now c.args.start.now.dict.now) file
-    (is_cone_of p c.args.start.now.dict.now last c.args.start.now.free.now b c.args.start.now.sys.now file)
-    c.args.lines.now
-    (begun_lines p c.args.start.now.dict.now last c.args.start.now.free.now b c.args.start.now.sys.now c.args.lines.now
-    file same)
+    stops_in_end start.sys.now p (begun_cone p start.free.now start.dict.now) file
+    (is_cone_of p start.dict.now last start.free.now b start.sys.now file) c.args.lines.now
+    (begun_lines p start.dict.now last start.free.now b start.sys.now c.args.lines.now file same)
     old mid (g.S.Sink.written c.list_rows.new.out) (g.S.Sink.written c.finish.new.out) _ refl
     (subst (λ t. Appends old mid t)
-    (same_head p c.args.start.now.sys.now c.args.lines.now c.kind.result c.n.result file c.kind.ensures c.n.ensures.value)
-    c.in-Ok.ensures.prints.whole)
-    rows.0 rows.1 rows.2.bytes c.in-Err-finish.ensures.part
+    (same_head p start.sys.now c.args.lines.now c.kind.result c.n.result file c.kind.ensures c.n.ensures.value)
+    c.in-Ok.ensures.prints.whole) rows.0 rows.1 rows.2.bytes c.in-Err-finish.ensures.part
 
 -- ---- the faults
 pub returns-in-Err-clause-cause : goal.returns-in-Err-clause-cause
