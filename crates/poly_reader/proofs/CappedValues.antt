@@ -1,29 +1,12 @@
--- The value of digits, capped: one more digit, and that the cap changes no number.
-use Rattle.std.proofs.Common.{◌≡◌, ◌<◌, ◌≤◌, ◌+◌, ◌^◌, ℕ, zero, suc, Bool, true, false, Option, Some, None, List, [], ◌∷◌, length, take, drop, get_or, refl, sym, ◌∙◌, inl, inr, arith}
-use Rattle.std.specs.Prelude.{◌==◌, ◌||◌, not, option_map, position}
-use Rattle.std.proofs.lemmas.Bool.{eqb-true, ne_eqb, cases_lt, le-leb}
-use Rattle.std.proofs.lemmas.List.Sums.{fold_more}
+-- The cap on a value changes no number.
+use Rattle.std.proofs.Common.{◌≡◌, ◌<◌, ◌≤◌, ◌+◌, ◌^◌, ℕ, zero, suc, Bool, true, false, Option, Some, None, List, drop, refl, sym, ◌∙◌, inl, inr, arith}
+use Rattle.std.specs.Prelude.{◌==◌, ◌||◌, option_map, position}
+use Rattle.std.proofs.lemmas.Bool.{ne_eqb, cases_lt, le-leb}
 use Rattle.std.proofs.lemmas.List.Folds.{list_any_at, list_any_none}
-use Rattle.poly_reader.specs.Lines.{is_nonempty}
-use Rattle.poly_reader.specs.Grammar.{with_digit_of, value_of, count_of, is_slash, denominator_of, is_wide, capped}
+use Rattle.plain_text.specs.Digits.{count_of, capped}
+use Rattle.poly_reader.specs.Grammar.{is_slash, denominator_of, is_wide}
 use Rattle.poly_reader.specs.Matrix.{sizes_of}
-use Rattle.poly_reader.proofs.Positions.{position_some, passes, none_passes}
-
-pub no_length : (word : List ℕ) (b : Bool) → b ≡ (length word == 0) → is_nonempty word ≡ not b
-no_length [] true e = refl
-no_length [] false e = absurd cc
-no_length (x ∷ word) true e = let h = eqb-true (length (x ∷ word)) 0 (sym e) in absurd (omega arith)
-no_length (x ∷ word) false e = refl
-
-capped_digit : (v d : ℕ) → capped (with_digit_of (capped v) d) ≡ capped (with_digit_of v d)
-capped_digit v d = omega arith
-
-pub value_more : (digits : List ℕ) (i d : ℕ) → i < length digits
-    → capped (with_digit_of (capped (value_of (take i digits))) (get_or digits i d))
-    ≡ capped (value_of (take (i + 1) digits))
-unfolding value_of
-value_more digits i d lt =
-    rw (fold_more with_digit_of 0 digits i d lt) (capped_digit (value_of (take i digits)) (get_or digits i d))
+use Rattle.plain_text.proofs.Positions.{position_some, passes, none_passes}
 
 zero_capped : (q : ℕ) → (capped q == 0) ≡ (q == 0)
 zero_capped zero = refl

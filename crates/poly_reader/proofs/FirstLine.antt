@@ -3,8 +3,9 @@ use Rattle.std.proofs.Common.{◌≡◌, ◌+◌, ℕ, List, [], ◌∷◌, take
 use Rattle.std.specs.Prelude.{position}
 use Rattle.std.specs.List.{slice_split}
 use Rattle.std.proofs.lemmas.List.Splits.{slice_split_first, slice_split_none}
-use Rattle.poly_reader.specs.Lines.{is_newline, words_on, lines_from}
-use Rattle.poly_reader.proofs.Positions.{position_some, none_passes}
+use Rattle.plain_text.specs.Cuts.{is_newline}
+use Rattle.poly_reader.specs.Lines.{words_on, lines_from}
+use Rattle.plain_text.proofs.Positions.{position_some, none_passes}
 
 pub first_line : (number : ℕ) (text : List ℕ) (n : ℕ) → position is_newline text ≡ Some n
     → lines_from number (slice_split is_newline text) ≡ words_on number (take n text)

@@ -4,8 +4,9 @@ use Rattle.std.specs.Prelude.{position}
 use Rattle.std.specs.List.{slice_split, filter}
 use Rattle.std.proofs.lemmas.List.{drop_all}
 use Rattle.std.proofs.lemmas.List.Splits.{slice_split_first, slice_split_none, slice_split-cons_yes}
-use Rattle.poly_reader.specs.Lines.{is_nonempty, is_blank, is_word_byte, pieces}
-use Rattle.poly_reader.proofs.Positions.{IsFirst, position_some, position_none, passes, fails_before, none_passes}
+use Rattle.plain_text.specs.Digits.{is_nonempty}
+use Rattle.poly_reader.specs.Lines.{is_blank, is_word_byte, pieces}
+use Rattle.plain_text.proofs.Positions.{IsFirst, position_some, position_none, passes, fails_before, none_passes}
 
 past_blank : (b : ℕ) (bytes : List ℕ) → is_blank b ≡ true → pieces (b ∷ bytes) ≡ pieces bytes
 unfolding pieces

@@ -4,7 +4,7 @@ use Rattle.std.specs.Prelude.{◌==◌, ◌||◌, nat_lt}
 use Rattle.std.proofs.lemmas.Bool.{cases_lt}
 use Rattle.std.proofs.lemmas.Bool.Decides.{nat_tests}
 use Rattle.poly_model.specs.Limits.{most_columns, most_file_rows}
-use Rattle.poly_reader.specs.Grammar.{capped}
+use Rattle.plain_text.specs.Digits.{capped}
 use Rattle.poly_reader.specs.Header.{rows_within, width_within}
 use Rattle.poly_reader.proofs.CappedValues.{small}
 

@@ -12,7 +12,7 @@ use Rattle.poly_reader.specs.declared.bad.BadKind.{BadKind}
 use Rattle.poly_reader.specs.declared.bad.BadKind.TheVariants.{BadFirst, BadHeader, BadLinearity, BadNumber, BadWidth, LinearPoint, LongData, MisplacedLinearity, NoBegin, NoEnd, NoRows, Nonnegative, ShortData, TooManyRows, UnsupportedType, WideNumber, WideRow, ZeroDenominator}
 use Rattle.poly_reader.specs.Limits.{most_file_bytes}
 use Rattle.poly_reader.specs.Lines.{pieces, lines_from, firsts}
-use Rattle.poly_reader.specs.Grammar.{value_of, count_of}
+use Rattle.plain_text.specs.Digits.{value_of, count_of}
 use Rattle.poly_reader.specs.FirstFault.{bad, each}
 use Rattle.poly_reader.specs.Head.{head_of, body_of, are_counts, line_fault, names_on, opening_of}
 use Rattle.poly_reader.specs.Header.{rows_announced, width_of, type_fault, size_of}

@@ -1,4 +1,3 @@
-pub mod Positions
 pub mod FirstWord
 pub mod FirstLine
 pub mod WordsOn

@@ -10,7 +10,7 @@ use Rattle.poly_model.specs.Limits.{most_file_rows}
 use Rattle.poly_reader.specs.declared.bad.BadFile.{BadFile}
 use Rattle.poly_reader.specs.declared.bad.BadKind.TheVariants.{BadLinearity}
 use Rattle.poly_reader.specs.Lines.{Line}
-use Rattle.poly_reader.specs.Grammar.{capped}
+use Rattle.plain_text.specs.Digits.{capped}
 use Rattle.poly_reader.specs.FirstFault.{◌>>=◌, bad, each}
 use Rattle.poly_reader.specs.Head.{Name, names_on, names_of, head_of, begins}
 use Rattle.poly_reader.specs.Marks.{name_fault, is_named, marks_of, checked_marks, with_name, with_names, Marks}

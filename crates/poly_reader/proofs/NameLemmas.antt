@@ -4,7 +4,7 @@ use Rattle.std.specs.Prelude.{◌&&◌, option_map}
 use Rattle.std.proofs.lemmas.Bool.{cases_lt}
 use Rattle.std.proofs.lemmas.List.{take_all}
 use Rattle.poly_reader.specs.Lines.{Word}
-use Rattle.poly_reader.specs.Grammar.{is_count, value_of, count_of, capped}
+use Rattle.plain_text.specs.Digits.{is_count, value_of, count_of, capped}
 use Rattle.poly_reader.specs.Head.{Name, name_at, are_counts, names_rows}
 use Rattle.poly_reader.proofs.CappedValues.{small}
 

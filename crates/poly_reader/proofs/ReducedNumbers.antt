@@ -7,7 +7,8 @@ use Rattle.poly_num.proofs.FractionLemmas.{lowest_reduced}
 use Rattle.poly_reader.specs.declared.bad.BadKind.{BadKind}
 use Rattle.poly_reader.specs.declared.bad.BadFile.{BadFile}
 use Rattle.poly_reader.specs.Lines.{Word}
-use Rattle.poly_reader.specs.Grammar.{is_wide, is_negative, unsigned, numerator_of, denominator_of, signed}
+use Rattle.plain_text.specs.Digits.{is_negative, signed}
+use Rattle.poly_reader.specs.Grammar.{is_wide, unsigned, numerator_of, denominator_of}
 use Rattle.poly_reader.specs.Matrix.{sizes_of, fraction_of, number_of, number_on}
 use Rattle.poly_reader.specs.Scaling.{scaled_entries}
 use Rattle.poly_reader.specs.Rows.{numbers_in}

@@ -1,23 +1,14 @@
 -- The sizes of a word of digits, maybe with a slash and more digits behind it.
-use Rattle.std.proofs.Common.{◌≡◌, ◌<◌, ◌≤◌, ◌+◌, ℕ, true, false, Some, List, [], ◌∷◌, length, take, drop, get_or, refl, arith, length-take-le}
+use Rattle.std.proofs.Common.{◌≡◌, ◌<◌, ◌≤◌, ◌+◌, ℕ, true, false, Some, List, length, take, drop, get_or, refl, arith, length-take-le}
 use Rattle.std.specs.List.{list_all, position_or_len}
 use Rattle.std.proofs.lemmas.Bool.{ne_eqb}
 use Rattle.std.proofs.lemmas.List.{take_all, get_or-take}
 use Rattle.std.proofs.lemmas.List.Sums.{AllPass-from_list_all, position_or_len_is}
 use Rattle.std.proofs.lemmas.List.Elements.{All-get_or, All-from_get_or}
 use Rattle.std.proofs.lemmas.List.Folds.{list_any_at, list_any_none}
-use Rattle.poly_reader.specs.Grammar.{is_digit, is_slash, value_of, count_of, numerator_of, denominator_of}
-
--- v is the value of a text of digits
-pub record IsValue (v : ℕ) (text : List ℕ) : Type 0 where
-  pub digits : list_all is_digit text ≡ true
-  pub value : v ≡ value_of text
-  pub some : 0 < length text
-
-count_is : (v : ℕ) (text : List ℕ) → IsValue v text → count_of text ≡ Some v
-unfolding count_of
-count_is v [] h = absurd (omega (arith, h.some))
-count_is v (b ∷ text) h = rw (h.digits, ← h.value) refl
+use Rattle.plain_text.specs.Digits.{is_digit}
+use Rattle.plain_text.proofs.DigitValues.{IsValue, count_of_value}
+use Rattle.poly_reader.specs.Grammar.{is_slash, numerator_of, denominator_of}
 
 no_slash : (b : ℕ) → is_digit b ≡ true → is_slash b ≡ false
 no_slash b h = ne_eqb b 47 (λ e. absurd (by (rw e at h)))
@@ -32,17 +23,6 @@ digit_no_slash word n k h le lt =
     (AllPass-from_list_all is_digit (take n word) h) in
     no_slash (get_or word k 0) (rw (get_or-take n word k 0 lt) at all)
 
--- the first n bytes of a text are digits, and v is their value
-pub taken : (v n : ℕ) (text : List ℕ) → v ≡ value_of (take n text) → list_all is_digit (take n text) ≡ true
-    → n ≤ length text → (n ≡ 0 → ⊥) → IsValue v (take n text)
-taken v n text value digits le some =
-    record { digits = digits; value = value; some = omega (arith, length-take-le n text le) }
-
-pub all_taken : (v n : ℕ) (text : List ℕ) → v ≡ value_of (take n text) → list_all is_digit (take n text) ≡ true
-    → n ≤ length text → (n ≡ 0 → ⊥) → length text ≤ n → IsValue v text
-all_taken v n text value digits le some all =
-    rw (take_all n text all) at (taken v n text value digits le some)
-
 -- ---- no slash
 
 pub whole_sizes : (word : List ℕ) (v : ℕ) → IsValue v word
@@ -53,7 +33,7 @@ whole_sizes word v h =
     (omega arith) lt in
     let at : position_or_len is_slash word ≡ length word =
     position_or_len_is is_slash word (length word) 0 (omega arith) fails (λ lt. absurd (omega arith)) in (
-      rw (at, take_all (length word) word (omega arith)) (count_is v word h),
+      rw (at, take_all (length word) word (omega arith)) (count_of_value v word h),
       rw (list_any_none is_slash word (All-from_get_or (λ b. is_slash b ≡ false) word 0 fails)) refl,
     )
 
@@ -66,6 +46,6 @@ both_sizes word n p q above lt slash below =
     let at : position_or_len is_slash word ≡ n =
     position_or_len_is is_slash word n 0 (omega arith)
     (λ k less. digit_no_slash word n k above.digits (omega arith) less) (λ less. passes) in (
-      rw at (count_is p (take n word) above),
-      rw (list_any_at is_slash word n 0 lt passes, at) (count_is q (drop (n + 1) word) below),
+      rw at (count_of_value p (take n word) above),
+      rw (list_any_at is_slash word n 0 lt passes, at) (count_of_value q (drop (n + 1) word) below),
     )

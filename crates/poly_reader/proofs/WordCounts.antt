@@ -2,7 +2,8 @@
 use Rattle.std.proofs.Common.{◌≡◌, ◌<◌, ◌≤◌, ◌+◌, ℕ, true, false, Bool, refl, subst, List, [], ◌∷◌, length, arith}
 use Rattle.std.specs.List.{slice_split, filter, onto_first}
 use Rattle.std.proofs.lemmas.List.{length-map}
-use Rattle.poly_reader.specs.Lines.{Line, is_nonempty, is_blank, pieces, words_on}
+use Rattle.plain_text.specs.Digits.{is_nonempty}
+use Rattle.poly_reader.specs.Lines.{Line, is_blank, pieces, words_on}
 
 abbrev filled : List (List ℕ) → ℕ
 filled parts = length (filter is_nonempty parts)

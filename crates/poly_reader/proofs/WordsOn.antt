@@ -3,7 +3,7 @@ use Rattle.std.proofs.Common.{◌≡◌, ℕ, List, [], ◌∷◌, take, drop, a
 use Rattle.std.specs.Prelude.{position, map}
 use Rattle.poly_reader.specs.Lines.{Line, is_blank, is_word_byte, words_on}
 use Rattle.poly_reader.proofs.FirstWord.{past_front, first_word, only_word, no_word}
-use Rattle.poly_reader.proofs.Positions.{position_some}
+use Rattle.plain_text.proofs.Positions.{position_some}
 
 abbrev on : ℕ → List (List ℕ) → Line
 on number parts = map (λ (text : List ℕ). record { text = text; line = number }) parts

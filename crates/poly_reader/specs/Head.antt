@@ -9,7 +9,7 @@ use Rattle.poly_reader.specs.declared.head.Head.{Head}
 use Rattle.poly_reader.specs.declared.head.HeadLine.{HeadLine}
 use Rattle.poly_reader.specs.declared.head.HeadLine.TheVariants as lines
 use Rattle.poly_reader.specs.Lines.{Word, Line, begins_with, is_word, is_same, joined}
-use Rattle.poly_reader.specs.Grammar.{is_count, value_of}
+use Rattle.plain_text.specs.Digits.{is_count, value_of}
 use Rattle.poly_reader.specs.FirstFault.{◌>>=◌, Check, bad, unless, or_bad, each}
 
 -- the line begins with the word `begin`

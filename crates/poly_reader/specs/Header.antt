@@ -5,7 +5,7 @@ use Rattle.poly_reader.specs.declared.bad.BadFile.{BadFile}
 use Rattle.poly_reader.specs.declared.bad.BadKind.TheVariants.{BadHeader, TooManyRows, BadWidth, UnsupportedType}
 use Rattle.poly_reader.specs.declared.header.Header.{Header}
 use Rattle.poly_reader.specs.Lines.{Word, is_word}
-use Rattle.poly_reader.specs.Grammar.{count_of}
+use Rattle.plain_text.specs.Digits.{count_of}
 use Rattle.poly_reader.specs.FirstFault.{◌>>=◌, Check, bad, unless, or_bad}
 
 -- how many rows are announced, if that is said; how many numbers a row has; the words behind the header

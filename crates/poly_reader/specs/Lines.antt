@@ -2,11 +2,9 @@
 use Rattle.std.specs.Prelude.{ℕ, ◌+◌, Bool, true, false, not, ◌==◌, ◌||◌, ◌&&◌, if◌then◌else◌, List, [], ◌∷◌, Option, Some, None, length, map}
 use Rattle.std.specs.List.{slice_split, filter, flat_map}
 use Rattle.std.specs.Borrow.{Bor}
+use Rattle.plain_text.specs.Digits.{is_nonempty}
+use Rattle.plain_text.specs.Cuts.{is_newline}
 use Rattle.poly_reader.specs.declared.lines.Token.{Token}
-
--- LF, which ends a line
-abbrev pub is_newline : ℕ → Bool
-is_newline b = b == 10
 
 -- a space, a tab or a CR
 abbrev pub is_blank : ℕ → Bool
@@ -15,11 +13,6 @@ is_blank b = b == 32 || b == 9 || b == 13
 -- no blank
 abbrev pub is_word_byte : ℕ → Bool
 is_word_byte b = not (is_blank b)
-
--- at least one byte
-abbrev pub is_nonempty : List ℕ → Bool
-is_nonempty [] = false
-is_nonempty (b ∷ bytes) = true
 
 -- the same bytes
 abbrev pub is_same : List ℕ → List ℕ → Bool

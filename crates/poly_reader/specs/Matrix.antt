@@ -7,7 +7,8 @@ use Rattle.poly_reader.specs.declared.bad.BadFile.{BadFile}
 use Rattle.poly_reader.specs.declared.bad.BadKind.TheVariants.{TooManyRows, ShortData, LongData, BadNumber, ZeroDenominator, WideNumber, NoEnd, MisplacedLinearity, Nonnegative}
 use Rattle.poly_reader.specs.declared.matrix.Extent.{Extent}
 use Rattle.poly_reader.specs.Lines.{Word, is_word}
-use Rattle.poly_reader.specs.Grammar.{is_negative, unsigned, numerator_of, denominator_of, signed, is_wide}
+use Rattle.plain_text.specs.Digits.{is_negative, signed}
+use Rattle.poly_reader.specs.Grammar.{unsigned, numerator_of, denominator_of, is_wide}
 use Rattle.poly_reader.specs.FirstFault.{◌>>=◌, Check, bad, unless}
 
 -- the sizes above and below, or what is wrong with the word that has them

@@ -6,9 +6,9 @@ ghost use Rattle.poly_reader.specs.Head.{are_counts, names_rows, kind_said, open
 
 use crate::bad::bad;
 use crate::lines::{LineWords, Lines, is};
-use crate::number::{count, is_count};
 use crate::words::Words;
 use crate::{BadFile, BadKind};
+use plain_text::{count, is_count};
 use poly_model::Kind;
 
 /// The kind of a file, and the words behind `begin`.

@@ -7,9 +7,9 @@ ghost use Rattle.poly_reader.specs.Header.{rows_announced, rows_within, width_of
 
 use crate::bad::bad;
 use crate::lines::{Token, is};
-use crate::number::count;
 use crate::words::Words;
 use crate::{BadFile, BadKind};
+use plain_text::count;
 use poly_model::{MOST_COLUMNS, MOST_FILE_ROWS};
 
 /// The announced number of rows, where there is one, how many numbers a row has, and the words

@@ -1,9 +1,9 @@
 //! The lines of a text, each as its words: two cursors, above which nothing speaks of bytes.
 ghost use Rattle.std.specs.Prelude.{position, count_by, ◌≡◌, ◌≤◌, ◌<◌, ◌+◌, ◌^◌, [], ◌∷◌, length, MatchOption};
-ghost use Rattle.memchr.specs.Find.{IsFirstByte};
-ghost use Rattle.poly_reader.specs.Lines.{is_newline, is_blank, is_word_byte, is_same, word, words_on, lines_of, last_line};
+ghost use Rattle.plain_text.specs.Cuts.{is_newline};
+ghost use Rattle.poly_reader.specs.Lines.{is_blank, is_word_byte, is_same, word, words_on, lines_of, last_line};
 
-use memchr::memchr;
+use plain_text::newline_at;
 use std::marker::Model;
 
 /// A word of a text, and the number of its line.
@@ -77,34 +77,6 @@ fn is_newline_byte(b: u8) -> bool
     ensures { result ≡ is_newline b }
 {
     b == b'\n'
-}
-
-fn near_newline_at(text: &[u8]) -> Option<usize>
-    ensures { result ≡ position is_newline text.now }
-{
-    text.iter().position(|b| *b == b'\n')
-}
-
-// The same by vectors, for what may be long; a call, so that the code around it stays small.
-#[inline(never)]
-fn far_newline_at(text: &[u8]) -> Option<usize>
-    ensures { IsFirstByte is_newline text.now result }
-{
-    memchr(b'\n', text)
-}
-
-// A short line ends before a search by vectors pays.
-fn newline_at(text: &[u8]) -> Option<usize>
-    ensures { result ≡ position is_newline text.now }
-{
-    let near = text.len().min(16);
-    match near_newline_at(&text[..near]) {
-        Some(at) => Some(at),
-        None => {
-            let found = far_newline_at(&text[near..])?;
-            Some(near + found)
-        }
-    }
 }
 
 fn newlines(text: &[u8]) -> usize

@@ -2,7 +2,7 @@
 ghost use Rattle.std.specs.Prelude.{◌≡◌, ◌≤◌, [], ◌∷◌, length, map, take, replicate, false, Ok, IfOk};
 ghost use Rattle.poly_model.specs.Limits.{most_file_rows};
 ghost use Rattle.poly_reader.specs.Lines.{Word, word};
-ghost use Rattle.poly_reader.specs.Grammar.{value_of};
+ghost use Rattle.plain_text.specs.Digits.{value_of};
 ghost use Rattle.poly_reader.specs.FirstFault.{Parses};
 ghost use Rattle.poly_reader.specs.Head.{head_of, names_behind, names_on, names_of, name_at};
 ghost use Rattle.poly_reader.specs.Marks.{checked_marks, Marks};
@@ -10,8 +10,8 @@ ghost use Rattle.poly_reader.specs.Marks.{checked_marks, Marks};
 use crate::bad::bad;
 use crate::head::begins_with;
 use crate::lines::{LineWords, Lines, Token, is};
-use crate::number::value;
 use crate::{BadFile, BadKind, ParseStop};
+use plain_text::value;
 use std::alloc::{AllocError, Global};
 
 // Marks the row that a word names.

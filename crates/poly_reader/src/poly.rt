@@ -75,6 +75,7 @@ fn parts_of(alloc: Global, text: &[u8]) -> Result<Parts, ParseStop>
 /// its text, no more memory is taken than for one row.
 pub fn poly_of(alloc: Global, text: &[u8]) -> Result<Poly, ParseStop>
     ensures reads { Parses (λ p. p) result (reading text.now) }
+    ensures text { IfOk result (λ p. p.text ≡ text.now) }
     ensures own_text { IfOk result IsOfItsText }
 {
     let parts = parts_of(alloc, text)?;

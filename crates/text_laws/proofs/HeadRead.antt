@@ -13,7 +13,7 @@ use Rattle.poly_reader.specs.Header.{rows_announced, width_of, type_fault, size_
 use Rattle.poly_reader.proofs.HeadLemmas.{IsAt, starts, goes_on, begun}
 use Rattle.poly_reader.proofs.MarkLemmas.{at_begin, one_line}
 use Rattle.text_laws.specs.Listed.{other_kind}
-use Rattle.text_laws.proofs.Decimals.{decimal_is, count_is, count_of_is}
+use Rattle.plain_text.proofs.Decimals.{decimal_is, count_is, count_of_is}
 use Rattle.text_laws.proofs.PlainWords.{numbered, numbered_lines}
 use Rattle.text_laws.proofs.NamedRows.{row_names, names_read, counts_read, all_taken}
 use Rattle.text_laws.proofs.MatrixRead.{matrix_lines, matrix_words, joined_matrix}

@@ -1,4 +1,3 @@
-pub mod Decimals
 pub mod PlainWords
 pub mod NumberTexts
 pub mod PrintedRows

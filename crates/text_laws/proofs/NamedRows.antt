@@ -10,7 +10,7 @@ use Rattle.poly_reader.specs.FirstFault.{each}
 use Rattle.poly_reader.specs.Head.{Name, name_at, are_counts}
 use Rattle.poly_reader.specs.Marks.{name_fault, is_named, checked_marks}
 use Rattle.text_laws.specs.Listed.{nonlinear_row, listed_rows}
-use Rattle.text_laws.proofs.Decimals.{decimal_is, count_is}
+use Rattle.plain_text.proofs.Decimals.{decimal_is, count_is}
 use Rattle.text_laws.proofs.PlainWords.{numbered}
 
 -- k rows from row i on, named on this line

@@ -12,10 +12,12 @@ use Rattle.poly_num.specs.Numbers.{IsNum}
 use Rattle.poly_num.proofs.FractionLemmas.{lowest_of_coprime}
 use Rattle.poly_num.proofs.Ring.{lin}
 use Rattle.poly_model.specs.ListingText.{denominator_text}
-use Rattle.poly_reader.specs.Lines.{is_nonempty, is_same}
-use Rattle.poly_reader.specs.Grammar.{is_digit, is_negative, unsigned, is_slash, numerator_of, denominator_of, signed}
+use Rattle.plain_text.specs.Digits.{is_nonempty}
+use Rattle.poly_reader.specs.Lines.{is_same}
+use Rattle.plain_text.specs.Digits.{is_digit, is_negative, signed}
+use Rattle.poly_reader.specs.Grammar.{unsigned, is_slash, numerator_of, denominator_of}
 use Rattle.poly_reader.specs.Matrix.{sizes_of, number_of}
-use Rattle.text_laws.proofs.Decimals.{decimal_is, count_of_is, some_more}
+use Rattle.plain_text.proofs.Decimals.{digit_within, decimal_is, count_of_is, some_more}
 use Rattle.text_laws.proofs.PlainWords.{is_plain, IsPlainWord, all_weaker}
 
 -- p, or p/q
@@ -30,15 +32,11 @@ pub record IsPrintable (f : Fraction) : Type 0 where
 
 -- ---- digits, and a slash behind them
 
-within : (b : ℕ) → is_digit b ≡ true → (48 ≤ b) × (b ≤ 57)
-within b h =
-    let k = and_parts (nat_le 48 b) (nat_le b 57) h in (leb-true 48 b k.0, leb-true b 57 k.1)
-
 no_slash : (text : List ℕ) → list_all is_digit text ≡ true → AllByRecursion (λ (b : ℕ). is_slash b ≡ false) text
 no_slash [] h = tt
 no_slash (b ∷ text) h =
     let k = and_parts (is_digit b) (list_all is_digit text) h in
-    let w = within b k.0 in
+    let w = digit_within b k.0 in
     (ne_eqb b 47 (λ e. omega (arith, w.0)), no_slash text k.1)
 
 slash_behind : (text more : List ℕ) → AllByRecursion (λ (b : ℕ). is_slash b ≡ false) text
@@ -113,7 +111,7 @@ no_sign : (text more : List ℕ) → is_nonempty text ≡ true → list_all is_d
     → (is_negative (text ++ more) ≡ false) × (unsigned (text ++ more) ≡ text ++ more)
 no_sign [] more some h = absurd cc
 no_sign (b ∷ text) more some h =
-    let w = within b (and_parts (is_digit b) (list_all is_digit text) h).0 in
+    let w = digit_within b (and_parts (is_digit b) (list_all is_digit text) h).0 in
     let plus : (b == 43) ≡ false = ne_eqb b 43 (λ e. omega (arith, w.0)) in
     let minus : (b == 45) ≡ false = ne_eqb b 45 (λ e. omega (arith, w.0)) in
     (minus, rw (plus, minus) refl)
@@ -148,7 +146,7 @@ is_number_byte b = nat_le 45 b && nat_le b 57
 
 from_digit : (b : ℕ) → is_digit b ≡ true → is_number_byte b ≡ true
 from_digit b h =
-    let w = within b h in and_from (nat_le 45 b) (nat_le b 57) (le-leb 45 b (omega (arith, w.0))) (le-leb b 57 w.1)
+    let w = digit_within b h in and_from (nat_le 45 b) (nat_le b 57) (le-leb 45 b (omega (arith, w.0))) (le-leb b 57 w.1)
 
 plain_byte : (b : ℕ) → is_number_byte b ≡ true → is_plain b ≡ true
 plain_byte b h =

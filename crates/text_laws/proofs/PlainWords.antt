@@ -6,7 +6,9 @@ use Rattle.std.proofs.lemmas.Bool.{and_parts, and_from, not-true, not_from_false
 use Rattle.std.proofs.lemmas.List.Elements.{All-from_recursion}
 use Rattle.std.proofs.lemmas.List.Folds.{list_all-append}
 use Rattle.std.proofs.lemmas.List.Splits.{slice_split_at, slice_split_none}
-use Rattle.poly_reader.specs.Lines.{Line, is_newline, is_blank, is_nonempty, pieces, lines_from}
+use Rattle.plain_text.specs.Cuts.{is_newline}
+use Rattle.plain_text.specs.Digits.{is_nonempty}
+use Rattle.poly_reader.specs.Lines.{Line, is_blank, pieces, lines_from}
 
 -- ---- words
 

@@ -1,6 +1,6 @@
 use Rattle.std.proofs.Common.{refl}
 use Rattle.std.proofs.lemmas.List.Splits.{length-slice_split}
-use Rattle.poly_reader.specs.Lines.{is_newline}
+use Rattle.plain_text.specs.Cuts.{is_newline}
 use Rattle.poly_reader.proofs.lines.last_line_of.Goals as goal
 
 pub returns : goal.returns

@@ -1,6 +1,6 @@
 use Rattle.std.proofs.Common.{◌≡◌, ◌≤◌, take}
 use Rattle.std.specs.Prelude.{count_by}
-use Rattle.poly_reader.specs.Lines.{is_newline}
+use Rattle.plain_text.specs.Cuts.{is_newline}
 use Rattle.poly_reader.proofs.lines.newlines.Given as goal
 
 -- the line feeds before b-index

@@ -1,5 +1,5 @@
 use Rattle.poly_reader.specs.Lines.{word}
-use Rattle.poly_reader.specs.Grammar.{value_of}
+use Rattle.plain_text.specs.Digits.{value_of}
 use Rattle.poly_reader.proofs.NameLemmas.{take_capped, fewer}
 use Rattle.poly_reader.proofs.MarkLemmas.{nothing}
 use Rattle.poly_reader.proofs.marks.mark_behind.Goals as goal

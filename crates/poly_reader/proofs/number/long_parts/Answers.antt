@@ -1,7 +1,7 @@
 use Rattle.std.proofs.Common.{sym, ap, Option, ℕ}
 use Rattle.std.specs.Prelude.{option_map}
 use Rattle.std.proofs.lemmas.List.{take_rest}
-use Rattle.poly_reader.specs.Grammar.{capped}
+use Rattle.plain_text.specs.Digits.{capped}
 use Rattle.poly_reader.proofs.CappedValues.{denominator_some, denominator_none}
 use Rattle.poly_reader.proofs.number.long_parts.Goals as goal
 

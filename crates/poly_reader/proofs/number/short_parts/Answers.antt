@@ -1,6 +1,7 @@
 use Rattle.std.proofs.Common.{arith}
 use Rattle.std.proofs.lemmas.List.{take_rest}
-use Rattle.poly_reader.proofs.ShortParts.{whole_sizes, both_sizes, taken, all_taken}
+use Rattle.plain_text.proofs.DigitValues.{taken, all_taken}
+use Rattle.poly_reader.proofs.ShortParts.{whole_sizes, both_sizes}
 use Rattle.poly_reader.proofs.number.short_parts.Goals as goal
 
 pub returns-then-end-word : goal.returns-then-end-word

@@ -1,6 +1,6 @@
 use Rattle.std.proofs.Common.{◌≡◌, take}
-use Rattle.poly_reader.specs.Grammar.{capped, value_of}
-use Rattle.poly_reader.proofs.number.value.Given as goal
+use Rattle.plain_text.specs.Digits.{capped, value_of}
+use Rattle.plain_text.proofs.digits.value.Given as goal
 
 -- the value of the digits before b-index
 abbrev pub invariant-digits : goal.invariant-digits

@@ -1,8 +1,8 @@
 use Rattle.std.proofs.Common.{refl}
 use Rattle.std.proofs.lemmas.List.Folds.{list_all_more}
 use Rattle.std.proofs.lemmas.List.Sums.{fold_more}
-use Rattle.poly_reader.specs.Grammar.{is_digit, value_of, with_digit_of}
-use Rattle.poly_reader.proofs.number.leading_digits.Goals as goal
+use Rattle.plain_text.specs.Digits.{is_digit, value_of, with_digit_of}
+use Rattle.plain_text.proofs.digits.leading_digits.Goals as goal
 
 pub digits-init : goal.digits-init
 unfolding value_of

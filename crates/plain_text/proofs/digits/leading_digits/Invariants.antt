@@ -1,7 +1,7 @@
 use Rattle.std.proofs.Common.{◌≡◌, true, take}
 use Rattle.std.specs.List.{list_all}
-use Rattle.poly_reader.specs.Grammar.{is_digit, value_of}
-use Rattle.poly_reader.proofs.number.leading_digits.Given as goal
+use Rattle.plain_text.specs.Digits.{is_digit, value_of}
+use Rattle.plain_text.proofs.digits.leading_digits.Given as goal
 
 -- the value of the bytes before i, which are digits
 abbrev pub invariant-digits : goal.invariant-digits

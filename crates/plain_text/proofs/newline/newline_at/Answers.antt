@@ -1,8 +1,8 @@
 use Rattle.std.proofs.Common.{sym, arith}
 use Rattle.std.proofs.lemmas.List.{take_rest}
-use Rattle.poly_reader.specs.Lines.{is_newline}
-use Rattle.poly_reader.proofs.Positions.{near_position, far_position, no_position}
-use Rattle.poly_reader.proofs.lines.newline_at.Goals as goal
+use Rattle.plain_text.specs.Cuts.{is_newline}
+use Rattle.plain_text.proofs.Positions.{near_position, far_position, no_position}
+use Rattle.plain_text.proofs.newline.newline_at.Goals as goal
 
 pub returns-in-Some : goal.returns-in-Some
 returns-in-Some c =

@@ -1,7 +1,7 @@
 use Rattle.std.proofs.Common.{refl}
-use Rattle.poly_reader.specs.Grammar.{value_of}
-use Rattle.poly_reader.proofs.CappedValues.{value_more}
-use Rattle.poly_reader.proofs.number.value.Goals as goal
+use Rattle.plain_text.specs.Digits.{value_of}
+use Rattle.plain_text.proofs.CappedValues.{value_more}
+use Rattle.plain_text.proofs.digits.value.Goals as goal
 
 pub digits-init : goal.digits-init
 unfolding value_of

@@ -1,0 +1,10 @@
+use Rattle.std.proofs.Common.{sym}
+use Rattle.std.proofs.lemmas.List.{take_rest}
+use Rattle.plain_text.proofs.CutLemmas.{cuts_word, cuts_last_word}
+use Rattle.plain_text.proofs.cutting.split_word.Goals as goal
+
+pub returns-in-Some : goal.returns-in-Some
+returns-in-Some c = rw take_rest (cuts_word c.args.text.now c.in-Some.at (sym c.in-Some.ensures))
+
+pub returns-in-None : goal.returns-in-None
+returns-in-None c = cuts_last_word c.args.text.now (sym c.in-None.ensures)

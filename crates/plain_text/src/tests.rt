@@ -1,0 +1,58 @@
+//! Known texts.
+use crate::{read_count, read_num, split_line, split_word};
+use poly_num::Num;
+
+#[test]
+fn counts(rt: HostRuntime) {
+    let cases = [
+        ("0", Some(0)),
+        ("7", Some(7)),
+        ("10", Some(10)),
+        ("18446744073709551615", Some(18_446_744_073_709_551_615)),
+        ("18446744073709551616", None),
+        ("", None),
+        ("00", None),
+        ("07", None),
+        ("+7", None),
+        ("7 ", None),
+    ];
+    for (text, count) in &cases {
+        assert_eq!(rt; read_count(text.as_bytes()), *count, "{}", text);
+    }
+}
+
+#[test]
+fn numbers(rt: HostRuntime) {
+    let cases = [
+        ("0", Some(0)),
+        ("-1", Some(-1)),
+        ("-10", Some(-10)),
+        (
+            "170141183460469231731687303715884105727",
+            Some(170_141_183_460_469_231_731_687_303_715_884_105_727),
+        ),
+        ("170141183460469231731687303715884105728", None),
+        ("-170141183460469231731687303715884105728", None),
+        ("-0", None),
+        ("-", None),
+        ("-01", None),
+        ("1/2", None),
+    ];
+    for (text, number) in &cases {
+        assert_eq!(rt;
+            read_num(text.as_bytes()).map(Num::get),
+            *number,
+            "{}",
+            text
+        );
+    }
+}
+
+#[test]
+fn cuts(rt: HostRuntime) {
+    let cut = Some((b"a b".as_slice(), b"\nc".as_slice()));
+    assert_eq!(rt; split_line(b"a b\n\nc"), cut);
+    assert_eq!(rt; split_line(b"a b").is_none(), true);
+    assert_eq!(rt; split_word(b"a  b"), (b"a".as_slice(), b"  b".as_slice()));
+    assert_eq!(rt; split_word(b"a"), (b"a".as_slice(), b"".as_slice()));
+}
