@@ -1,5 +1,4 @@
 pub mod FaultLemmas
-pub mod StatusLemmas
 pub mod EndLemmas
 pub mod AnswerLemmas
 pub mod ThroughLemmas

@@ -1,7 +1,8 @@
 -- The answer of `convert` through a buffer: what holds of the buffered sink, and of its end, holds of the sink below it.
-use Rattle.std.proofs.Common.{◌≡◌, ℕ, List, [], Option, None, Some, Result, Ok, Err, OnOk, OnErr, IsOk, arith, inl, inr, refl, subst, append-nil, sym, ◌∙◌}
+use Rattle.std.proofs.Common.{◌≡◌, ℕ, List, [], Option, None, Some, Result, Ok, Err, OnOk, OnErr, IsOk, arith, inl, inr, refl, sym, subst, ◌∙◌}
 use Rattle.std.specs.Io.KnownBytes.{Appends, Keeps}
 use Rattle.std.proofs.KnownBytes.{Appends-kept}
+use Rattle.poly_io.proofs.Parts.{part_of_all}
 use Rattle.poly_io.specs.Causes.{Rose, HasCause}
 use Rattle.poly_io.specs.Written.{AppendsPart}
 use Rattle.poly_model.specs.Systems.{Polyhedron, cone_of}
@@ -57,10 +58,6 @@ through_ok left after_left reads after_reads old told new faults mid_faults new_
       unwritten = λ w. f (h.unwritten w);
       complete = λ known n m. h.complete known n (λ r. m (rw same r));
     }
-
--- a text that was written is written in part
-part_of_all : (a b : Option (List ℕ)) (text : List ℕ) → Appends a b text → AppendsPart a b text
-part_of_all a b text p = record { sent = text; unsent = []; split = sym (append-nil text); bytes = p }
 
 -- what the buffered sink tells, whatever the answer was, where something was written
 partly : (before mid : Streams) (U : Type 0) (status : Status) → AnswersConvert before mid U status → (U → ⊥) →

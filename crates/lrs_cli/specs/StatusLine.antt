@@ -1,9 +1,8 @@
 -- The line and the number of each answer of the program.
 use Rattle.std.specs.Prelude.{ℕ, List, ◌++◌, codes, decimal}
-use Rattle.poly_model.specs.declared.overflow.Overflow.{Overflow}
-use Rattle.poly_model.specs.LabelText.{key_text, place_text, phase_text}
 use Rattle.poly_reader.specs.declared.bad.BadKind.{BadKind}
 use Rattle.poly_reader.specs.declared.bad.BadKind.TheVariants as kinds
+use Rattle.row_printer.specs.OverflowText.{overflow_text}
 use Rattle.lrs_cli.specs.declared.status.Status.{Status}
 use Rattle.lrs_cli.specs.declared.status.Status.TheVariants.{Done, Usage, BadFile, Infeasible, Overflow as Overflowed, ReadFault, WriteFault, OutOfMemory}
 
@@ -28,16 +27,6 @@ kind_text kinds.NoRows = codes "NoRows"
 kind_text kinds.BadFirst = codes "BadFirst"
 kind_text kinds.LinearPoint = codes "LinearPoint"
 kind_text kinds.WideRow = codes "WideRow"
-
--- the four places
-abbrev pub places_text : Overflow → List ℕ
-places_text o =
-    place_text o.a
-    ++ (codes " " ++ (place_text o.b ++ (codes " " ++ (place_text o.c ++ (codes " " ++ place_text o.d)))))
-
--- the phase, the key, and the places of the two products
-abbrev pub overflow_text : Overflow → List ℕ
-overflow_text o = phase_text o.phase ++ (codes " " ++ (key_text o.key ++ (codes " " ++ places_text o)))
 
 unfoldable pub status_text : Status → List ℕ
 status_text (Done rows lines) =

@@ -1,12 +1,12 @@
 //! How a call of the program ends: its number and its line.
 ghost use Rattle.std.specs.Prelude.{◌≡◌, ◌∷◌, ◌++◌, codes, decimal};
 ghost use Rattle.poly_io.specs.Written.{Prints};
-ghost use Rattle.poly_model.specs.LabelText.{label_text, labels_text, key_text, place_text, phase_text};
-ghost use Rattle.lrs_cli.specs.StatusLine.{status_text, status_number, kind_text, overflow_text, places_text};
+ghost use Rattle.lrs_cli.specs.StatusLine.{status_text, status_number, kind_text};
 
 use poly_io::{Sink, WriteFault, write_all, write_count};
-use poly_model::{Key, Label, Overflow, Phase, Place};
+use poly_model::Overflow;
 use poly_reader::{BadFile, BadKind};
+use row_printer::write_overflow;
 
 /// How a call of the program ended.
 #[derive(Clone, Copy, PartialEq, Eq, Debug)]
@@ -119,91 +119,4 @@ fn overflow_line<S: Sink>(overflow: &Overflow, out: &mut S) -> Result<(), WriteF
     write_all(out, b"lrs: overflow ")?;
     write_overflow(overflow, out)?;
     write_all(out, b"\n")
-}
-
-fn write_overflow<S: Sink>(overflow: &Overflow, out: &mut S) -> Result<(), WriteFault>
-    ensures { Prints S.Sink out.old out.new result (overflow_text overflow.now) }
-{
-    write_phase(overflow.phase, out)?;
-    write_all(out, b" ")?;
-    write_key(&overflow.key, out)?;
-    write_all(out, b" ")?;
-    write_places(overflow, out)
-}
-
-fn write_phase<S: Sink>(phase: Phase, out: &mut S) -> Result<(), WriteFault>
-    ensures { Prints S.Sink out.old out.new result (phase_text phase) }
-{
-    match phase {
-        Phase::Cone => write_all(out, b"cone"),
-        Phase::Prepare => write_all(out, b"prepare"),
-        Phase::Main => write_all(out, b"main"),
-        Phase::First => write_all(out, b"first"),
-    }
-}
-
-fn write_key<S: Sink>(key: &Key, out: &mut S) -> Result<(), WriteFault>
-    ensures { Prints S.Sink out.old out.new result (key_text key.now) }
-{
-    let labels = key.labels();
-    write_count(labels.len() as u64, out)?;
-    write_labels(labels, out)
-}
-
-// The labels, each after a blank.
-fn write_labels<S: Sink>(labels: &[Label], out: &mut S) -> Result<(), WriteFault>
-    ensures { Prints S.Sink out.old out.new result (labels_text labels.now) }
-{
-    for label in labels {
-        write_next_label(*label, out)?;
-    }
-    Ok(())
-}
-
-fn write_next_label<S: Sink>(label: Label, out: &mut S) -> Result<(), WriteFault>
-    ensures { Prints S.Sink out.old out.new result (codes " " ++ label_text label) }
-{
-    write_all(out, b" ")?;
-    write_label(label, out)
-}
-
-fn write_places<S: Sink>(overflow: &Overflow, out: &mut S) -> Result<(), WriteFault>
-    ensures { Prints S.Sink out.old out.new result (places_text overflow.now) }
-{
-    write_place(overflow.a, out)?;
-    write_all(out, b" ")?;
-    write_place(overflow.b, out)?;
-    write_all(out, b" ")?;
-    write_place(overflow.c, out)?;
-    write_all(out, b" ")?;
-    write_place(overflow.d, out)
-}
-
-fn write_place<S: Sink>(place: Place, out: &mut S) -> Result<(), WriteFault>
-    ensures { Prints S.Sink out.old out.new result (place_text place) }
-{
-    write_label(place.row, out)?;
-    write_all(out, b",")?;
-    write_label(place.col, out)
-}
-
-fn write_label<S: Sink>(label: Label, out: &mut S) -> Result<(), WriteFault>
-    ensures { Prints S.Sink out.old out.new result (label_text label) }
-{
-    if label.is_same(Label::EXTRA) {
-        write_all(out, b"t")
-    } else if label.is_row() {
-        write_count(u64::from(label.number()), out)
-    } else if label.is_same(Label::CONSTANT) {
-        write_all(out, b"c")
-    } else {
-        write_coordinate(label.coordinate_index(), out)
-    }
-}
-
-fn write_coordinate<S: Sink>(j: u32, out: &mut S) -> Result<(), WriteFault>
-    ensures { Prints S.Sink out.old out.new result (codes "x" ++ decimal j) }
-{
-    write_all(out, b"x")?;
-    write_count(u64::from(j), out)
 }

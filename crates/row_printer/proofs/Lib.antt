@@ -1,3 +1,4 @@
 pub mod ListingTextLemmas
 pub mod ListingParts
 pub mod Tallies
+pub mod LabelLemmas

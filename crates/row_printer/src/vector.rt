@@ -5,7 +5,8 @@ ghost use Rattle.poly_model.specs.ListingText.{entry_text, entries_text, vector_
 use poly_io::{Sink, WriteFault, write_all, write_num};
 use poly_num::Num;
 
-pub(crate) fn write_vector<S: Sink>(v: &[Num], out: &mut S) -> Result<(), WriteFault>
+/// Writes the entries, each after one blank, and a line end.
+pub fn write_vector<S: Sink>(v: &[Num], out: &mut S) -> Result<(), WriteFault>
     ensures { Prints S.Sink out.old out.new result (vector_text v.now) }
 {
     write_entries(v, out)?;

@@ -1,5 +1,5 @@
 use Rattle.poly_io.proofs.Parts.{prints_cut, prints_then}
-use Rattle.lrs_cli.proofs.status.write_places.Goals as goal
+use Rattle.row_printer.proofs.overflow.write_places.Goals as goal
 
 pub returns-in_err-write_place : goal.returns-in_err-write_place
 returns-in_err-write_place g c = prints_cut _ c.from_residual.ensures.0 c.in_err-write_place.ensures

@@ -1,5 +1,5 @@
 use Rattle.poly_io.proofs.Parts.{prints_cut, prints_then}
-use Rattle.lrs_cli.proofs.status.write_next_label.Goals as goal
+use Rattle.row_printer.proofs.labels.write_next_label.Goals as goal
 
 pub returns-in_err-write_all : goal.returns-in_err-write_all
 returns-in_err-write_all g c = prints_cut _ c.from_residual.ensures.0 c.in_err-write_all.ensures

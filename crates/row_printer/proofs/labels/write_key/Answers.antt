@@ -1,5 +1,5 @@
 use Rattle.poly_io.proofs.Parts.{prints_cut, prints_then}
-use Rattle.lrs_cli.proofs.status.write_key.Goals as goal
+use Rattle.row_printer.proofs.labels.write_key.Goals as goal
 
 pub returns-in_err-write_count : goal.returns-in_err-write_count
 returns-in_err-write_count g c =

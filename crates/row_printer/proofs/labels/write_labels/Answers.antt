@@ -1,7 +1,7 @@
 use Rattle.std.proofs.Common.{arith}
 use Rattle.poly_io.proofs.Parts.{owes_cut, owes_less, owes_none}
-use Rattle.lrs_cli.proofs.StatusLemmas.{labels_less, labels_none}
-use Rattle.lrs_cli.proofs.status.write_labels.Goals as goal
+use Rattle.row_printer.proofs.LabelLemmas.{labels_less, labels_none}
+use Rattle.row_printer.proofs.labels.write_labels.Goals as goal
 
 pub returns-in_err-write_next_label : goal.returns-in_err-write_next_label
 returns-in_err-write_next_label g c =

@@ -1,7 +1,7 @@
 use Rattle.std.proofs.Common.{drop}
 use Rattle.poly_io.proofs.Parts.{Owes}
 use Rattle.poly_model.specs.LabelText.{labels_text}
-use Rattle.lrs_cli.proofs.status.write_labels.Given as goal
+use Rattle.row_printer.proofs.labels.write_labels.Given as goal
 
 abbrev pub invariant-loop-label : goal.invariant-loop-label
 invariant-loop-label g l =

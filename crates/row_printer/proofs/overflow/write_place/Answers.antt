@@ -1,5 +1,5 @@
 use Rattle.poly_io.proofs.Parts.{prints_cut, prints_then}
-use Rattle.lrs_cli.proofs.status.write_place.Goals as goal
+use Rattle.row_printer.proofs.overflow.write_place.Goals as goal
 
 pub returns-in_err-write_label : goal.returns-in_err-write_label
 returns-in_err-write_label g c = prints_cut _ c.from_residual.ensures.0 c.in_err-write_label.ensures
