@@ -1,0 +1,9 @@
+pub mod Meanings
+pub mod Subsets
+pub mod Searches
+pub mod Splits
+pub mod ReplyLines
+pub mod Laws
+pub mod Walks
+pub mod Shown
+pub mod Walked
