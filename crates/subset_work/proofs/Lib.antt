@@ -1,0 +1,6 @@
+pub mod ListTree
+pub mod ListPrefixes
+pub mod Visits
+pub mod Descents
+pub mod Runs
+pub mod Sums

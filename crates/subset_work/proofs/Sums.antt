@@ -1,0 +1,86 @@
+-- The numbers of a run, from one list to the next.
+use Rattle.std.proofs.Common.{◌≡◌, ◌+◌, ◌≤◌, ◌<◌, ℕ, Result, Ok, Err, arith}
+use Rattle.std.specs.Prelude.{IfOk}
+use Rattle.poly_model.specs.declared.listed.Count.{Count}
+use Rattle.work_core.specs.declared.stops.WorkStop.{WorkStop}
+use Rattle.subset_work.specs.declared.progress.Progress.{Progress}
+use Rattle.subset_work.specs.Counts.{MayVisit, MayCome, IsOneBase, IsOneJob, CountsOn, ComesOn, HasCome}
+
+pub come_first : (most from : ℕ) (c d : Count) → c.bases < most → IsOneBase c d → HasCome most from from c d
+come_first most from c d l h = record {
+  some = omega (arith, h.bases);
+  within = omega (arith, h.bases, l);
+  rows = omega (arith, h.bases, h.rows);
+  jobs = omega (arith, h.bases, h.jobs);
+  far = omega arith;
+  few = omega arith;
+}
+
+module _ (most from i : ℕ) (c d : Count) (h : HasCome most from i c d) where
+  pub come_past : i + 1 ≤ from + 4098 → HasCome most from (i + 1) c d
+  come_past l = record {
+    some = h.some;
+    within = h.within;
+    rows = h.rows;
+    jobs = omega (arith, h.jobs);
+    far = omega (arith, h.far);
+    few = l;
+  }
+
+  pub come_on : (e : Count) → ComesOn most d e → i + 1 ≤ from + 4098 → HasCome most from (i + 1) c e
+  come_on e o l = record {
+    some = omega (arith, h.some, o.on);
+    within = o.within;
+    rows = omega (arith, h.rows, o.rows);
+    jobs = omega (arith, h.jobs, o.jobs);
+    far = omega (arith, h.far);
+    few = l;
+  }
+
+  pub come_end : CountsOn most c d
+  come_end = record {
+    some = h.some;
+    within = h.within;
+    rows = h.rows;
+    jobs = omega (arith, h.jobs, h.few);
+  }
+
+-- a list with one row more may be visited or given back
+pub may_come : (so_far : Progress) (len from i : ℕ) (d : Count) → MayVisit so_far len →
+    HasCome so_far.most from i so_far.count d →
+    MayCome (record { most = so_far.most; longest = so_far.longest; count = d }) (len + 1)
+may_come so_far len from i d may h = record {
+  few = may.few;
+  within = h.within;
+  near = omega (arith, may.near);
+  sum = record {
+    rows = omega (arith, h.rows, may.sum.rows);
+    jobs = omega (arith, h.jobs, h.few, may.sum.jobs);
+  };
+}
+
+pub on_by_visits : (most : ℕ) (c : Count) (result : Result Count WorkStop) → IfOk result (CountsOn most c) →
+    IfOk result (ComesOn most c)
+on_by_visits most c (Ok d) h = record {
+  on = omega (arith, h.some);
+  within = h.within;
+  rows = h.rows;
+  jobs = omega (arith, h.jobs);
+}
+on_by_visits most c (Err x) h = tt
+
+pub on_by_job : (most : ℕ) (c : Count) (result : Result Count WorkStop) → c.bases ≤ most → IfOk result (IsOneJob c) →
+    IfOk result (ComesOn most c)
+on_by_job most c (Ok d) l h = record {
+  on = omega (arith, h.bases);
+  within = omega (arith, h.bases, l);
+  rows = omega (arith, h.bases, h.rows);
+  jobs = omega (arith, h.bases, h.jobs);
+}
+on_by_job most c (Err x) l h = tt
+
+-- what giving a key back promises of a count
+pub given_is_one : (c : Count) (result : Result Count WorkStop) → IfOk result (λ (d : Count). d.rows ≡ c.rows) →
+    IfOk result (λ (d : Count). d.jobs ≡ c.jobs + 1) → IfOk result (λ (d : Count). d.bases ≡ c.bases) → IfOk result (IsOneJob c)
+given_is_one c (Ok d) rows jobs bases = record { rows = rows; jobs = jobs; bases = bases }
+given_is_one c (Err x) rows jobs bases = tt

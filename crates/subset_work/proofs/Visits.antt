@@ -1,0 +1,266 @@
+-- One visit: where it begins, a row passed over, a list under it given back or visited, where it ends and where it stops.
+use Rattle.std.proofs.Common.{◌≡◌, ◌⊎◌, inl, inr, ⊎_elim, Bool, true, false, ℕ, ◌+◌, ◌-◌, ◌≤◌, ◌<◌, List, [], ◌∷◌, ◌++◌, length, Option, Result, Ok, Err, refl, sym, ap, subst, ◌∙◌, arith}
+use Rattle.std.specs.Prelude.{IfOk, OnOk, OnErr, IsErrOf}
+use Rattle.std.specs.Io.KnownBytes.{Appends}
+use Rattle.poly_num.specs.Vectors.{Vector}
+use Rattle.poly_io.specs.Written.{AppendsPart}
+use Rattle.poly_model.specs.declared.listed.Count.{Count}
+use Rattle.poly_model.specs.declared.overflow.Overflow.{Overflow}
+use Rattle.poly_model.specs.Keys.{with_label}
+use Rattle.poly_model.specs.Overflows.{Passes}
+use Rattle.poly_model.specs.Systems.{System, Polyhedron, cone_of, row_of}
+use Rattle.dictionary.specs.Views.{Dictionary}
+use Rattle.plain_enum.specs.Listed.{HasRoomFor}
+use Rattle.search_laws.specs.Shares.{ListsAll}
+use Rattle.listing_laws.specs.Lists.{Lists}
+use Rattle.listing_laws.specs.Prefixes.{IsCornerUnder}
+use Rattle.linear_laws.proofs.Members.{Contains-first}
+use Rattle.work_core.specs.declared.stops.WorkStop.{WorkStop}
+use Rattle.poly_model.specs.Limits.{most_labels}
+use Rattle.work_core.specs.Meanings.{Meaning, IsKeyBelow}
+use Rattle.work_core.specs.Subsets.{IsSubsetKey}
+use Rattle.work_core.specs.Searches.{by_subsets}
+use Rattle.work_core.specs.ReplyLines.{row_line_text, job_line_text, IsCutRun, IsTornRun}
+use Rattle.work_core.specs.Shown.{IsShownAtList}
+use Rattle.work_core.specs.Walked.{HasWalked}
+use Rattle.work_core.proofs.WalkLemmas.{under_itself}
+use Rattle.work_core.proofs.SubsetShares.{has_shares, shows_at}
+use Rattle.work_core.proofs.WalkedLemmas.{walked_of, walked_visit, walked_show, walked_give, walked_then, cut_here, cut_under, torn_under, cut_is_torn, torn_job, torn_row}
+use Rattle.subset_work.specs.Counts.{IsOneBase, IsOneJob}
+use Rattle.subset_work.specs.Walked.{bound_of, HasWalkedTo, WalksUnder}
+use Rattle.subset_work.specs.Standing.{IsNext, HasRoom, MayTake, IsLive, IsDead, IsBefore}
+use Rattle.subset_work.proofs.ListTree.{with_last, plain_label, is_plain, child_under, before_none, before_under, before_apart, before_skip, before_child, before_all, key_alone, child_room, child_next}
+use Rattle.subset_work.proofs.ListPrefixes.{dead_shows_none, shown_none, shown_one}
+
+-- the list with row i, where the loop under a list has come to row i: what it is, and what a visit of it, or giving it
+-- back, makes of the walk
+pub record NextStep (p : Polyhedron) (key : List ℕ) (left from most longest i : ℕ) (old now : Option (List ℕ))
+    (c d : Count) : Type 0 where
+  pub may : MayTake p key i (left - 1)
+  pub goes_on : (new : Option (List ℕ)) (e : Count) → e.bases ≤ most →
+      WalksUnder p (with_label i key) most longest now new d (Ok e) →
+      HasWalkedTo p key from (i + 1) most longest old new c e
+  pub breaks : (new : Option (List ℕ)) (x : WorkStop) →
+      WalksUnder p (with_label i key) most longest now new d (Err x) →
+      WalksUnder p key most longest old new c (Err x)
+
+module _ (p : Polyhedron) where
+  abbrev s : Meaning
+  s = by_subsets p
+
+  abbrev Shows : List ℕ → Vector → Type 0
+  Shows = IsShownAtList p
+
+  -- ---- answers
+  not_overflow : (d : Count) (x : WorkStop) → IsErrOf {T = Count} {E = WorkStop} (Ok d) x → ⊥
+  not_overflow d x e = cc
+
+  pub walks_ok : (key : List ℕ) (most longest : ℕ) (old new : Option (List ℕ)) (c d : Count) →
+      HasWalked s Shows (bound_of most longest) (IsKeyBelow s key) old new c d → WalksUnder p key most longest old new c (Ok d)
+  walks_ok key most longest old new c d w = record { whole = w; torn = tt; cut = λ o e. absurd (not_overflow d (WorkStop.Overflow o) e) }
+
+  -- no overflow
+  abbrev IsFault : WorkStop → Type 0
+  IsFault x = (o : Overflow) → IsErrOf {T = Count} {E = WorkStop} (Err x) (WorkStop.Overflow o) → ⊥
+
+  pub is_fault : IsFault WorkStop.WriteFault
+  is_fault o e = cc
+
+  pub walks_fault : (key : List ℕ) (most longest : ℕ) (old new : Option (List ℕ)) (c : Count) (x : WorkStop) → IsFault x →
+      IsTornRun s key old new → WalksUnder p key most longest old new c (Err x)
+  walks_fault key most longest old new c x n t = record { whole = tt; torn = t; cut = λ o e. absurd (n o e) }
+
+  one_overflow : (o u : Overflow) → IsErrOf {T = Count} {E = WorkStop} (Err (WorkStop.Overflow o)) (WorkStop.Overflow u) → o ≡ u
+  one_overflow o u e = cc
+
+  pub walks_past : (key : List ℕ) (most longest : ℕ) (old new : Option (List ℕ)) (c : Count) (o : Overflow) →
+      Passes p o → IsCutRun s key old new → WalksUnder p key most longest old new c (Err (WorkStop.Overflow o))
+  walks_past key most longest old new c o h r = record {
+    whole = tt;
+    torn = cut_is_torn s key old new r;
+    cut = λ u e. (subst (λ x. Passes p x) (one_overflow o u e) h, r);
+  }
+
+  -- ---- a key that is given back
+  pub given_back : (key : List ℕ) (most longest : ℕ) (old new : Option (List ℕ)) (c : Count) (result : Result Count WorkStop) →
+      IsSubsetKey p key → c.bases ≤ most → length key ≤ longest → (most ≤ c.bases) ⊎ (longest ≤ length key) →
+      OnOk result (Appends old new (job_line_text key)) → OnErr result (AppendsPart old new (job_line_text key)) →
+      IfOk result (IsOneJob c) → ((o : Overflow) → IsErrOf result (WorkStop.Overflow o) → ⊥) →
+      WalksUnder p key most longest old new c result
+  given_back key most longest old new c (Ok d) is within near stops whole part h none =
+      walks_ok key most longest old new c d
+      (walked_give s Shows (bound_of most longest) key old new c d is whole h.rows h.jobs h.bases
+      (⊎_elim (λ (m : most ≤ c.bases). inl (omega (arith, m, within, h.bases)))
+      (λ (m : longest ≤ length key). inr (omega (arith, m, near))) stops) near)
+  given_back key most longest old new c (Err x) is within near stops whole part h none =
+      walks_fault key most longest old new c x none
+      (torn_job s key is (under_itself (by_subsets p) (has_shares p) key) old new part)
+
+  -- ---- a list that is full
+  module _ (sys : System) (free : List ℕ) (d : Dictionary) (i : ℕ) (key : List ℕ) (live : IsLive sys free d i 0 p key)
+      (room : HasRoom p key 0) (most longest : ℕ) where
+    pub leaf_none : (old : Option (List ℕ)) (c e : Count) → IsOneBase c e → Lists (IsCornerUnder live.cone live.marks) [] →
+        WalksUnder p key most longest old old c (Ok e)
+    leaf_none old c e h l =
+        walks_ok key most longest old old c e
+        (walked_of s Shows (bound_of most longest) (λ one. one ≡ key) (IsKeyBelow s key) old old c e (key_alone p key room)
+        (walked_visit s Shows (bound_of most longest) key old c e (shown_none sys free d i 0 p key live refl l) h.rows h.jobs
+        h.bases))
+
+    pub leaf_one : (v : Vector) (old new : Option (List ℕ)) (c e : Count) → e.rows ≡ c.rows + 1 → e.jobs ≡ c.jobs → e.bases ≡ c.bases + 1 →
+        Lists (IsCornerUnder live.cone live.marks) (v ∷ []) → Appends old new (row_line_text v) → WalksUnder p key most longest old new c (Ok e)
+    leaf_one v old new c e r j b l a =
+        walks_ok key most longest old new c e
+        (walked_of s Shows (bound_of most longest) (λ one. one ≡ key) (IsKeyBelow s key) old new c e (key_alone p key room)
+        (walked_show s Shows (bound_of most longest) key v old new c e (shown_one sys free d i 0 p key live refl v l) a r j b))
+
+    pub leaf_part : (v : Vector) (old new : Option (List ℕ)) (c : Count) → Lists (IsCornerUnder live.cone live.marks) (v ∷ []) →
+        AppendsPart old new (row_line_text v) → WalksUnder p key most longest old new c (Err WorkStop.WriteFault)
+    leaf_part v old new c l a =
+        walks_fault key most longest old new c WorkStop.WriteFault is_fault
+        (torn_row s key v (((shows_at p room.narrow).share key v room.is_key).1
+        (key, (room.is_key, under_itself (by_subsets p) (has_shares p) key), (shown_one sys free d i 0 p key live refl v l).only v (Contains-first v []))) old new a)
+
+  -- ---- the loop
+  module _ (key : List ℕ) (left from : ℕ) (room : HasRoom p key left) (next : IsNext key from) (most longest : ℕ) where
+    abbrev Before : ℕ → Option (List ℕ) → Option (List ℕ) → Count → Count → Type 0
+    Before i old now c d = HasWalked s Shows (bound_of most longest) (IsBefore p key from i) old now c d
+
+    pub begin_at : (old : Option (List ℕ)) (c d : Count) → ListsAll (Shows key) [] → IsOneBase c d → Before from old old c d
+    begin_at old c d l h =
+        walked_of s Shows (bound_of most longest) (λ one. one ≡ key) (IsBefore p key from from) old old c d (before_none p key from)
+        (walked_visit s Shows (bound_of most longest) key old c d l h.rows h.jobs h.bases)
+
+    module _ (i : ℕ) (old now : Option (List ℕ)) (c d : Count) (w : Before i old now c d) where
+      pub passed : (row_of (cone_of p).rows i).linear ≡ true → Before (i + 1) old now c d
+      passed e =
+          walked_of s Shows (bound_of most longest) (IsBefore p key from i) (IsBefore p key from (i + 1)) old now c d
+          (before_skip p key from i (λ m. let h = (plain_label p i m).2 in absurd (let bad : true ≡ false = sym e ∙ h in cc))) w
+
+      pub ended : length (cone_of p).rows < i → WalksUnder p key most longest old now c (Ok d)
+      ended behind =
+          walks_ok key most longest old now c d
+          (walked_of s Shows (bound_of most longest) (IsBefore p key from i) (IsKeyBelow s key) old now c d (before_all p key from room.is_key next i behind) w)
+
+      pub overflowed : (o : Overflow) → Passes p o → WalksUnder p key most longest old now c (Err (WorkStop.Overflow o))
+      overflowed o h =
+          walks_past key most longest old now c o h
+          (cut_here s Shows (bound_of most longest) (has_shares p) (shows_at p room.narrow) key room.is_key (IsBefore p key from i)
+          (before_under p key from room.is_key i) old now c d w)
+
+      -- ---- the list with row i
+      module _ (few : length key + left ≤ most_labels) (more : 0 < left) (at : from ≤ i) (within : i ≤ length (cone_of p).rows)
+          (plain : (row_of (cone_of p).rows i).linear ≡ false) where
+        abbrev child : List ℕ
+        child = key ++ i ∷ []
+
+        last : with_label i key ≡ child
+        last = with_last i key (λ k m. let a = next.above k m in omega (arith, a, at))
+
+        some_label : 0 < i
+        some_label = let a = next.some in omega (arith, a, at)
+
+        room_there : HasRoom p child (left - 1)
+        room_there = child_room p key left i from few more room next at (is_plain p i some_label within plain)
+
+        may_take : MayTake p key i (left - 1)
+        may_take = record {
+          last = last;
+          room = subst (λ ks. HasRoom p ks (left - 1)) (sym last) room_there;
+          next = subst (λ ks. IsNext ks (i + 1)) (sym last) (child_next p key i from next at);
+        }
+
+        -- what is under it is added
+        joined : (new : Option (List ℕ)) (e : Count) → e.bases ≤ most →
+            HasWalked s Shows (bound_of most longest) (IsKeyBelow s child) now new d e → Before (i + 1) old new c e
+        joined new e l v =
+            walked_of s Shows (bound_of most longest) (λ one. IsBefore p key from i one ⊎ IsKeyBelow s child one)
+            (IsBefore p key from (i + 1)) old new c e (before_child p key from i at)
+            (walked_then s Shows (bound_of most longest) (under_itself s (has_shares p)) (shows_at p room.narrow).one_key
+            (IsBefore p key from i) (IsKeyBelow s child) (before_apart p key from i)
+            (λ one h. ⊎_elim (λ b. (before_under p key from room.is_key i one b).0) (λ u. u.0) h)
+            old now new c d e l w v)
+
+        breaks : (new : Option (List ℕ)) (x : WorkStop) → WalksUnder p child most longest now new d (Err x) →
+            WalksUnder p key most longest old new c (Err x)
+        breaks new x v = record {
+          whole = tt;
+          torn = torn_under s Shows (bound_of most longest) (has_shares p) (shows_at p room.narrow) key room.is_key
+              (IsBefore p key from i) (before_under p key from room.is_key i) old now c d w child room_there.is_key
+              (child_under p key i) new v.torn;
+          cut = λ o e. let r = v.cut o e in (
+            r.0,
+            cut_under s Shows (bound_of most longest) (has_shares p) (shows_at p room.narrow) key room.is_key
+                (IsBefore p key from i) (before_under p key from room.is_key i) old now c d w child room_there.is_key
+                (child_under p key i) new r.1,
+          );
+        }
+
+        pub next_step : NextStep p key left from most longest i old now c d
+        next_step = record {
+          may = may_take;
+          goes_on = λ new e l v. joined new e l
+              (subst (λ ks. HasWalked s Shows (bound_of most longest) (IsKeyBelow s ks) now new d e) last v.whole);
+          breaks = λ new x v. breaks new x
+              (subst (λ ks. WalksUnder p ks most longest now new d (Err x)) last v);
+        }
+
+-- ---- a list under a dead one is dead
+pub dead_under : (p : Polyhedron) (key : List ℕ) (i : ℕ) → IsDead p key → IsDead p (key ++ i ∷ [])
+dead_under p key i dead one u y h =
+    dead one (u.0, (has_shares p).through one (key ++ i ∷ []) key u.0 u.1 (child_under p key i)) y h
+
+-- and so the walk under it is
+pub dead_child_walks : (p : Polyhedron) (key below : List ℕ) (i left most longest : ℕ) (old new : Option (List ℕ)) (c : Count)
+    (result : Result Count WorkStop) → below ≡ with_label i key → MayTake p key i left → IsDead p key →
+    (HasRoom p below left → IsNext below (i + 1) → IsDead p below → WalksUnder p below most longest old new c result) →
+    WalksUnder p (with_label i key) most longest old new c result
+dead_child_walks p key below i left most longest old new c result same may dead h =
+    subst (λ ks. WalksUnder p ks most longest old new c result) same
+    (h (subst (λ ks. HasRoom p ks left) (sym same) may.room) (subst (λ ks. IsNext ks (i + 1)) (sym same) may.next)
+    (subst (IsDead p) (sym (same ∙ may.last)) (dead_under p key i dead)))
+
+-- ---- the row in the loop
+pub plain_here : (p : Polyhedron) (sys : System) (i : ℕ) (b : Bool) → sys ≡ cone_of p → b ≡ (row_of sys.rows i).linear → b ≡ false →
+    (row_of (cone_of p).rows i).linear ≡ false
+plain_here p sys i b e f n = ap (λ (t : System). (row_of t.rows i).linear) (sym e) ∙ sym f ∙ n
+
+pub linear_here : (p : Polyhedron) (sys : System) (i : ℕ) (b : Bool) → sys ≡ cone_of p → b ≡ (row_of sys.rows i).linear → b ≡ true →
+    (row_of (cone_of p).rows i).linear ≡ true
+linear_here p sys i b e f n = ap (λ (t : System). (row_of t.rows i).linear) (sym e) ∙ sym f ∙ n
+
+pub rows_here : (p : Polyhedron) (sys : System) → sys ≡ cone_of p → length (cone_of p).rows ≡ length sys.rows
+rows_here p sys e = ap (λ (t : System). length t.rows) (sym e)
+
+pub step_here : (p : Polyhedron) (sys : System) → sys ≡ cone_of p → (key : List ℕ) (left from : ℕ) → HasRoom p key left →
+    IsNext key from → (most longest i : ℕ) (old now : Option (List ℕ)) (c d : Count) →
+    HasWalkedTo p key from i most longest old now c d → length key + left ≤ most_labels → 0 < left → from ≤ i →
+    i ≤ length sys.rows → (b : Bool) → b ≡ (row_of sys.rows i).linear → b ≡ false →
+    NextStep p key left from most longest i old now c d
+step_here p sys file key left from room next most longest i old now c d w few more at within b e plain =
+    next_step p key left from room next most longest i old now c d w few more at
+    (omega (arith, within, rows_here p sys file)) (plain_here p sys i b file e plain)
+
+-- the same walk, where the sink and the count are told anew
+pub walked_at : {O : Type 0} (written : O → Option (List ℕ)) (p : Polyhedron) (key : List ℕ) (from i most longest : ℕ)
+    (old : Option (List ℕ)) (c : Count) {o out : O} {d count : Count} → out ≡ o → count ≡ d →
+    HasWalkedTo p key from i most longest old (written o) c d → HasWalkedTo p key from i most longest old (written out) c count
+walked_at written p key from i most longest old c {o} {out} {d} {count} f g w =
+    subst (λ (n : Count). HasWalkedTo p key from i most longest old (written out) c n) (sym g)
+    (subst (λ t. HasWalkedTo p key from i most longest old (written t) c d) (sym f) w)
+
+-- a dead list that is full
+pub dead_alone : (p : Polyhedron) (key : List ℕ) (left : ℕ) → HasRoom p key left → left ≡ 0 → IsDead p key → (most longest : ℕ) (old : Option (List ℕ)) (c d : Count) →
+    IsOneBase c d → WalksUnder p key most longest old old c (Ok d)
+dead_alone p key left room none dead most longest old c d h =
+    walks_ok p key most longest old old c d
+    (walked_of (by_subsets p) (IsShownAtList p) (bound_of most longest) (λ one. one ≡ key) (IsKeyBelow (by_subsets p) key) old old c d
+    (key_alone p key (subst (λ n. HasRoom p key n) none room))
+    (walked_visit (by_subsets p) (IsShownAtList p) (bound_of most longest) key old c d
+    (dead_shows_none p key left room dead (room.is_key, under_itself (by_subsets p) (has_shares p) key)) h.rows h.jobs h.bases))
+
+-- the room for a walk, where its parts are told anew
+pub room_is : (sys : System) (d : Dictionary) {deeper ds : List Dictionary} {vector v : Vector} → ds ≡ deeper → v ≡ vector →
+    HasRoomFor sys d deeper vector → HasRoomFor sys d ds v
+room_is sys d {deeper} {ds} {vector} {v} f g r =
+    subst (λ (xs : List Dictionary). HasRoomFor sys d xs v) (sym f) (subst (λ (w : Vector). HasRoomFor sys d deeper w) (sym g) r)

@@ -1,0 +1,25 @@
+use Rattle.std.proofs.Common.{◌≡◌, ◌+◌, ◌*◌, ◌≤◌}
+use Rattle.poly_model.specs.Systems.{Polyhedron, cone_of}
+use Rattle.subset_work.specs.Counts.{HasCome}
+use Rattle.subset_work.specs.Standing.{IsNext, HasRoom, IsDead}
+use Rattle.subset_work.specs.Walked.{HasWalkedTo}
+use Rattle.subset_work.proofs.dead.+dead.Given as goal
+
+abbrev pub decreases-visit_dead : goal.decreases-visit_dead
+decreases-visit_dead g l = 2 * l.left
+
+-- a list is come to before it is visited
+abbrev pub decreases-come_to_dead : goal.decreases-come_to_dead
+decreases-come_to_dead g l = 2 * l.left + 1
+
+-- the key and the lists under it whose next row comes before row i were visited or given back
+abbrev pub invariant-visit_dead-rows : goal.invariant-visit_dead-rows
+invariant-visit_dead-rows g l =
+    record {
+      come : HasCome l.so_far.most l.list.from l.i l.fn.so_far.count l.count;
+      later : g.S.Sink.faults l.fn.out ≤ g.S.Sink.faults l.out;
+      walked : (p : Polyhedron) → l.list.sys.now ≡ cone_of p → HasRoom p l.list.key.now l.left →
+          IsNext l.list.key.now l.list.from → IsDead p l.list.key.now →
+          HasWalkedTo p l.list.key.now l.list.from l.i l.so_far.most l.so_far.longest (g.S.Sink.written l.fn.out)
+          (g.S.Sink.written l.out) l.fn.so_far.count l.count;
+    }

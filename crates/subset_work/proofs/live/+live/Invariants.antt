@@ -1,0 +1,34 @@
+use Rattle.std.proofs.Common.{◌≡◌, ◌+◌, ◌*◌, ◌≤◌, length}
+use Rattle.poly_model.specs.Systems.{Polyhedron}
+use Rattle.plain_enum.specs.Listed.{HasRoomFor}
+use Rattle.subset_work.specs.Counts.{HasCome}
+use Rattle.subset_work.specs.Standing.{IsNext, HasRoom, IsLive}
+use Rattle.subset_work.specs.Walked.{HasWalkedTo}
+use Rattle.subset_work.proofs.live.+live.Given as goal
+
+abbrev pub decreases-visit_live : goal.decreases-visit_live
+decreases-visit_live g l = 2 * length l.deeper.now + 1
+
+-- a list is come to before it is visited
+abbrev pub decreases-come_to_next : goal.decreases-come_to_next
+decreases-come_to_next g l = 2 * length l.deeper.now
+
+-- the key and the lists under it whose next row comes before row i were visited or given back; the dictionary still
+-- stands at the key
+abbrev pub invariant-visit_live-rows : goal.invariant-visit_live-rows
+invariant-visit_live-rows g l =
+    record {
+      room : HasRoomFor l.live.prefix.sys.now l.live.prefix.dict.now l.deeper l.vector;
+      depth : length l.deeper ≡ length l.fn.deeper;
+      come : HasCome l.so_far.most l.live.prefix.from l.i l.fn.so_far.count l.count;
+      later : g.S.Sink.faults l.fn.out ≤ g.S.Sink.faults l.out;
+      stands : (p : Polyhedron) → IsLive l.live.prefix.sys.now l.live.prefix.free.now l.live.prefix.dict.now
+          l.live.prefix.from (length l.fn.deeper) p l.live.key.now →
+          IsLive l.live.prefix.sys.now l.live.prefix.free.now l.live.prefix.dict.now l.i (length l.fn.deeper) p
+          l.live.key.now;
+      walked : (p : Polyhedron) → IsLive l.live.prefix.sys.now l.live.prefix.free.now l.live.prefix.dict.now
+          l.live.prefix.from (length l.fn.deeper) p l.live.key.now → HasRoom p l.live.key.now (length l.fn.deeper) →
+          IsNext l.live.key.now l.live.prefix.from →
+          HasWalkedTo p l.live.key.now l.live.prefix.from l.i l.so_far.most l.so_far.longest (g.S.Sink.written l.fn.out)
+          (g.S.Sink.written l.out) l.fn.so_far.count l.count;
+    }

@@ -1,0 +1,4 @@
+pub mod Standing
+pub mod Counts
+pub mod Walked
+pub mod Made

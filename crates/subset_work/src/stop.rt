@@ -1,0 +1,11 @@
+//! Why the work was not made.
+use poly_model::Overflow;
+
+/// Why the work was not made.
+#[derive(Clone, Copy, PartialEq, Eq, Debug)]
+pub enum SubsetStop {
+    /// A number of a dictionary would pass 127 bits.
+    Overflow(Overflow),
+    /// There is no memory.
+    Memory,
+}
