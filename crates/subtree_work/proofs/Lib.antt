@@ -1,0 +1,7 @@
+pub mod RowLines
+pub mod Visits
+pub mod Beginnings
+pub mod Running
+pub mod Ending
+pub mod Stepping
+pub mod Searched

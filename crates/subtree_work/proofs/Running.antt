@@ -1,0 +1,396 @@
+-- A run under a key on its way: what it has visited and given back, and what it has written of them; one step further.
+use Rattle.std.proofs.Common.{◌≡◌, ◌⊎◌, inl, inr, ⊎_elim, ℕ, suc, ◌+◌, ◌-◌, ◌*◌, ◌<◌, ◌≤◌, List, [], ◌∷◌, ◌++◌, length, length-append, append-nil, Option, refl, sym, ap, subst, ◌∙◌, arith}
+use Rattle.std.specs.List.{Contains}
+use Rattle.std.specs.Io.KnownBytes.{Appends}
+use Rattle.std.proofs.lemmas.List.{length-map}
+use Rattle.std.proofs.lemmas.List.Elements.{Contains-append_cases}
+use Rattle.poly_num.specs.Vectors.{Vector}
+use Rattle.poly_model.specs.declared.listed.Count.{Count}
+use Rattle.poly_model.specs.Dictionaries.{Table}
+use Rattle.poly_model.specs.Spaces.{Space, main_space}
+use Rattle.poly_model.specs.Subtrees.{IsSubtreeRoot, IsSubtreeDepth}
+use Rattle.poly_model.specs.Systems.{System, Polyhedron}
+use Rattle.poly_model.specs.Tree.{IsAbove}
+use Rattle.linear_laws.proofs.Members.{Contains-nil, Contains-first, Contains-later, Contains-cons_cases}
+use Rattle.search_laws.specs.Shares.{ListsAll, IsChild}
+use Rattle.search_laws.specs.SharesOfListings.{IsShownAtSome}
+use Rattle.search_laws.proofs.OnceLists.{no_longer}
+use Rattle.search_laws.proofs.SubtreeRuns.{runs_part}
+use Rattle.search_laws.proofs.SubtreeShares as words
+use Rattle.countdown.specs.Digits.{enough}
+use Rattle.dictionary.specs.Views.{table_of}
+use Rattle.reverse_step.specs.declared.walker.Visit.TheVariants.{New, Back}
+use Rattle.reverse_step.specs.Walks.{Walk, IsAtStart}
+use Rattle.reverse_step.specs.Moves.{past, IsAtNew, IsVisit}
+use Rattle.reverse_step.specs.Runs.{HasRun}
+use Rattle.reverse_step.proofs.RunLemmas.{run_starts, starts_waiting, starts_depth, some_left, at_new, not_visited, run_new, new_waiting, new_depth, run_given, given_waiting, given_depth, run_back, back_waiting, back_depth}
+use Rattle.reverse_step.proofs.DepthLemmas.{stands_at_depth, child_depth, few_labels, few_children}
+use Rattle.convert_core.specs.declared.rays.Rays.{Rays}
+use Rattle.convert_core.specs.Rows.{columns_of, column_rows}
+use Rattle.convert_core.specs.Searches.{IsSearch}
+use Rattle.convert_core.proofs.RowLists.{turned}
+use Rattle.convert_core.proofs.Searching.{subtree_root, rows_here, elsewhere}
+use Rattle.work_core.specs.declared.budget.Budget.{Budget}
+use Rattle.work_core.specs.ReplyLines.{ReplyLine, job_line, lines_text, rows_in_lines, keys_in_lines}
+use Rattle.work_core.proofs.WalkedLemmas.{rows-append, keys-append, appends_then, one_text}
+use Rattle.subtree_work.specs.declared.progress.Progress.{Progress}
+use Rattle.subtree_work.specs.Rows.{lines_of_rows, IsShownOf}
+use Rattle.subtree_work.specs.Steps.{AllowsVisit, MustGiveBack, VisitsBase, GivesKeyBack}
+use Rattle.subtree_work.proofs.RowLines.{rows_of_rows, keys_of_rows}
+
+module _ (p : Polyhedron) (sys : System) (rays : Rays) (budget : Budget) (first : Walk) where
+  abbrev IsDepth : List ℕ → ℕ → Type 0
+  IsDepth key n = IsSubtreeDepth p first.root key first.job n
+
+  -- no deeper than bases were visited, and within the budget
+  abbrev IsLow : List (List ℕ) → ℕ → Type 0
+  IsLow visited n = (n ≤ length visited) × (0 < budget.depth → n ≤ budget.depth)
+
+  -- these are visited, those given back, and the others wait; the lines of both were written, and are counted
+  pub record Running (walk : Walk) (vector : Vector) (left : ℕ) (s : Progress) (old now : Option (List ℕ)) : Type 0 where
+    pub search : IsSearch p sys rays walk vector
+    pub visited : List (List ℕ)
+    pub given : List (List ℕ)
+    pub taken : ℕ
+    pub run : HasRun (main_space p search.free) search.home first walk visited given left taken
+    pub begun : Contains visited first.job
+    pub vectors : List Vector
+    pub shown : ListsAll (IsShownAtSome p first.root visited) vectors
+    pub lines : List ReplyLine
+    pub written : Appends old now (lines_text lines)
+    pub vectors_in : rows_in_lines lines ≡ vectors
+    pub keys_in : keys_in_lines lines ≡ given
+    pub rows : s.count.rows ≡ length vectors
+    pub jobs : s.count.jobs ≡ length given
+    pub bases : s.count.bases ≡ length visited
+    pub level : s.depth ≡ run.depth
+    pub low : s.depth ≤ length visited
+    pub near : (k : List ℕ) → Contains run.waiting k → (n : ℕ) → IsDepth k n → IsLow visited n
+    pub back : (k : List ℕ) → Contains given k →
+        (s.count.bases ≡ budget.bases) ⊎ ((0 < budget.depth) × IsDepth k budget.depth)
+    pub no_deeper : (k : List ℕ) → Contains given k → 0 < budget.depth → (n : ℕ) → IsDepth k n → n ≤ budget.depth
+    pub many : length given + length run.waiting ≤ 8192 * length visited
+    pub full : length vectors ≤ 8193 * length visited
+    pub most : s.count.bases ≤ budget.bases
+
+  -- ---- what holds of a walk on its way
+  -- the rows shown at a cobasis are no more than its labels and one
+  few_shown : (walk : Walk) (vector : Vector) → IsSearch p sys rays walk vector → (cs : List ℕ) →
+      ListsAll (IsShownOf sys walk.root walk.dict (columns_of walk.dict)) cs → length cs ≤ 8193
+  few_shown walk vector x cs l =
+      let st = x.walk_in.stands in
+      let a = no_longer cs (columns_of walk.dict) l.once (λ c m. (l.only c m).0) in
+      let b = few_labels (main_space p x.free) walk.root x.home st.feasible_root st.ascending walk.dict.key
+      (table_of walk.dict) st.feasible in
+      omega (arith, a, b)
+
+  children_few : (walk : Walk) (vector : Vector) (x : IsSearch p sys rays walk vector) (cs : List (List ℕ)) →
+      ListsAll (IsChild (main_space p x.free) walk.root walk.dict.key) cs → length cs ≤ 8192
+  children_few walk vector x cs l =
+      let st = x.walk_in.stands in
+      few_children (main_space p x.free) walk.root x.home st.feasible_root st.ascending walk.dict.key
+      (table_of walk.dict) st.feasible cs l
+
+  -- a child of a key at a depth is one deeper, and at that depth alone
+  one_deeper : (walk : Walk) (vector : Vector) (x : IsSearch p sys rays walk vector) → IsSubtreeRoot p first.root →
+      (key child : List ℕ) (d : ℕ) → IsChild (main_space p x.free) first.root key child →
+      IsAbove (main_space p x.free) first.root d key first.job → (n : ℕ) → IsDepth child n → n ≡ suc d
+  one_deeper walk vector x h key child d c above n deep =
+      (words.has_shares p first.root h).one_depth child first.job n (suc d)
+      (record { free = x.free; columns = x.columns; table = c.0; feasible = c.1 }) deep
+      (record {
+        free = x.free;
+        columns = x.columns;
+        above = child_depth (main_space p x.free) first.root first.job key child d c above;
+      })
+
+  -- ---- the beginning
+  pub begins : (vector : Vector) → IsSearch p sys rays first vector → IsAtStart first → (left : ℕ) → enough ≤ left →
+      (old now : Option (List ℕ)) (c : Count) (s : Progress) → c.rows ≡ 0 → c.jobs ≡ 0 → c.bases ≡ 0 → s.depth ≡ 0 →
+      VisitsBase sys first old now c s.count → 0 < budget.bases → (more : Vector) → length more ≡ length vector →
+      Running first more left s old now
+  begins vector x a left e old now c s no_rows no_jobs no_bases depth v some more width = record {
+    search = elsewhere p sys rays first vector x first more x.walk_in x.phase width;
+    visited = first.dict.key ∷ [];
+    given = [];
+    taken = 0;
+    run = run;
+    begun = subst (Contains (first.dict.key ∷ [])) a.key (Contains-first first.dict.key []);
+    vectors = ys;
+    shown = rows_here p sys rays first vector x v.shown v.all;
+    lines = lines_of_rows ys;
+    written = v.written;
+    vectors_in = rows_of_rows ys;
+    keys_in = keys_of_rows ys;
+    rows = let r = v.rows in omega (arith, r, no_rows, long);
+    jobs = let r = v.jobs in omega (arith, r, no_jobs);
+    bases = let r = v.bases in omega (arith, r, no_bases);
+    level = depth ∙ sym (starts_depth main x.home first left a e x.walk_in);
+    low = omega (arith, depth);
+    near = λ k c n deep.
+        let one : n ≡ 1 = one_deeper first vector x (subtree_root p sys rays first vector x) first.dict.key k 0
+        (children.only k c) a.key n deep in
+        (omega (arith, one), λ l. omega (arith, one, l));
+    back = λ k m. absurd (Contains-nil k m);
+    no_deeper = λ k m. absurd (Contains-nil k m);
+    many = let f = children_few first vector x run.waiting children in omega (arith, f);
+    full = let f = few_shown first vector x v.shown v.all in omega (arith, f, long);
+    most = let r = v.bases in omega (arith, r, no_bases, some);
+  }
+    where
+      main : Space
+      main = main_space p x.free
+
+      ys : List Vector
+      ys = column_rows sys first.dict v.shown
+
+      long : length ys ≡ length v.shown
+      long = length-map v.shown _
+
+      run : HasRun main x.home first first (first.dict.key ∷ []) [] left 0
+      run = run_starts main x.home first left a e x.walk_in
+
+      children : ListsAll (IsChild main first.root first.dict.key) run.waiting
+      children = starts_waiting main x.home first left a e x.walk_in
+
+  pub some_are_left : (walk : Walk) (vector : Vector) (left : ℕ) (s : Progress) (old now : Option (List ℕ)) →
+      Running walk vector left s old now → 0 < left
+  some_are_left walk vector left s old now g =
+      some_left (main_space p g.search.free) g.search.home first walk g.visited g.given left g.taken g.run
+
+  pub going_root : (walk : Walk) (vector : Vector) (left : ℕ) (s : Progress) (old now : Option (List ℕ)) →
+      Running walk vector left s old now → IsSubtreeRoot p first.root
+  going_root walk vector left s old now g =
+      subst (IsSubtreeRoot p) g.run.root (subtree_root p sys rays walk vector g.search)
+
+  -- ---- one step
+  module _ (walk : Walk) (vector : Vector) (left : ℕ) (s : Progress) (old now : Option (List ℕ))
+      (g : Running walk vector (left + 1) s old now) where
+    abbrev main : Space
+    main = main_space p g.search.free
+
+    abbrev home : Table
+    home = g.search.home
+
+    root : IsSubtreeRoot p first.root
+    root = going_root walk vector (left + 1) s old now g
+
+    module _ (new : Walk) (step : IsVisit walk New new) where
+      abbrev at : IsAtNew main new g.run.depth g.run.waiting
+      at = at_new main home first walk new g.visited g.given (left + 1) g.taken g.run step
+
+      same_root : new.root ≡ first.root
+      same_root = step.root ∙ g.run.root
+
+      abbrev after : HasRun main home first new (new.dict.key ∷ g.visited) g.given left (g.taken + 1)
+      after = run_new main home first walk new g.visited g.given left g.taken g.run step
+
+      above : IsAbove main first.root (suc g.run.depth) new.dict.key first.job
+      above =
+          subst (λ n. IsAbove main first.root n new.dict.key first.job)
+          (new_depth main home first walk new g.visited g.given left g.taken g.run step)
+          (subst (λ j. IsAbove main first.root after.depth new.dict.key j) after.job
+          (subst (λ r. IsAbove main r after.depth new.dict.key new.job) after.root
+          (stands_at_depth main home first new (new.dict.key ∷ g.visited) g.given left (g.taken + 1) after)))
+
+      pub new_deep : IsDepth new.dict.key (suc g.run.depth)
+      new_deep = record { free = g.search.free; columns = g.search.columns; above = above }
+
+      waits : Contains g.run.waiting new.dict.key
+      waits = subst (λ ks. Contains ks new.dict.key) (sym at.first) (Contains-first new.dict.key at.rest)
+
+      pub new_low : IsLow g.visited (suc g.run.depth)
+      new_low = g.near new.dict.key waits (suc g.run.depth) new_deep
+
+      abbrev moved : (more : Vector) → length more ≡ length vector → IsSearch p sys rays new more
+      moved more width =
+          elsewhere p sys rays walk vector g.search new more (step.walk main home g.search.walk_in)
+          (step.phase ∙ g.search.phase) width
+
+      still_waits : (k : List ℕ) → Contains at.rest k → (n : ℕ) → IsDepth k n → IsLow g.visited n
+      still_waits k c n deep =
+          g.near k (subst (λ ks. Contains ks k) (sym at.first) (Contains-later k new.dict.key at.rest c)) n deep
+
+      -- it is visited
+      module _ (t : Progress) (then : Option (List ℕ)) (deep : t.depth ≡ s.depth + 1)
+          (may : AllowsVisit budget t.depth s.count.bases) (v : VisitsBase sys new now then s.count t.count)
+          (more : Vector) (width : length more ≡ length vector) where
+        abbrev ys : List Vector
+        ys = column_rows sys new.dict v.shown
+
+        long : length ys ≡ length v.shown
+        long = length-map v.shown _
+
+        here : ListsAll (IsShownAtSome p first.root (new.dict.key ∷ [])) ys
+        here = subst (λ r. ListsAll (IsShownAtSome p r (new.dict.key ∷ [])) ys) same_root
+            (rows_here p sys rays new vector (moved vector refl) v.shown v.all)
+
+        fresh : Contains g.visited new.dict.key → ⊥
+        fresh = not_visited main home first walk new g.visited g.given (left + 1) g.taken g.run step
+
+        waiting_is : after.waiting ≡ at.cs ++ at.rest
+        waiting_is = new_waiting main home first walk new g.visited g.given left g.taken g.run step
+
+        children : ListsAll (IsChild main first.root new.dict.key) at.cs
+        children = subst (λ r. ListsAll (IsChild main r new.dict.key) at.cs) same_root at.children
+
+        close : (k : List ℕ) → Contains after.waiting k → (n : ℕ) → IsDepth k n → IsLow (new.dict.key ∷ g.visited) n
+        close k c n d = ⊎_elim
+            (λ (m : Contains at.cs k).
+            let one : n ≡ suc (suc g.run.depth) = one_deeper walk vector g.search root new.dict.key k (suc g.run.depth)
+            (children.only k m) above n d in
+            let l = new_low.0 in
+            (omega (arith, one, l), λ some. let u = may.above some in let e = g.level in omega (arith, one, u, deep, e)))
+            (λ (m : Contains at.rest k).
+            let l = still_waits k m n d in
+            let a = l.0 in (omega (arith, a), l.1))
+            (Contains-append_cases at.cs at.rest k (subst (λ ks. Contains ks k) waiting_is c))
+
+        pub goes_new : Running new more left t old then
+        goes_new = record {
+          search = moved more width;
+          visited = new.dict.key ∷ g.visited;
+          given = g.given;
+          taken = g.taken + 1;
+          run = after;
+          begun = Contains-later first.job new.dict.key g.visited g.begun;
+          vectors = g.vectors ++ ys;
+          shown = turned (IsShownAtSome p first.root (new.dict.key ∷ g.visited)) ys g.vectors
+              ((runs_part p first.root root).more_rows new.dict.key g.visited ys g.vectors fresh here g.shown);
+          lines = g.lines ++ lines_of_rows ys;
+          written = appends_then old now then g.lines (lines_of_rows ys) g.written v.written;
+          vectors_in = rows-append g.lines (lines_of_rows ys) ∙ ap (λ xs. rows_in_lines g.lines ++ xs) (rows_of_rows ys)
+              ∙ ap (λ xs. xs ++ ys) g.vectors_in;
+          keys_in = keys-append g.lines (lines_of_rows ys) ∙ ap (λ ks. keys_in_lines g.lines ++ ks) (keys_of_rows ys)
+              ∙ append-nil (keys_in_lines g.lines) ∙ g.keys_in;
+          rows = let a = v.rows in let b = g.rows in let l = length-append g.vectors ys in omega (arith, a, b, l, long);
+          jobs = v.jobs ∙ g.jobs;
+          bases = let a = v.bases in let b = g.bases in omega (arith, a, b);
+          level = let a = g.level in
+              let b = new_depth main home first walk new g.visited g.given left g.taken g.run step in omega (arith, deep, a, b);
+          low = let a = g.low in omega (arith, deep, a);
+          near = close;
+          back = λ k m. ⊎_elim
+              (λ (e : s.count.bases ≡ budget.bases). let l = may.bases_left in absurd (omega (arith, e, l)))
+              (λ (b : (0 < budget.depth) × IsDepth k budget.depth). inr b) (g.back k m);
+          no_deeper = g.no_deeper;
+          many = let a = g.many in let b = ap length waiting_is in let c = ap length at.first in
+              let d = children_few new vector (moved vector refl) at.cs at.children in
+              let l = length-append at.cs at.rest in omega (arith, a, b, c, d, l);
+          full = let a = g.full in let b = few_shown new vector (moved vector refl) v.shown v.all in
+              let l = length-append g.vectors ys in omega (arith, a, b, l, long);
+          most = let a = v.bases in let l = may.bases_left in omega (arith, a, l);
+        }
+
+      -- it is given back
+      module _ (t : Progress) (then : Option (List ℕ)) (deep : t.depth ≡ s.depth + 1)
+          (must : MustGiveBack budget t.depth s.count.bases) (v : GivesKeyBack new.dict.key now then s.count t.count)
+          (more : Vector) (width : length more ≡ length vector) where
+        abbrev passed : HasRun main home first (past new) g.visited (g.given ++ new.dict.key ∷ []) left (g.taken + 1)
+        passed = run_given main home first walk new g.visited g.given left g.taken g.run step
+
+        rest_is : passed.waiting ≡ at.rest
+        rest_is = given_waiting main home first walk new g.visited g.given left g.taken g.run step
+
+        only_new : (k : List ℕ) → Contains (new.dict.key ∷ []) k → new.dict.key ≡ k
+        only_new k m = ⊎_elim (λ (e : new.dict.key ≡ k). e) (λ (n : Contains [] k). absurd (Contains-nil k n))
+            (Contains-cons_cases k new.dict.key [] m)
+
+        -- the base budget is used up, or it is at the depth budget
+        why : (t.count.bases ≡ budget.bases) ⊎ ((0 < budget.depth) × IsDepth new.dict.key budget.depth)
+        why = ⊎_elim
+            (λ (l : budget.bases ≤ s.count.bases). let a = g.most in let b = v.bases in inl (omega (arith, l, a, b)))
+            (λ (l : (0 < budget.depth) × (budget.depth ≤ t.depth)).
+            let a = l.1 in let b = new_low.1 l.0 in let c = g.level in
+            let e : suc g.run.depth ≡ budget.depth = omega (arith, a, b, c, deep) in
+            inr (l.0, subst (IsDepth new.dict.key) e new_deep))
+            must
+
+        low_new : 0 < budget.depth → (n : ℕ) → IsDepth new.dict.key n → n ≤ budget.depth
+        low_new some n d = (g.near new.dict.key waits n d).1 some
+
+        abbrev line : List ReplyLine
+        line = job_line new.dict.key ∷ []
+
+        pub goes_given : Running (past new) more left t old then
+        goes_given = record {
+          search = elsewhere p sys rays walk vector g.search (past new) more passed.walk_in (step.phase ∙ g.search.phase)
+              width;
+          visited = g.visited;
+          given = g.given ++ new.dict.key ∷ [];
+          taken = g.taken + 1;
+          run = passed;
+          begun = g.begun;
+          vectors = g.vectors;
+          shown = g.shown;
+          lines = g.lines ++ line;
+          written = appends_then old now then g.lines line g.written
+              (subst (λ x. Appends now then x) (sym (one_text (job_line new.dict.key))) v.written);
+          vectors_in = rows-append g.lines line ∙ append-nil (rows_in_lines g.lines) ∙ g.vectors_in;
+          keys_in = keys-append g.lines line ∙ ap (λ ks. ks ++ new.dict.key ∷ []) g.keys_in;
+          rows = v.rows ∙ g.rows;
+          jobs = let a = v.jobs in let b = g.jobs in let l = length-append g.given (new.dict.key ∷ []) in omega (arith, a, b, l);
+          bases = v.bases ∙ g.bases;
+          level = let a = g.level in
+              let b = given_depth main home first walk new g.visited g.given left g.taken g.run step in
+              omega (arith, deep, a, b);
+          low = let a = g.level in let b = new_low.0 in omega (arith, deep, a, b);
+          near = λ k c n d. still_waits k (subst (λ ks. Contains ks k) rest_is c) n d;
+          back = λ k m. ⊎_elim
+              (λ (c : Contains g.given k). ⊎_elim
+              (λ (e : s.count.bases ≡ budget.bases). inl (v.bases ∙ e))
+              (λ (b : (0 < budget.depth) × IsDepth k budget.depth). inr b) (g.back k c))
+              (λ (c : Contains (new.dict.key ∷ []) k).
+              subst (λ o. (t.count.bases ≡ budget.bases) ⊎ ((0 < budget.depth) × IsDepth o budget.depth)) (only_new k c) why)
+              (Contains-append_cases g.given (new.dict.key ∷ []) k m);
+          no_deeper = λ k m. ⊎_elim
+              (λ (c : Contains g.given k). g.no_deeper k c)
+              (λ (c : Contains (new.dict.key ∷ []) k).
+              subst (λ o. 0 < budget.depth → (n : ℕ) → IsDepth o n → n ≤ budget.depth) (only_new k c) low_new)
+              (Contains-append_cases g.given (new.dict.key ∷ []) k m);
+          many = let a = g.many in let b = ap length rest_is in let c = ap length at.first in
+              let l = length-append g.given (new.dict.key ∷ []) in omega (arith, a, b, c, l);
+          full = g.full;
+          most = let a = g.most in let b = v.bases in omega (arith, a, b);
+        }
+
+    -- back at the parent
+    pub goes_back : (new : Walk) → IsVisit walk Back new → (t : Progress) (then : Option (List ℕ)) → t.depth ≡ s.depth - 1 →
+        t.count ≡ s.count → then ≡ now → (more : Vector) → length more ≡ length vector → Running new more left t old then
+    goes_back new step t then deep counts same more width = record {
+      search = elsewhere p sys rays walk vector g.search new more (step.walk main home g.search.walk_in)
+          (step.phase ∙ g.search.phase) width;
+      visited = g.visited;
+      given = g.given;
+      taken = g.taken + 1;
+      run = behind;
+      begun = g.begun;
+      vectors = g.vectors;
+      shown = g.shown;
+      lines = g.lines;
+      written = subst (λ b. Appends old b (lines_text g.lines)) (sym same) g.written;
+      vectors_in = g.vectors_in;
+      keys_in = g.keys_in;
+      rows = ap (λ (c : Count). c.rows) counts ∙ g.rows;
+      jobs = ap (λ (c : Count). c.jobs) counts ∙ g.jobs;
+      bases = ap (λ (c : Count). c.bases) counts ∙ g.bases;
+      level = let a = g.level in let b = up in omega (arith, deep, a, b);
+      low = let a = g.low in omega (arith, deep, a);
+      near = λ k c n d. g.near k (subst (λ ks. Contains ks k) waiting_is c) n d;
+      back = λ k m. ⊎_elim
+          (λ (e : s.count.bases ≡ budget.bases). inl (ap (λ (c : Count). c.bases) counts ∙ e))
+          (λ (b : (0 < budget.depth) × IsDepth k budget.depth). inr b) (g.back k m);
+      no_deeper = g.no_deeper;
+      many = let a = g.many in let b = ap length waiting_is in omega (arith, a, b);
+      full = g.full;
+      most = let a = g.most in let b = ap (λ (c : Count). c.bases) counts in omega (arith, a, b);
+    }
+      where
+        behind : HasRun main home first new g.visited g.given left (g.taken + 1)
+        behind = run_back main home first walk new g.visited g.given left g.taken g.run step
+
+        waiting_is : behind.waiting ≡ g.run.waiting
+        waiting_is = back_waiting main home first walk new g.visited g.given left g.taken g.run step
+
+        up : g.run.depth ≡ suc behind.depth
+        up = back_depth main home first walk new g.visited g.given left g.taken g.run step

@@ -1,0 +1,4 @@
+pub mod Made
+pub mod Rows
+pub mod Counts
+pub mod Steps

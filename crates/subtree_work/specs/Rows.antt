@@ -1,0 +1,35 @@
+-- The lines of the rows that are shown at a cobasis.
+use Rattle.std.specs.Prelude.{◌≡◌, ℕ, ◌+◌, List, map, length, Option}
+use Rattle.std.specs.List.{Contains}
+use Rattle.std.specs.Io.KnownBytes.{Appends}
+use Rattle.poly_num.specs.Vectors.{Vector}
+use Rattle.poly_io.specs.Written.{AppendsPart}
+use Rattle.poly_model.specs.declared.listed.Count.{Count}
+use Rattle.poly_model.specs.Systems.{System}
+use Rattle.dictionary.specs.Views.{Dictionary}
+use Rattle.search_laws.specs.Shares.{StandOnce, ListsAll}
+use Rattle.convert_core.specs.Rows.{IsColumnShown, column_rows}
+use Rattle.work_core.specs.ReplyLines.{ReplyLine, row_line, lines_text}
+
+abbrev pub lines_of_rows : List Vector → List ReplyLine
+lines_of_rows ys = map row_line ys
+
+module _ (sys : System) (root : List ℕ) (d : Dictionary) (columns : List ℕ) where
+  abbrev pub IsShownOf : ℕ → Type 0
+  IsShownOf c = Contains columns c × IsColumnShown sys root d c
+
+  -- the rows of those of the columns that are shown were written, and are counted
+  pub record ShowsRows (old new : Option (List ℕ)) (before after : Count) : Type 0 where
+    pub shown : List ℕ
+    pub all : ListsAll IsShownOf shown
+    pub written : Appends old new (lines_text (lines_of_rows (column_rows sys d shown)))
+    pub rows : after.rows ≡ before.rows + length shown
+    pub jobs : after.jobs ≡ before.jobs
+    pub bases : after.bases ≡ before.bases
+
+  -- first bytes of the rows of some of them, each once
+  pub record TearsRows (old new : Option (List ℕ)) : Type 0 where
+    pub shown : List ℕ
+    pub once : StandOnce shown
+    pub only : (c : ℕ) → Contains shown c → IsShownOf c
+    pub written : AppendsPart old new (lines_text (lines_of_rows (column_rows sys d shown)))
