@@ -1,0 +1,79 @@
+-- No whole reply is a proper prefix of another.
+use Rattle.std.proofs.Common.{◌≡◌, ◌<◌, ◌≤◌, ◌+◌, ◌^◌, ℕ, List, [], ◌∷◌, ◌++◌, length, refl, sym, ap, ◌∙◌, inl, inr, arith, append_assoc, append-nil, length-append}
+use Rattle.std.specs.List.{AllByRecursion}
+use Rattle.work_core.specs.ReplyLines.{ReplyLine, row_line, job_line, line_text, lines_text, rows_in_lines, keys_in_lines}
+use Rattle.job_text.specs.Replies.{IsReplyLine, IsWholeReply, reply_head, tail_text}
+use Rattle.job_text.specs.declared.reply.Reply.{Reply}
+use Rattle.job_text.specs.Fits.{said_text}
+use Rattle.job_text.proofs.JobLineLemmas.{same_behind}
+use Rattle.job_text.proofs.ReplyLemmas.{line_is_said, tail_is_said, said_behind, said_lacks, said_cut, said_size, line_or_tail, compare_lines}
+use Rattle.job_text.proofs.NotWholeLemmas.{head_is, other_head}
+
+-- there are no more rows and keys than bytes
+counts_within : (lines : List ReplyLine) → length (rows_in_lines lines) + length (keys_in_lines lines) ≤ length (lines_text lines)
+counts_within [] = omega arith
+counts_within (row_line v ∷ lines) =
+    omega (
+      arith,
+      counts_within lines,
+      length-append (line_text (row_line v)) (lines_text lines),
+      said_size (said_text (inl (row_line v))) (line_is_said (row_line v)),
+    )
+counts_within (job_line key ∷ lines) =
+    omega (
+      arith,
+      counts_within lines,
+      length-append (line_text (job_line key)) (lines_text lines),
+      said_size (said_text (inl (job_line key))) (line_is_said (job_line key)),
+    )
+
+pub nothing_more : (n : ℕ) (a b : Reply) (text more : List ℕ) → length (text ++ more) < 2 ^ 64 → IsWholeReply n a text
+    → IsWholeReply n b (text ++ more) → more ≡ []
+nothing_more n a b text more small u w =
+    elim (compare_lines n w.lines u.lines (tail_text b.tail) (tail_text a.tail ++ more) w.fit u.fit both) [
+      | inl g ↦
+          absurd (line_or_tail n (length (rows_in_lines w.lines)) (length (keys_in_lines w.lines)) g.line b.tail g.more []
+          few_b.0 few_b.1 g.fit w.tail (sym g.is ∙ sym (append-nil (tail_text b.tail))))
+      | inr k ↦ by k.left k.fit k.is
+    ]
+  where
+    within : (key : List ℕ) (lines : List ReplyLine) (tail whole : List ℕ) → whole ≡ reply_head key ++ (lines_text lines ++ tail)
+        → length whole < 2 ^ 64 → (length (rows_in_lines lines) < 2 ^ 64) × (length (keys_in_lines lines) < 2 ^ 64)
+    within key lines tail whole e lt =
+        let size = ap (λ (l : List ℕ). length l) e in
+        let parts = length-append (reply_head key) (lines_text lines ++ tail) in
+        let more_parts = length-append (lines_text lines) tail in
+        (omega (arith, size, parts, more_parts, lt, counts_within lines), omega (arith, size, parts, more_parts, lt, counts_within lines))
+
+    few_a : (length (rows_in_lines u.lines) < 2 ^ 64) × (length (keys_in_lines u.lines) < 2 ^ 64)
+    few_a = within a.key u.lines (tail_text a.tail) text u.is_text (omega (arith, small, length-append text more))
+
+    few_b : (length (rows_in_lines w.lines) < 2 ^ 64) × (length (keys_in_lines w.lines) < 2 ^ 64)
+    few_b = within b.key w.lines (tail_text b.tail) (text ++ more) w.is_text small
+
+    heads : reply_head a.key ++ ((lines_text u.lines ++ tail_text a.tail) ++ more) ≡ reply_head b.key ++ (lines_text w.lines ++ tail_text b.tail)
+    heads = sym (append_assoc (reply_head a.key) (lines_text u.lines ++ tail_text a.tail) more)
+        ∙ ap (λ (l : List ℕ). l ++ more) (sym u.is_text) ∙ w.is_text
+
+    key : a.key ≡ b.key
+    key = other_head a.key b.key _ _ u.key w.key (head_is a.key ((lines_text u.lines ++ tail_text a.tail) ++ more) refl)
+        (head_is b.key (lines_text w.lines ++ tail_text b.tail) heads)
+
+    bodies : (lines_text u.lines ++ tail_text a.tail) ++ more ≡ lines_text w.lines ++ tail_text b.tail
+    bodies = same_behind (reply_head a.key) _ _
+        (heads ∙ ap (λ (k : List ℕ). reply_head k ++ (lines_text w.lines ++ tail_text b.tail)) (sym key))
+
+    both : lines_text w.lines ++ tail_text b.tail ≡ lines_text u.lines ++ (tail_text a.tail ++ more)
+    both = sym bodies ∙ append_assoc (lines_text u.lines) (tail_text a.tail) more
+
+    by : (left : List ReplyLine) → AllByRecursion (IsReplyLine n) left → tail_text a.tail ++ more ≡ lines_text left ++ tail_text b.tail
+        → more ≡ []
+    by [] fits e =
+        (said_cut (inr a.tail) (inr b.tail) more []
+        (said_lacks n (length (rows_in_lines u.lines)) (length (keys_in_lines u.lines)) (inr a.tail) few_a.0 few_a.1 u.tail)
+        (said_lacks n (length (rows_in_lines w.lines)) (length (keys_in_lines w.lines)) (inr b.tail) few_b.0 few_b.1 w.tail)
+        (sym (said_behind (said_text (inr a.tail)) more (tail_is_said a.tail)) ∙ e ∙ tail_is_said b.tail)).2
+    by (l ∷ left) fits e =
+        absurd (line_or_tail n (length (rows_in_lines u.lines)) (length (keys_in_lines u.lines)) l a.tail
+        (lines_text left ++ tail_text b.tail) more few_a.0 few_a.1 fits.0 u.tail
+        (sym (append_assoc (line_text l) (lines_text left) (tail_text b.tail)) ∙ sym e))

@@ -1,0 +1,15 @@
+pub mod LabelLemmas
+pub mod KeyTextLemmas
+pub mod OverflowLemmas
+pub mod EndLemmas
+pub mod EntryLemmas
+pub mod FitLemmas
+pub mod ReplyLemmas
+pub mod ScanLemmas
+pub mod NotWholeLemmas
+pub mod ApartLemmas
+pub mod JobLaws
+pub mod JobLineLemmas
+pub mod JobTextLemmas
+pub mod TableLemmas
+pub mod KnownTexts

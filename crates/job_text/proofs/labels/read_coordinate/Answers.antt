@@ -1,0 +1,11 @@
+use Rattle.std.proofs.Common.{◌∙◌, ◌-◌, sym, arith}
+use Rattle.plain_text.proofs.ReadLemmas.{none_read, read_at}
+use Rattle.plain_text.proofs.NumberLemmas.{decimal_tells}
+use Rattle.job_text.proofs.labels.read_coordinate.Goals as goal
+
+pub returns-then-j-ge-EACH_KIND : goal.returns-then-j-ge-EACH_KIND
+returns-then-j-ge-EACH_KIND c =
+    let k = read_at c.in_ok-j.was c.read_count.ensures in
+    none_read (λ l may is.
+    let same = decimal_tells c.in_ok-j.j (l - 8192) (omega (arith, k.0)) (omega (arith, may.1)) (sym k.1 ∙ is) in
+    omega (arith, same, may.1, c.if-j-ge-EACH_KIND.true))

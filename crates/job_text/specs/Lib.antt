@@ -1,0 +1,10 @@
+pub mod KeyTexts
+pub mod Jobs
+pub mod Tables
+pub mod Overflows
+pub mod Replies
+pub mod Rule
+pub mod Keywords
+pub mod Fits
+pub mod Scans
+pub mod Laws

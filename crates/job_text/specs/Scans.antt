@@ -1,0 +1,45 @@
+-- Where the lines of a reply behind its head end, or stop to fit.
+use Rattle.std.specs.Prelude.{◌≡◌, ◌≢◌, ◌⊎◌, ◌+◌, ◌*◌, ◌^◌, ◌<◌, ℕ, List, [], ◌∷◌, ◌++◌, length}
+use Rattle.std.specs.List.{AllByRecursion}
+use Rattle.poly_num.specs.Vectors.{Vector}
+use Rattle.work_core.specs.ReplyLines.{ReplyLine, lines_text, rows_in_lines, keys_in_lines}
+use Rattle.job_text.specs.declared.reply.Tail.{Tail}
+use Rattle.job_text.specs.declared.scan.Scan.{Scan}
+use Rattle.job_text.specs.Replies.{IsReplyLine, EndsLines, tail_text}
+use Rattle.job_text.specs.Fits.{Said, MaySay, said_text}
+use Rattle.job_text.specs.Tables.{table_rows}
+
+-- so far these lines fit, in front of this rest; the table and the keys have what they say
+pub record Scanned (n : ℕ) (text rest : List ℕ) (rows : ℕ) (cells : Vector) (keys : List (List ℕ)) (place : ℕ) : Type 0 where
+  pub lines : List ReplyLine
+  pub fit : AllByRecursion (IsReplyLine n) lines
+  pub split : text ≡ lines_text lines ++ rest
+  pub table : table_rows n rows cells ≡ rows_in_lines lines
+  pub full : length cells ≡ rows * n
+  pub keys_are : keys ≡ keys_in_lines lines
+  -- how many bytes they have
+  pub size : place ≡ length (lines_text lines)
+
+-- these lines and a last one behind them are the whole text
+pub record IsScanOf (n : ℕ) (text : List ℕ) (scan : Scan) : Type 0 where
+  pub lines : List ReplyLine
+  pub fit : AllByRecursion (IsReplyLine n) lines
+  pub split : text ≡ lines_text lines ++ tail_text scan.tail
+  pub table : table_rows n scan.rows scan.cells.items ≡ rows_in_lines lines
+  pub full : length scan.cells.items ≡ scan.rows * n
+  pub keys_are : scan.keys.items ≡ keys_in_lines lines
+  pub ends : EndsLines lines scan.tail
+
+-- the lines that fit end here, behind so many bytes: nothing that may follow stands in front of the rest, or more stands
+-- behind a last line
+pub record StopsAt (n : ℕ) (text : List ℕ) (place : ℕ) : Type 0 where
+  pub lines : List ReplyLine
+  pub rest : List ℕ
+  pub fit : AllByRecursion (IsReplyLine n) lines
+  pub split : text ≡ lines_text lines ++ rest
+  pub few : (length (rows_in_lines lines) < 2 ^ 64) × (length (keys_in_lines lines) < 2 ^ 64)
+  pub stop :
+      ((place ≡ length (lines_text lines)) × ((s : Said) (more : List ℕ)
+      → MaySay n (length (rows_in_lines lines)) (length (keys_in_lines lines)) s → rest ≡ said_text s ++ 10 ∷ more → ⊥))
+      ⊎ ((tail : Tail) × (behind : List ℕ) × EndsLines lines tail × (rest ≡ tail_text tail ++ behind) × (behind ≢ [])
+      × (place ≡ length (lines_text lines) + length (tail_text tail)))

@@ -1,0 +1,61 @@
+//! The entries of a row, read into place.
+ghost use Rattle.std.specs.Prelude.{◌≡◌, ◌↔◌, ℤ, List, length, IsTrue, IsFalse};
+ghost use Rattle.std.specs.List.{AllByRecursion};
+ghost use Rattle.poly_num.specs.Numbers.{IsNum};
+ghost use Rattle.poly_num.specs.Vectors.{IsPrimitive};
+ghost use Rattle.poly_model.specs.ListingText.{entries_text};
+ghost use Rattle.plain_text.specs.Cuts.{GoesOnWith};
+ghost use Rattle.work_core.specs.ReplyLines.{row_line};
+ghost use Rattle.job_text.specs.Replies.{IsReplyLine};
+
+use plain_text::{next_word, read_num};
+use poly_num::{Num, gcd};
+
+// As many numbers as the row has, each behind one blank, and nothing behind them.
+fn read_entries(row: &mut [Num], text: &[u8]) -> bool
+    requires { GoesOnWith 32 text.now }
+    ensures size { length row.new ≡ length row.old }
+    ensures yes { IsTrue result → AllByRecursion IsNum row.new × (text.now ≡ entries_text row.new) }
+    ensures no { IsFalse result → (v : List ℤ) → length v ≡ length row.old → AllByRecursion IsNum v
+        → text.now ≡ entries_text v → ⊥ }
+{
+    let mut rest = text;
+    for i in 0..row.len() {
+        let (word, behind) = match next_word(rest) {
+            Some(found) => found,
+            None => return false,
+        };
+        let entry = match read_num(word) {
+            Some(entry) => entry,
+            None => return false,
+        };
+        row[i] = entry;
+        rest = behind;
+    }
+    rest.is_empty()
+}
+
+// Whether 1 is the greatest common divisor of the entries.
+fn is_primitive(v: &[Num]) -> bool
+    ensures { IsTrue result ↔ IsPrimitive v.now }
+{
+    let mut divisor = Num::ZERO;
+    for x in v {
+        divisor = gcd(divisor, *x);
+    }
+    divisor.size() == 1
+}
+
+/// Whether a primitive vector of as many entries as the row has stands there, each entry behind one blank. Then the row
+/// has them; else it may have anything.
+pub(crate) fn read_row(row: &mut [Num], text: &[u8]) -> bool
+    requires { GoesOnWith 32 text.now }
+    ensures size { length row.new ≡ length row.old }
+    ensures yes { IsTrue result → IsReplyLine (length row.old) (row_line row.new) × (text.now ≡ entries_text row.new) }
+    ensures no { IsFalse result → (v : List ℤ) → IsReplyLine (length row.old) (row_line v) → text.now ≡ entries_text v → ⊥ }
+{
+    if !read_entries(row, text) {
+        return false;
+    }
+    is_primitive(row)
+}

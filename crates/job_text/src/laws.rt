@@ -1,0 +1,13 @@
+//! Laws of the texts: functions with an empty body.
+ghost use Rattle.std.specs.Prelude.{List, ℕ};
+ghost use Rattle.job_text.specs.Laws.{EndsWhole, IsOneJob};
+
+/// No whole reply is a proper prefix of another: so a reply that ends in the middle is never taken for a shorter one.
+pub fn no_proper_prefix()
+    ensures { (n : ℕ) (text more : List ℕ) → EndsWhole n text more }
+{}
+
+/// A text is the text of one job.
+pub fn one_job()
+    ensures { (text : List ℕ) → IsOneJob text }
+{}

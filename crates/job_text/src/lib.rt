@@ -1,0 +1,37 @@
+//! Job texts and replies, written and read.
+#![tactic(auto)]
+
+mod ends;
+mod entries;
+mod fit;
+mod head;
+mod job;
+mod keys;
+mod keyword;
+mod labels;
+mod laws;
+mod lines;
+mod overflow;
+mod reader;
+mod reading;
+mod reply;
+mod rows;
+mod said;
+mod scan;
+mod stops;
+mod tail;
+#[cfg(test)]
+mod tests;
+mod words;
+mod writing;
+
+pub use job::{Job, JobHead};
+pub use keys::read_key;
+pub use laws::{no_proper_prefix, one_job};
+pub use reader::ReplyReader;
+pub use reading::read_job;
+pub use reply::{Reply, Tail};
+pub use rows::RowTable;
+pub use stops::{JobReadStop, ReplyStop};
+pub use tail::write_tail;
+pub use writing::{write_job, write_reply_head};

@@ -1,0 +1,61 @@
+//! The lines of a reply behind its head.
+ghost use Rattle.std.specs.Prelude.{◌≡◌, ℕ, length, IfOk, IsErrOf};
+ghost use Rattle.job_text.specs.Scans.{IsScanOf, StopsAt};
+
+use crate::fit::fit_line;
+use crate::said::Fit;
+use crate::{ReplyStop, Tail};
+use plain_text::split_line;
+use poly_model::Key;
+use poly_num::Num;
+use std::alloc::Global;
+
+/// What the lines of a reply say: its rows one after the other, how many they are, the keys, and its end.
+#[derive(Drop)]
+pub(crate) struct Scan {
+    pub cells: Vec<Num>,
+    pub rows: u64,
+    pub keys: Vec<Key>,
+    pub tail: Tail,
+}
+
+/// Reads the lines of a reply to its end, or to the first byte that is of no line that fits.
+pub(crate) fn scan_lines(alloc: Global, row: &mut [Num], text: &[u8]) -> Result<Scan, ReplyStop>
+    ensures ok { IfOk result (λ s. IsScanOf (length row.old) text.now s) }
+    ensures stop { (place : ℕ) → IsErrOf result (ReplyStop.NotWhole place) → StopsAt (length row.old) text.now place }
+{
+    let mut cells = Vec::new(alloc);
+    let mut keys = Vec::new(alloc);
+    let mut rows = 0u64;
+    let mut place = 0u64;
+    let mut rest = text;
+    'lines: loop {
+        let (line, behind) = match split_line(rest) {
+            Some(found) => found,
+            None => return Err(ReplyStop::NotWhole { place }),
+        };
+        let fit = fit_line(line, row, rows, keys.len() as u64);
+        let next = place + line.len() as u64 + 1;
+        match fit {
+            Fit::No => return Err(ReplyStop::NotWhole { place }),
+            Fit::Row => {
+                cells.extend_from_slice(row)?;
+                rows += 1;
+            }
+            Fit::Job(key) => keys.push(key)?,
+            Fit::Last(tail) => {
+                if behind.is_empty() {
+                    return Ok(Scan {
+                        cells,
+                        rows,
+                        keys,
+                        tail,
+                    });
+                }
+                return Err(ReplyStop::NotWhole { place: next });
+            }
+        }
+        place = next;
+        rest = behind;
+    }
+}

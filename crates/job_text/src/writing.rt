@@ -1,0 +1,73 @@
+//! Texts that are written.
+ghost use Rattle.std.specs.Prelude.{◌≡◌, ◌++◌, ◌∷◌, [], codes, IfOk, decimal};
+ghost use Rattle.poly_io.specs.Written.{Prints};
+ghost use Rattle.poly_model.specs.LabelText.{key_text};
+ghost use Rattle.poly_reader.specs.Reading.{IsOfItsText};
+ghost use Rattle.job_text.specs.Replies.{reply_head};
+ghost use Rattle.job_text.specs.Jobs.{HasHeadText, IsJobText, text_of_job, work_line, root_line, key_line, bases_line, depth_line, input_line};
+
+use crate::JobHead;
+use poly_io::{Bytes, MemSink, Sink, WriteFault, write_all, write_count};
+use poly_model::{Key, Poly, WorkKind};
+use row_printer::write_key;
+use std::alloc::{AllocError, Global};
+
+fn write_work_line<S: Sink>(work: WorkKind, out: &mut S) -> Result<(), WriteFault>
+    ensures { Prints S.Sink out.old out.new result (work_line work ++ 10 ∷ []) }
+{
+    match work {
+        WorkKind::Subsets => write_all(out, b"lrs-job 1 subsets\n"),
+        WorkKind::Subtrees => write_all(out, b"lrs-job 1 subtrees\n"),
+    }
+}
+
+// The word and the key.
+fn write_key_line<S: Sink>(word: &[u8], key: &Key, out: &mut S) -> Result<(), WriteFault>
+    ensures { Prints S.Sink out.old out.new result (word.now ++ (key_text key.now ++ 10 ∷ [])) }
+{
+    write_all(out, word)?;
+    write_key(key, out)?;
+    write_all(out, b"\n")
+}
+
+// The word and the number.
+fn write_count_line<S: Sink>(word: &[u8], count: u64, out: &mut S) -> Result<(), WriteFault>
+    ensures { Prints S.Sink out.old out.new result (word.now ++ (decimal count ++ 10 ∷ [])) }
+{
+    write_all(out, word)?;
+    write_count(count, out)?;
+    write_all(out, b"\n")
+}
+
+/// Writes the first line of a reply.
+pub fn write_reply_head<S: Sink>(key: &Key, out: &mut S) -> Result<(), WriteFault>
+    ensures { Prints S.Sink out.old out.new result (reply_head key.now) }
+{
+    write_key_line(b"reply ", key, out)
+}
+
+// The six lines, for a file of so many bytes, and the file.
+fn write_job_text<S: Sink>(head: &JobHead, file: &[u8], out: &mut S) -> Result<(), WriteFault>
+    ensures { Prints S.Sink out.old out.new result (text_of_job head.now file.now) }
+{
+    write_work_line(head.work, out)?;
+    write_key_line(b"root ", &head.root.key(), out)?;
+    write_key_line(b"key ", &head.key, out)?;
+    write_count_line(b"bases ", head.budget.bases, out)?;
+    write_count_line(b"depth ", head.budget.depth, out)?;
+    write_count_line(b"input ", file.len() as u64, out)?;
+    write_all(out, file)
+}
+
+/// The text of a job. Where the head has a text and the polyhedron is that of its own text, it is read back as this job.
+pub fn write_job(alloc: Global, head: &JobHead, poly: &Poly) -> Result<Bytes, AllocError>
+    ensures text { IfOk result (λ bytes. bytes ≡ text_of_job head.now poly.now.text) }
+    ensures back { IfOk result (λ bytes. HasHeadText head.now → IsOfItsText poly.now
+        → IsJobText (record { head = head.now; poly = poly.now }) bytes) }
+{
+    let mut sink = MemSink::new(alloc, &[]);
+    match write_job_text(head, poly.text(), &mut sink) {
+        Ok(()) => Ok(Bytes::from_vec(Vec::from_slice(alloc, sink.written())?)),
+        Err(WriteFault) => Err(AllocError),
+    }
+}
