@@ -6,7 +6,7 @@ use Rattle.poly_num.specs.Vectors.{Vector}
 use Rattle.poly_io.specs.Written.{AppendsPart}
 use Rattle.poly_model.specs.declared.listed.Count.{Count}
 use Rattle.poly_model.specs.declared.overflow.Overflow.{Overflow}
-use Rattle.poly_model.specs.Keys.{with_label}
+use Rattle.poly_model.specs.Keys.{IsKey, with_label}
 use Rattle.poly_model.specs.Overflows.{Passes}
 use Rattle.poly_model.specs.Systems.{System, Polyhedron, cone_of, row_of}
 use Rattle.dictionary.specs.Views.{Dictionary}
@@ -20,12 +20,12 @@ use Rattle.poly_model.specs.Limits.{most_labels}
 use Rattle.work_core.specs.Meanings.{Meaning, IsKeyBelow}
 use Rattle.work_core.specs.Subsets.{IsSubsetKey}
 use Rattle.work_core.specs.Searches.{by_subsets}
-use Rattle.work_core.specs.ReplyLines.{row_line_text, job_line_text, IsCutRun, IsTornRun}
+use Rattle.work_core.specs.ReplyLines.{row_line, job_line_text, WritesLines, WritesPartOfLines, IsCutRun, IsTornRun}
 use Rattle.work_core.specs.Shown.{IsShownAtList}
 use Rattle.work_core.specs.Walked.{HasWalked}
 use Rattle.work_core.proofs.WalkLemmas.{under_itself}
 use Rattle.work_core.proofs.SubsetShares.{has_shares, shows_at}
-use Rattle.work_core.proofs.WalkedLemmas.{walked_of, walked_visit, walked_show, walked_give, walked_then, cut_here, cut_under, torn_under, cut_is_torn, torn_job, torn_row}
+use Rattle.work_core.proofs.WalkedLemmas.{writes_given, part_given, walked_of, walked_visit, walked_show, walked_give, walked_then, cut_here, cut_under, torn_under, cut_is_torn, torn_job, torn_row}
 use Rattle.subset_work.specs.Counts.{IsOneBase, IsOneJob}
 use Rattle.subset_work.specs.Walked.{bound_of, HasWalkedTo, WalksUnder}
 use Rattle.subset_work.specs.Standing.{IsNext, HasRoom, MayTake, IsLive, IsDead, IsBefore}
@@ -84,17 +84,17 @@ module _ (p : Polyhedron) where
   -- ---- a key that is given back
   pub given_back : (key : List ℕ) (most longest : ℕ) (old new : Option (List ℕ)) (c : Count) (result : Result Count WorkStop) →
       IsSubsetKey p key → c.bases ≤ most → length key ≤ longest → (most ≤ c.bases) ⊎ (longest ≤ length key) →
-      OnOk result (Appends old new (job_line_text key)) → OnErr result (AppendsPart old new (job_line_text key)) →
+      OnOk result (Appends old new (job_line_text key)) → OnErr result (AppendsPart old new (job_line_text key)) → IsKey key →
       IfOk result (IsOneJob c) → ((o : Overflow) → IsErrOf result (WorkStop.Overflow o) → ⊥) →
       WalksUnder p key most longest old new c result
-  given_back key most longest old new c (Ok d) is within near stops whole part h none =
+  given_back key most longest old new c (Ok d) is within near stops whole part is_key h none =
       walks_ok key most longest old new c d
-      (walked_give s Shows (bound_of most longest) key old new c d is whole h.rows h.jobs h.bases
+      (walked_give s Shows (bound_of most longest) key old new c d is (writes_given old new key whole is_key) h.rows h.jobs h.bases
       (⊎_elim (λ (m : most ≤ c.bases). inl (omega (arith, m, within, h.bases)))
       (λ (m : longest ≤ length key). inr (omega (arith, m, near))) stops) near)
-  given_back key most longest old new c (Err x) is within near stops whole part h none =
+  given_back key most longest old new c (Err x) is within near stops whole part is_key h none =
       walks_fault key most longest old new c x none
-      (torn_job s key is (under_itself (by_subsets p) (has_shares p) key) old new part)
+      (torn_job s key is (under_itself (by_subsets p) (has_shares p) key) old new (part_given old new key part is_key))
 
   -- ---- a list that is full
   module _ (sys : System) (free : List ℕ) (d : Dictionary) (i : ℕ) (key : List ℕ) (live : IsLive sys free d i 0 p key)
@@ -108,14 +108,14 @@ module _ (p : Polyhedron) where
         h.bases))
 
     pub leaf_one : (v : Vector) (old new : Option (List ℕ)) (c e : Count) → e.rows ≡ c.rows + 1 → e.jobs ≡ c.jobs → e.bases ≡ c.bases + 1 →
-        Lists (IsCornerUnder live.cone live.marks) (v ∷ []) → Appends old new (row_line_text v) → WalksUnder p key most longest old new c (Ok e)
+        Lists (IsCornerUnder live.cone live.marks) (v ∷ []) → WritesLines old new (row_line v ∷ []) → WalksUnder p key most longest old new c (Ok e)
     leaf_one v old new c e r j b l a =
         walks_ok key most longest old new c e
         (walked_of s Shows (bound_of most longest) (λ one. one ≡ key) (IsKeyBelow s key) old new c e (key_alone p key room)
         (walked_show s Shows (bound_of most longest) key v old new c e (shown_one sys free d i 0 p key live refl v l) a r j b))
 
     pub leaf_part : (v : Vector) (old new : Option (List ℕ)) (c : Count) → Lists (IsCornerUnder live.cone live.marks) (v ∷ []) →
-        AppendsPart old new (row_line_text v) → WalksUnder p key most longest old new c (Err WorkStop.WriteFault)
+        WritesPartOfLines old new (row_line v ∷ []) → WalksUnder p key most longest old new c (Err WorkStop.WriteFault)
     leaf_part v old new c l a =
         walks_fault key most longest old new c WorkStop.WriteFault is_fault
         (torn_row s key v (((shows_at p room.narrow).share key v room.is_key).1

@@ -31,7 +31,7 @@ use Rattle.work_core.specs.Meanings.{Meaning, IsKeyBelow, WeighTogether}
 use Rattle.work_core.specs.ReplyLines.{job_line, rows_in_lines, keys_in_lines, IsWholeRun, IsCutRun, IsTornRun}
 use Rattle.work_core.specs.Searches.{by_subtrees}
 use Rattle.work_core.specs.Splits.{Splits, IsWithinBudget, AreWithin}
-use Rattle.work_core.proofs.WalkedLemmas.{part_then, within-append, one_text}
+use Rattle.work_core.proofs.WalkedLemmas.{part_then, within-append}
 use Rattle.subtree_work.specs.declared.progress.Progress.{Progress}
 use Rattle.subtree_work.specs.Rows.{lines_of_rows}
 use Rattle.subtree_work.specs.Steps.{FailsAt}
@@ -86,7 +86,7 @@ module _ (p : Polyhedron) (sys : System) (rays : Rays) (budget : Budget) (first 
           })
   fails_within walk vector x same depth deep old new (inr f) = record {
     lines = job_line walk.dict.key ∷ [];
-    written = subst (λ t. AppendsPart old new t) (sym (one_text (job_line walk.dict.key))) f;
+    written = f;
     within = record {
       rows_within = all_of (InSubtree p first.root first.job) [] (λ y c. absurd (Contains-nil y c));
       keys_within = all_of (IsKeyBelow work first.job) (walk.dict.key ∷ []) (λ k c.

@@ -12,8 +12,8 @@ use Rattle.dictionary.specs.Views.{Dictionary}
 use Rattle.hull_lift.specs.Facets.{primitive_column}
 use Rattle.convert_core.specs.Rows.{IsColumnShown, column_rows}
 use Rattle.convert_core.proofs.RowLists.{none_of_one, that_one, once_more, lists_more, only_more}
-use Rattle.work_core.specs.ReplyLines.{ReplyLine, row_line, row_line_text, lines_text, rows_in_lines, keys_in_lines}
-use Rattle.work_core.proofs.WalkedLemmas.{one_text, appends_then, part_then}
+use Rattle.work_core.specs.ReplyLines.{ReplyLine, row_line, WritesLines, WritesPartOfLines, rows_in_lines, keys_in_lines}
+use Rattle.work_core.proofs.WalkedLemmas.{writes_none, writes_then, part_then}
 use Rattle.subtree_work.specs.Rows.{lines_of_rows, ShowsRows, TearsRows}
 
 -- ---- such lines give back no key
@@ -40,31 +40,31 @@ module _ (sys : System) (root : List ℕ) (d : Dictionary) where
   not_shown c a n never = record {
     shown = [];
     all = none_of_one (IsColumnShown sys root d) c never;
-    written = Appends-nil a;
+    written = writes_none a;
     rows = omega arith;
     jobs = refl;
     bases = refl;
   }
 
   pub is_shown : (c : ℕ) (a b : Option (List ℕ)) (n m : Count) → IsColumnShown sys root d c →
-      Appends a b (row_line_text (primitive_column d c sys.n)) → m.rows ≡ n.rows + 1 → m.jobs ≡ n.jobs →
+      WritesLines a b (row_line (primitive_column d c sys.n) ∷ []) → m.rows ≡ n.rows + 1 → m.jobs ≡ n.jobs →
       m.bases ≡ n.bases → Shows (c ∷ []) a b n m
   is_shown c a b n m x w r j e = record {
     shown = c ∷ [];
     all = that_one (IsColumnShown sys root d) c x;
-    written = subst (λ t. Appends a b t) (sym (one_text (row_line (primitive_column d c sys.n)))) w;
+    written = w;
     rows = r;
     jobs = j;
     bases = e;
   }
 
   pub is_torn : (c : ℕ) (a b : Option (List ℕ)) → IsColumnShown sys root d c →
-      AppendsPart a b (row_line_text (primitive_column d c sys.n)) → Tears (c ∷ []) a b
+      WritesPartOfLines a b (row_line (primitive_column d c sys.n) ∷ []) → Tears (c ∷ []) a b
   is_torn c a b x w = record {
     shown = c ∷ [];
     once = (that_one (IsColumnShown sys root d) c x).once;
     only = (that_one (IsColumnShown sys root d) c x).only;
-    written = subst (λ t. AppendsPart a b t) (sym (one_text (row_line (primitive_column d c sys.n)))) w;
+    written = w;
   }
 
   -- ---- one column more
@@ -80,8 +80,8 @@ module _ (sys : System) (root : List ℕ) (d : Dictionary) where
     shows_more b l w = record {
       shown = v.shown ++ w.shown;
       all = lists_more (IsColumnShown sys root d) columns c new v.shown w.shown v.all w.all;
-      written = subst (λ ls. Appends a b (lines_text ls)) (sym (lines-append v.shown w.shown))
-          (appends_then a m b (lines_of v.shown) (lines_of w.shown) v.written w.written);
+      written = subst (λ ls. WritesLines a b ls) (sym (lines-append v.shown w.shown))
+          (writes_then a m b (lines_of v.shown) (lines_of w.shown) v.written w.written);
       rows = let s = length-append v.shown w.shown in let r = v.rows in let q = w.rows in omega (arith, s, r, q);
       jobs = let r = v.jobs in let q = w.jobs in omega (arith, r, q);
       bases = let r = v.bases in let q = w.bases in omega (arith, r, q);
@@ -93,7 +93,7 @@ module _ (sys : System) (root : List ℕ) (d : Dictionary) where
       shown = v.shown ++ w.shown;
       once = once_more (IsColumnShown sys root d) columns c new v.shown w.shown v.all w.once w.only;
       only = only_more (IsColumnShown sys root d) columns c new v.shown w.shown v.all all within here w.only;
-      written = subst (λ ls. AppendsPart a b (lines_text ls)) (sym (lines-append v.shown w.shown))
+      written = subst (λ ls. WritesPartOfLines a b ls) (sym (lines-append v.shown w.shown))
           (part_then a m b (lines_of v.shown) (lines_of w.shown) v.written w.written);
     }
 

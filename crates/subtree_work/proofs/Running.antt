@@ -1,7 +1,6 @@
 -- A run under a key on its way: what it has visited and given back, and what it has written of them; one step further.
 use Rattle.std.proofs.Common.{◌≡◌, ◌⊎◌, inl, inr, ⊎_elim, ℕ, suc, ◌+◌, ◌-◌, ◌*◌, ◌<◌, ◌≤◌, List, [], ◌∷◌, ◌++◌, length, length-append, append-nil, Option, refl, sym, ap, subst, ◌∙◌, arith}
 use Rattle.std.specs.List.{Contains}
-use Rattle.std.specs.Io.KnownBytes.{Appends}
 use Rattle.std.proofs.lemmas.List.{length-map}
 use Rattle.std.proofs.lemmas.List.Elements.{Contains-append_cases}
 use Rattle.poly_num.specs.Vectors.{Vector}
@@ -31,8 +30,8 @@ use Rattle.convert_core.specs.Searches.{IsSearch}
 use Rattle.convert_core.proofs.RowLists.{turned}
 use Rattle.convert_core.proofs.Searching.{subtree_root, rows_here, elsewhere}
 use Rattle.work_core.specs.declared.budget.Budget.{Budget}
-use Rattle.work_core.specs.ReplyLines.{ReplyLine, job_line, lines_text, rows_in_lines, keys_in_lines}
-use Rattle.work_core.proofs.WalkedLemmas.{rows-append, keys-append, appends_then, one_text}
+use Rattle.work_core.specs.ReplyLines.{ReplyLine, job_line, WritesLines, rows_in_lines, keys_in_lines}
+use Rattle.work_core.proofs.WalkedLemmas.{rows-append, keys-append, writes_then}
 use Rattle.subtree_work.specs.declared.progress.Progress.{Progress}
 use Rattle.subtree_work.specs.Rows.{lines_of_rows, IsShownOf}
 use Rattle.subtree_work.specs.Steps.{AllowsVisit, MustGiveBack, VisitsBase, GivesKeyBack}
@@ -57,7 +56,7 @@ module _ (p : Polyhedron) (sys : System) (rays : Rays) (budget : Budget) (first 
     pub vectors : List Vector
     pub shown : ListsAll (IsShownAtSome p first.root visited) vectors
     pub lines : List ReplyLine
-    pub written : Appends old now (lines_text lines)
+    pub written : WritesLines old now lines
     pub vectors_in : rows_in_lines lines ≡ vectors
     pub keys_in : keys_in_lines lines ≡ given
     pub rows : s.count.rows ≡ length vectors
@@ -258,7 +257,7 @@ module _ (p : Polyhedron) (sys : System) (rays : Rays) (budget : Budget) (first 
           shown = turned (IsShownAtSome p first.root (new.dict.key ∷ g.visited)) ys g.vectors
               ((runs_part p first.root root).more_rows new.dict.key g.visited ys g.vectors fresh here g.shown);
           lines = g.lines ++ lines_of_rows ys;
-          written = appends_then old now then g.lines (lines_of_rows ys) g.written v.written;
+          written = writes_then old now then g.lines (lines_of_rows ys) g.written v.written;
           vectors_in = rows-append g.lines (lines_of_rows ys) ∙ ap (λ xs. rows_in_lines g.lines ++ xs) (rows_of_rows ys)
               ∙ ap (λ xs. xs ++ ys) g.vectors_in;
           keys_in = keys-append g.lines (lines_of_rows ys) ∙ ap (λ ks. keys_in_lines g.lines ++ ks) (keys_of_rows ys)
@@ -324,8 +323,7 @@ module _ (p : Polyhedron) (sys : System) (rays : Rays) (budget : Budget) (first 
           vectors = g.vectors;
           shown = g.shown;
           lines = g.lines ++ line;
-          written = appends_then old now then g.lines line g.written
-              (subst (λ x. Appends now then x) (sym (one_text (job_line new.dict.key))) v.written);
+          written = writes_then old now then g.lines line g.written v.written;
           vectors_in = rows-append g.lines line ∙ append-nil (rows_in_lines g.lines) ∙ g.vectors_in;
           keys_in = keys-append g.lines line ∙ ap (λ ks. ks ++ new.dict.key ∷ []) g.keys_in;
           rows = v.rows ∙ g.rows;
@@ -368,7 +366,7 @@ module _ (p : Polyhedron) (sys : System) (rays : Rays) (budget : Budget) (first 
       vectors = g.vectors;
       shown = g.shown;
       lines = g.lines;
-      written = subst (λ b. Appends old b (lines_text g.lines)) (sym same) g.written;
+      written = subst (λ b. WritesLines old b g.lines) (sym same) g.written;
       vectors_in = g.vectors_in;
       keys_in = g.keys_in;
       rows = ap (λ (c : Count). c.rows) counts ∙ g.rows;

@@ -1,15 +1,13 @@
 -- The lines of the rows that are shown at a cobasis.
 use Rattle.std.specs.Prelude.{◌≡◌, ℕ, ◌+◌, List, map, length, Option}
 use Rattle.std.specs.List.{Contains}
-use Rattle.std.specs.Io.KnownBytes.{Appends}
 use Rattle.poly_num.specs.Vectors.{Vector}
-use Rattle.poly_io.specs.Written.{AppendsPart}
 use Rattle.poly_model.specs.declared.listed.Count.{Count}
 use Rattle.poly_model.specs.Systems.{System}
 use Rattle.dictionary.specs.Views.{Dictionary}
 use Rattle.search_laws.specs.Shares.{StandOnce, ListsAll}
 use Rattle.convert_core.specs.Rows.{IsColumnShown, column_rows}
-use Rattle.work_core.specs.ReplyLines.{ReplyLine, row_line, lines_text}
+use Rattle.work_core.specs.ReplyLines.{ReplyLine, row_line, WritesLines, WritesPartOfLines}
 
 abbrev pub lines_of_rows : List Vector → List ReplyLine
 lines_of_rows ys = map row_line ys
@@ -22,7 +20,7 @@ module _ (sys : System) (root : List ℕ) (d : Dictionary) (columns : List ℕ) 
   pub record ShowsRows (old new : Option (List ℕ)) (before after : Count) : Type 0 where
     pub shown : List ℕ
     pub all : ListsAll IsShownOf shown
-    pub written : Appends old new (lines_text (lines_of_rows (column_rows sys d shown)))
+    pub written : WritesLines old new (lines_of_rows (column_rows sys d shown))
     pub rows : after.rows ≡ before.rows + length shown
     pub jobs : after.jobs ≡ before.jobs
     pub bases : after.bases ≡ before.bases
@@ -32,4 +30,4 @@ module _ (sys : System) (root : List ℕ) (d : Dictionary) (columns : List ℕ) 
     pub shown : List ℕ
     pub once : StandOnce shown
     pub only : (c : ℕ) → Contains shown c → IsShownOf c
-    pub written : AppendsPart old new (lines_text (lines_of_rows (column_rows sys d shown)))
+    pub written : WritesPartOfLines old new (lines_of_rows (column_rows sys d shown))

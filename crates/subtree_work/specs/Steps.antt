@@ -1,7 +1,5 @@
 -- One step of a run: a cobasis is visited or given back, or the walk goes back.
-use Rattle.std.specs.Prelude.{◌≡◌, ◌⊎◌, ℕ, ◌+◌, ◌-◌, ◌≤◌, ◌<◌, List, length, Option}
-use Rattle.std.specs.Io.KnownBytes.{Appends}
-use Rattle.poly_io.specs.Written.{AppendsPart}
+use Rattle.std.specs.Prelude.{◌≡◌, ◌⊎◌, ℕ, ◌+◌, ◌-◌, ◌≤◌, ◌<◌, List, [], ◌∷◌, length, Option}
 use Rattle.poly_model.specs.declared.listed.Count.{Count}
 use Rattle.poly_model.specs.Systems.{System}
 use Rattle.search_laws.specs.Shares.{ListsAll}
@@ -14,7 +12,7 @@ use Rattle.convert_core.specs.Rows.{columns_of, column_rows}
 use Rattle.work_core.specs.declared.budget.Budget.{Budget}
 use Rattle.work_core.specs.declared.stops.WorkStop.{WorkStop}
 use Rattle.work_core.specs.declared.stops.WorkStop.TheVariants.{Overflow, WriteFault}
-use Rattle.work_core.specs.ReplyLines.{lines_text, job_line_text}
+use Rattle.work_core.specs.ReplyLines.{job_line, WritesLines, WritesPartOfLines}
 use Rattle.subtree_work.specs.declared.progress.Progress.{Progress}
 use Rattle.subtree_work.specs.Rows.{lines_of_rows, IsShownOf, TearsRows}
 
@@ -33,14 +31,14 @@ MustGiveBack budget depth bases = (budget.bases ≤ bases) ⊎ ((0 < budget.dept
 pub record VisitsBase (sys : System) (walk : Walk) (old new : Option (List ℕ)) (before after : Count) : Type 0 where
   pub shown : List ℕ
   pub all : ListsAll (IsShownOf sys walk.root walk.dict (columns_of walk.dict)) shown
-  pub written : Appends old new (lines_text (lines_of_rows (column_rows sys walk.dict shown)))
+  pub written : WritesLines old new (lines_of_rows (column_rows sys walk.dict shown))
   pub rows : after.rows ≡ before.rows + length shown
   pub jobs : after.jobs ≡ before.jobs
   pub bases : after.bases ≡ before.bases + 1
 
 -- its key was given back
 pub record GivesKeyBack (key : List ℕ) (old new : Option (List ℕ)) (before after : Count) : Type 0 where
-  pub written : Appends old new (job_line_text key)
+  pub written : WritesLines old new (job_line key ∷ [])
   pub rows : after.rows ≡ before.rows
   pub jobs : after.jobs ≡ before.jobs + 1
   pub bases : after.bases ≡ before.bases
@@ -55,7 +53,7 @@ VisitsOrGivesBack budget sys there after depth old new c e =
 abbrev pub FailsAt : System → Walk → Option (List ℕ) → Option (List ℕ) → Type 0
 FailsAt sys there old new =
     TearsRows sys there.root there.dict (columns_of there.dict) old new
-    ⊎ AppendsPart old new (job_line_text there.dict.key)
+    ⊎ WritesPartOfLines old new (job_line there.dict.key ∷ [])
 
 -- ---- one step
 pub record MeetsNewBase (budget : Budget) (sys : System) (before after : Walk) (s : Progress) (old : Option (List ℕ))

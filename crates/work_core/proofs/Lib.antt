@@ -5,3 +5,4 @@ pub mod SubsetLists
 pub mod SubsetShares
 pub mod WalkedLemmas
 pub mod SubtreeShares
+pub mod KeyLaws

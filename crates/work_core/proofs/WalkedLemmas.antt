@@ -1,19 +1,21 @@
 -- What a walk has written, piece by piece.
-use Rattle.std.proofs.Common.{◌≡◌, ◌↔◌, ◌⊎◌, inl, inr, ⊎_elim, ℕ, ◌+◌, ◌≤◌, List, [], ◌∷◌, ◌++◌, length, length-append, append-nil, get_or, Option, refl, sym, ap, subst, ◌∙◌, arith}
-use Rattle.std.specs.List.{All, Contains}
+use Rattle.std.proofs.Common.{◌≡◌, ◌↔◌, ◌⊎◌, inl, inr, ⊎_elim, ℕ, suc, pos, ◌+◌, ◌<◌, ◌≤◌, List, [], ◌∷◌, ◌++◌, length, length-append, append-nil, get_or, Option, refl, sym, ap, subst, ◌∙◌, arith}
+use Rattle.std.specs.List.{All, AllByRecursion, Contains, slice_index_or}
 use Rattle.std.specs.Io.KnownBytes.{Appends}
 use Rattle.std.proofs.KnownBytes.{Appends-nil, Appends-trans}
 use Rattle.std.proofs.lemmas.List.Concat.{flat_map-append, flat_map-cons}
 use Rattle.std.proofs.lemmas.List.Elements.{All-from_recursion, All-contains, Contains-append_cases}
+use Rattle.poly_num.specs.Numbers.{IsNum}
 use Rattle.poly_num.specs.Vectors.{Vector}
 use Rattle.poly_io.specs.Written.{AppendsPart}
 use Rattle.poly_io.proofs.Parts.{part_of_all, part_after}
 use Rattle.poly_model.specs.declared.listed.Count.{Count}
+use Rattle.poly_model.specs.Keys.{IsKey}
 use Rattle.linear_laws.proofs.Members.{Contains-nil, Contains-cons_cases}
 use Rattle.listing_laws.proofs.ListLemmas.{all_members}
 use Rattle.search_laws.specs.Shares.{ListsAll}
 use Rattle.work_core.specs.Meanings.{Meaning, StandsUnder, IsKeyBelow}
-use Rattle.work_core.specs.ReplyLines.{ReplyLine, row_line, job_line, line_text, lines_text, rows_in_lines, keys_in_lines, row_line_text, job_line_text, IsCutRun, IsTornRun}
+use Rattle.work_core.specs.ReplyLines.{ReplyLine, row_line, job_line, line_text, lines_text, rows_in_lines, keys_in_lines, row_line_text, job_line_text, IsInHand, WritesLines, WritesPartOfLines, IsCutRun, IsTornRun}
 use Rattle.work_core.specs.Splits.{AreWithin}
 use Rattle.work_core.specs.Laws.{HasShares}
 use Rattle.work_core.specs.Walks.{ShowsAt, IsWalk}
@@ -37,15 +39,62 @@ text-append ls ms = flat_map-append line_text ls ms
 pub one_text : (l : ReplyLine) → lines_text (l ∷ []) ≡ line_text l
 one_text l = flat_map-cons line_text l [] ∙ append-nil (line_text l)
 
-pub appends_then : (a b c : Option (List ℕ)) (ls ms : List ReplyLine) → Appends a b (lines_text ls) → Appends b c (lines_text ms) →
-    Appends a c (lines_text (ls ++ ms))
-appends_then a b c ls ms f g =
-    subst (λ t. Appends a c t) (sym (text-append ls ms)) (Appends-trans a b c (lines_text ls) (lines_text ms) f g)
+-- ---- lines that were written
+all_numbers : (v : Vector) → ((i : ℕ) → i < length v → IsNum (slice_index_or v i (pos 0))) → AllByRecursion IsNum v
+all_numbers [] h = tt
+all_numbers (x ∷ v) h = (h 0 (omega arith), all_numbers v (λ i l. h (suc i) (omega (arith, l))))
 
-pub part_then : (a b c : Option (List ℕ)) (ls ms : List ReplyLine) → Appends a b (lines_text ls) → AppendsPart b c (lines_text ms) →
-    AppendsPart a c (lines_text (ls ++ ms))
-part_then a b c ls ms f g =
-    subst (λ t. AppendsPart a c t) (sym (text-append ls ms)) (part_after a b c (lines_text ls) (lines_text ms) f g)
+in_hand-append : (ls ms : List ReplyLine) → AllByRecursion IsInHand ls → AllByRecursion IsInHand ms →
+    AllByRecursion IsInHand (ls ++ ms)
+in_hand-append [] ms f g = g
+in_hand-append (l ∷ ls) ms f g = (f.0, in_hand-append ls ms f.1 g)
+
+pub writes_none : (a : Option (List ℕ)) → WritesLines a a []
+writes_none a = record { bytes = Appends-nil a; in_hand = tt }
+
+pub writes_row : (a b : Option (List ℕ)) (v : Vector) → Appends a b (row_line_text v) →
+    ((i : ℕ) → i < length v → IsNum (slice_index_or v i (pos 0))) → WritesLines a b (row_line v ∷ [])
+writes_row a b v f n = record {
+  bytes = subst (λ t. Appends a b t) (sym (one_text (row_line v))) f;
+  in_hand = (all_numbers v n, tt);
+}
+
+pub writes_given : (a b : Option (List ℕ)) (key : List ℕ) → Appends a b (job_line_text key) → IsKey key →
+    WritesLines a b (job_line key ∷ [])
+writes_given a b key f k = record {
+  bytes = subst (λ t. Appends a b t) (sym (one_text (job_line key))) f;
+  in_hand = (k, tt);
+}
+
+pub part_row : (a b : Option (List ℕ)) (v : Vector) → AppendsPart a b (row_line_text v) →
+    ((i : ℕ) → i < length v → IsNum (slice_index_or v i (pos 0))) → WritesPartOfLines a b (row_line v ∷ [])
+part_row a b v f n = record {
+  bytes = subst (λ t. AppendsPart a b t) (sym (one_text (row_line v))) f;
+  in_hand = (all_numbers v n, tt);
+}
+
+pub part_given : (a b : Option (List ℕ)) (key : List ℕ) → AppendsPart a b (job_line_text key) → IsKey key →
+    WritesPartOfLines a b (job_line key ∷ [])
+part_given a b key f k = record {
+  bytes = subst (λ t. AppendsPart a b t) (sym (one_text (job_line key))) f;
+  in_hand = (k, tt);
+}
+
+pub writes_then : (a b c : Option (List ℕ)) (ls ms : List ReplyLine) → WritesLines a b ls → WritesLines b c ms →
+    WritesLines a c (ls ++ ms)
+writes_then a b c ls ms f g = record {
+  bytes = subst (λ t. Appends a c t) (sym (text-append ls ms))
+      (Appends-trans a b c (lines_text ls) (lines_text ms) f.bytes g.bytes);
+  in_hand = in_hand-append ls ms f.in_hand g.in_hand;
+}
+
+pub part_then : (a b c : Option (List ℕ)) (ls ms : List ReplyLine) → WritesLines a b ls → WritesPartOfLines b c ms →
+    WritesPartOfLines a c (ls ++ ms)
+part_then a b c ls ms f g = record {
+  bytes = subst (λ t. AppendsPart a c t) (sym (text-append ls ms))
+      (part_after a b c (lines_text ls) (lines_text ms) f.bytes g.bytes);
+  in_hand = in_hand-append ls ms f.in_hand g.in_hand;
+}
 
 all_append : {X : Type 0} (P : X → Type 0) (xs ys : List X) → All P xs → All P ys → All P (xs ++ ys)
 all_append P xs ys a b =
@@ -72,12 +121,12 @@ module _ (work : Meaning) where
   pub no_lines : (key : List ℕ) (old : Option (List ℕ)) → IsCutRun work key old old
   no_lines key old = record {
     lines = [];
-    written = Appends-nil old;
+    written = writes_none old;
     within = record { rows_within = All-from_recursion (work.in_share key) [] tt; keys_within = All-from_recursion (IsKeyBelow work key) [] tt };
   }
 
   pub cut_is_torn : (key : List ℕ) (old new : Option (List ℕ)) → IsCutRun work key old new → IsTornRun work key old new
-  cut_is_torn key old new c = record { lines = c.lines; written = part_of_all old new (lines_text c.lines) c.written; within = c.within }
+  cut_is_torn key old new c = record { lines = c.lines; written = record { bytes = part_of_all old new (lines_text c.lines) c.written.bytes; in_hand = c.written.in_hand }; within = c.within }
 
   module _ (Shows : List ℕ → Vector → Type 0) (bound : Bound) where
     abbrev Walked : (List ℕ → Type 0) → Option (List ℕ) → Option (List ℕ) → Count → Count → Type 0
@@ -103,7 +152,7 @@ module _ (work : Meaning) where
     walked_visit key old c d l r j b = record {
       lines = [];
       visited = key ∷ [];
-      written = Appends-nil old;
+      written = writes_none old;
       walk = walk_visit work Shows key [] l;
       rows = omega (arith, r);
       jobs = omega (arith, j);
@@ -114,12 +163,12 @@ module _ (work : Meaning) where
 
     -- one key visited, and one vector shown
     pub walked_show : (key : List ℕ) (v : Vector) (old new : Option (List ℕ)) (c d : Count) → ListsAll (Shows key) (v ∷ []) →
-        Appends old new (row_line_text v) → d.rows ≡ c.rows + 1 → d.jobs ≡ c.jobs → d.bases ≡ c.bases + 1 →
+        WritesLines old new (row_line v ∷ []) → d.rows ≡ c.rows + 1 → d.jobs ≡ c.jobs → d.bases ≡ c.bases + 1 →
         Walked (λ one. one ≡ key) old new c d
     walked_show key v old new c d l a r j b = record {
       lines = row_line v ∷ [];
       visited = key ∷ [];
-      written = subst (λ t. Appends old new t) (sym (one_text (row_line v))) a;
+      written = a;
       walk = walk_visit work Shows key (v ∷ []) l;
       rows = r;
       jobs = omega (arith, j);
@@ -129,13 +178,13 @@ module _ (work : Meaning) where
     }
 
     -- one key given back
-    pub walked_give : (key : List ℕ) (old new : Option (List ℕ)) (c d : Count) → work.is_key key → Appends old new (job_line_text key) →
+    pub walked_give : (key : List ℕ) (old new : Option (List ℕ)) (c d : Count) → work.is_key key → WritesLines old new (job_line key ∷ []) →
         d.rows ≡ c.rows → d.jobs ≡ c.jobs + 1 → d.bases ≡ c.bases → (d.bases ≡ bound.most) ⊎ bound.is_deepest key → bound.is_within key →
         Walked (IsKeyBelow work key) old new c d
     walked_give key old new c d is a r j b h l = record {
       lines = job_line key ∷ [];
       visited = [];
-      written = subst (λ t. Appends old new t) (sym (one_text (job_line key))) a;
+      written = a;
       walk = walk_give work Shows key is;
       rows = omega (arith, r);
       jobs = j;
@@ -157,7 +206,7 @@ module _ (work : Meaning) where
         record {
           lines = v.lines ++ w.lines;
           visited = v.visited ++ w.visited;
-          written = appends_then old now new v.lines w.lines v.written w.written;
+          written = writes_then old now new v.lines w.lines v.written w.written;
           walk = subst (λ ks. IsWalk work Shows (λ one. P one ⊎ Q one) (v.visited ++ w.visited) ks (rows_in_lines (v.lines ++ w.lines))) (sym (keys-append v.lines w.lines))
               (subst (λ xs. IsWalk work Shows (λ one. P one ⊎ Q one) (v.visited ++ w.visited) (keys_in_lines v.lines ++ keys_in_lines w.lines) xs) (sym (rows-append v.lines w.lines))
               (walk_then work Shows itself one_key P Q other v.visited w.visited (keys_in_lines v.lines) (keys_in_lines w.lines) (rows_in_lines v.lines) (rows_in_lines w.lines) v.walk w.walk keys));
@@ -187,7 +236,7 @@ module _ (work : Meaning) where
       pub cut_under : (child : List ℕ) → work.is_key child → StandsUnder work child key → (new : Option (List ℕ)) → IsCutRun work child now new → IsCutRun work key old new
       cut_under child i u new r = record {
         lines = w.lines ++ r.lines;
-        written = appends_then old now new w.lines r.lines w.written r.written;
+        written = writes_then old now new w.lines r.lines w.written r.written;
         within = within-append key w.lines r.lines here (within_above shares child key i u r.lines r.within);
       }
 
@@ -199,22 +248,22 @@ module _ (work : Meaning) where
       }
 
   -- within one line
-  pub torn_job : (key : List ℕ) → work.is_key key → StandsUnder work key key → (old new : Option (List ℕ)) → AppendsPart old new (job_line_text key) →
+  pub torn_job : (key : List ℕ) → work.is_key key → StandsUnder work key key → (old new : Option (List ℕ)) → WritesPartOfLines old new (job_line key ∷ []) →
       IsTornRun work key old new
   torn_job key is u old new a = record {
     lines = job_line key ∷ [];
-    written = subst (λ t. AppendsPart old new t) (sym (one_text (job_line key))) a;
+    written = a;
     within = record {
       rows_within = All-from_recursion (work.in_share key) [] tt;
       keys_within = All-from_recursion (IsKeyBelow work key) (key ∷ []) ((is, u), tt);
     };
   }
 
-  pub torn_row : (key : List ℕ) (v : Vector) → work.in_share key v → (old new : Option (List ℕ)) → AppendsPart old new (row_line_text v) →
+  pub torn_row : (key : List ℕ) (v : Vector) → work.in_share key v → (old new : Option (List ℕ)) → WritesPartOfLines old new (row_line v ∷ []) →
       IsTornRun work key old new
   torn_row key v h old new a = record {
     lines = row_line v ∷ [];
-    written = subst (λ t. AppendsPart old new t) (sym (one_text (row_line v))) a;
+    written = a;
     within = record {
       rows_within = All-from_recursion (work.in_share key) (v ∷ []) (h, tt);
       keys_within = All-from_recursion (IsKeyBelow work key) [] tt;

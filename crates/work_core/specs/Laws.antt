@@ -1,5 +1,6 @@
 -- What holds of the keys and shares of a work.
 use Rattle.std.specs.Prelude.{◌≡◌, ◌⊎◌, ◌↔◌, ℕ, List, length}
+use Rattle.std.specs.List.{Contains}
 use Rattle.poly_num.specs.Vectors.{Vector}
 use Rattle.poly_model.specs.Labels.{IsRow}
 use Rattle.poly_model.specs.Systems.{cone_of}
@@ -32,3 +33,15 @@ pub record HasShares (work : Meaning) : Type 0 where
 
 abbrev pub SharesHold : Type 0
 SharesHold = (s : Search) → MayBegin s → HasShares (meaning_of s)
+
+-- a share holds extreme vectors alone. No label of a row may be that of a coordinate
+abbrev pub SharesAreExtreme : Type 0
+SharesAreExtreme =
+    (s : Search) → IsRow (length (cone_of s.polyhedron).rows) → MayBegin s → (key : List ℕ) (y : Vector) →
+    (meaning_of s).in_share key y → IsExtreme (cone_of s.polyhedron) y
+
+-- the labels of keys are those of rows
+abbrev pub KeysAreOfRows : Type 0
+KeysAreOfRows =
+    (s : Search) → IsRow (length (cone_of s.polyhedron).rows) → (key : List ℕ) → (meaning_of s).is_key key →
+    (k : ℕ) → Contains key k → IsRow k

@@ -1,9 +1,11 @@
 -- The lines of a reply that show a row or give a key back, and what a run that wrote some may have done.
 use Rattle.std.specs.Prelude.{◌≡◌, ℕ, List, [], ◌∷◌, ◌++◌, length, Option, codes}
-use Rattle.std.specs.List.{flat_map}
+use Rattle.std.specs.List.{flat_map, AllByRecursion}
 use Rattle.std.specs.Io.KnownBytes.{Appends}
+use Rattle.poly_num.specs.Numbers.{IsNum}
 use Rattle.poly_num.specs.Vectors.{Vector}
 use Rattle.poly_model.specs.declared.listed.Count.{Count}
+use Rattle.poly_model.specs.Keys.{IsKey}
 use Rattle.poly_model.specs.LabelText.{key_text}
 use Rattle.poly_model.specs.ListingText.{vector_text}
 use Rattle.poly_io.specs.Written.{AppendsPart}
@@ -28,6 +30,20 @@ line_text (job_line key) = job_line_text key
 abbrev pub lines_text : List ReplyLine → List ℕ
 lines_text lines = flat_map line_text lines
 
+-- a line of what a program has in hand: numbers of 127 bits and a sign, a key
+abbrev pub IsInHand : ReplyLine → Type 0
+IsInHand (row_line v) = AllByRecursion IsNum v
+IsInHand (job_line key) = IsKey key
+
+-- such lines were written; or first bytes of them
+pub record WritesLines (old new : Option (List ℕ)) (lines : List ReplyLine) : Type 0 where
+  pub bytes : Appends old new (lines_text lines)
+  pub in_hand : AllByRecursion IsInHand lines
+
+pub record WritesPartOfLines (old new : Option (List ℕ)) (lines : List ReplyLine) : Type 0 where
+  pub bytes : AppendsPart old new (lines_text lines)
+  pub in_hand : AllByRecursion IsInHand lines
+
 -- the rows shown
 abbrev pub rows_in_lines : List ReplyLine → List Vector
 rows_in_lines [] = []
@@ -44,7 +60,7 @@ module _ (work : Meaning) (key : List ℕ) where
   -- a run that ended: its lines were written, they split the share, and their numbers are told
   pub record IsWholeRun (budget : Budget) (old new : Option (List ℕ)) (count : Count) : Type 0 where
     pub lines : List ReplyLine
-    pub written : Appends old new (lines_text lines)
+    pub written : WritesLines old new lines
     pub splits : Splits work key (rows_in_lines lines) (keys_in_lines lines)
     pub budgeted : IsWithinBudget work key budget (keys_in_lines lines) count.bases
     pub rows : count.rows ≡ length (rows_in_lines lines)
@@ -53,11 +69,11 @@ module _ (work : Meaning) (key : List ℕ) where
   -- a run that stopped between two lines
   pub record IsCutRun (old new : Option (List ℕ)) : Type 0 where
     pub lines : List ReplyLine
-    pub written : Appends old new (lines_text lines)
+    pub written : WritesLines old new lines
     pub within : AreWithin work key (rows_in_lines lines) (keys_in_lines lines)
 
   -- a run that stopped anywhere
   pub record IsTornRun (old new : Option (List ℕ)) : Type 0 where
     pub lines : List ReplyLine
-    pub written : AppendsPart old new (lines_text lines)
+    pub written : WritesPartOfLines old new lines
     pub within : AreWithin work key (rows_in_lines lines) (keys_in_lines lines)

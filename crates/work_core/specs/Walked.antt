@@ -1,10 +1,9 @@
 -- What a walk has written and counted.
 use Rattle.std.specs.Prelude.{◌≡◌, ◌⊎◌, ℕ, ◌+◌, List, length, Option}
 use Rattle.std.specs.List.{Contains}
-use Rattle.std.specs.Io.KnownBytes.{Appends}
 use Rattle.poly_num.specs.Vectors.{Vector}
 use Rattle.poly_model.specs.declared.listed.Count.{Count}
-use Rattle.work_core.specs.ReplyLines.{ReplyLine, lines_text, rows_in_lines, keys_in_lines}
+use Rattle.work_core.specs.ReplyLines.{ReplyLine, WritesLines, rows_in_lines, keys_in_lines}
 use Rattle.work_core.specs.Meanings.{Meaning}
 use Rattle.work_core.specs.Walks.{IsWalk}
 
@@ -21,7 +20,7 @@ pub record HasWalked (work : Meaning) (Shows : List ℕ → Vector → Type 0) (
     (old new : Option (List ℕ)) (before after : Count) : Type 0 where
   pub lines : List ReplyLine
   pub visited : List (List ℕ)
-  pub written : Appends old new (lines_text lines)
+  pub written : WritesLines old new lines
   pub walk : IsWalk work Shows in_question visited (keys_in_lines lines) (rows_in_lines lines)
   pub rows : after.rows ≡ before.rows + length (rows_in_lines lines)
   pub jobs : after.jobs ≡ before.jobs + length (keys_in_lines lines)

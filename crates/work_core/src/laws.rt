@@ -1,5 +1,5 @@
 //! Laws of the works: functions with an empty body.
-ghost use Rattle.work_core.specs.Laws.{FirstKeyHasAll, SharesHold};
+ghost use Rattle.work_core.specs.Laws.{FirstKeyHasAll, KeysAreOfRows, SharesAreExtreme, SharesHold};
 ghost use Rattle.work_core.specs.Shown.{HaveOneList, HasOneDimension, SubsetsShow, SubsetWalksSplit, SubtreesShow, SubtreeWalksSplit};
 
 /// The share of the first key is the extreme vectors, for both works.
@@ -29,4 +29,10 @@ pub fn works_show()
 pub fn walks_split()
     ensures subsets { SubsetWalksSplit }
     ensures subtrees { SubtreeWalksSplit }
+{}
+
+/// A share holds extreme vectors alone, and the labels of a key are those of rows.
+pub fn shares_are_of_vectors()
+    ensures vectors { SharesAreExtreme }
+    ensures keys { KeysAreOfRows }
 {}

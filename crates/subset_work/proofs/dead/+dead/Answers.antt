@@ -18,7 +18,7 @@ come_to_dead-returns-then-stops-clause-walked g t c p file room next dead =
     given_back p key so_far.most so_far.longest (g.S.Sink.written c.args.out.now) (g.S.Sink.written c.give_back.new.out)
     so_far.count c.give_back.result room.is_key c.requires.may.within c.requires.may.near
     (subst (λ n. (so_far.most ≤ so_far.count.bases) ⊎ (so_far.longest ≤ n)) c.len.ensures.value (c.if-stops.ensures.back refl))
-    c.give_back.ensures.whole c.give_back.ensures.part (given_is_one so_far.count c.give_back.result c.give_back.ensures.rows
+    c.give_back.ensures.whole c.give_back.ensures.part c.give_back.ensures.key (given_is_one so_far.count c.give_back.result c.give_back.ensures.rows
     c.give_back.ensures.jobs c.give_back.ensures.bases) c.give_back.ensures.overflow
 
 pub visit_dead-returns-then-left-eq0-clause-walked : goal.visit_dead-returns-then-left-eq0-clause-walked

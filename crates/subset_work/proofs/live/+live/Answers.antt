@@ -33,7 +33,7 @@ come_to_next-returns-then-stops-clause-walked g t c p live may =
     (HasRoom.is_key (subst (λ ks. HasRoom p ks (length c.args.deeper.now - 1)) (sym same) may.room))
     c.requires.may.within (omega (arith, c.requires.may.near, c.with-child.ensures.room))
     (subst (λ n. (so_far.most ≤ so_far.count.bases) ⊎ (so_far.longest ≤ n)) c.len.ensures.value (c.if-stops.ensures.back refl))
-    c.give_back.ensures.whole c.give_back.ensures.part (given_is_one so_far.count c.give_back.result c.give_back.ensures.rows
+    c.give_back.ensures.whole c.give_back.ensures.part c.give_back.ensures.key (given_is_one so_far.count c.give_back.result c.give_back.ensures.rows
     c.give_back.ensures.jobs c.give_back.ensures.bases) c.give_back.ensures.overflow)
 
 pub come_to_next-returns-in_default-clause-walked : goal.come_to_next-returns-in_default-clause-walked

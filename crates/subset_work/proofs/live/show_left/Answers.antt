@@ -1,5 +1,6 @@
 use Rattle.std.proofs.Common.{refl, arith}
 use Rattle.plain_enum.proofs.ShowUnder.{has_coordinate, nothing_here, one_written}
+use Rattle.work_core.proofs.WalkedLemmas.{writes_row, part_row}
 use Rattle.subset_work.proofs.Visits.{leaf_none, leaf_one, leaf_part}
 use Rattle.subset_work.proofs.live.show_left.Goals as goal
 
@@ -33,7 +34,8 @@ returns-in-Ok-clause-walked g c p key most longest live room =
     (one_written prefix.sys.now prefix.free.now prefix.dict.now prefix.from p live.cone live.fixed live.left live.marks
     live.at c.requires.room.narrow c.in-Some.col c.in-Some.ensures.some c.in-Some-shown_side.side
     c.in-Some-shown_side.ensures.some _ c.requires.room.width c.write_direction.new.vector c.write_direction.ensures.value)
-    c.in-Ok.ensures.whole
+    (writes_row (g.S.Sink.written c.args.out.now) (g.S.Sink.written c.write_row.new.out) c.write_direction.new.vector
+    c.in-Ok.ensures.prints.whole c.write_row.ensures.numbers)
 
 pub returns-in-Err-clause-walked : goal.returns-in-Err-clause-walked
 returns-in-Err-clause-walked g c p key most longest live room =
@@ -43,4 +45,5 @@ returns-in-Err-clause-walked g c p key most longest live room =
     (one_written prefix.sys.now prefix.free.now prefix.dict.now prefix.from p live.cone live.fixed live.left live.marks
     live.at c.requires.room.narrow c.in-Some.col c.in-Some.ensures.some c.in-Some-shown_side.side
     c.in-Some-shown_side.ensures.some _ c.requires.room.width c.write_direction.new.vector c.write_direction.ensures.value)
-    c.in-Err.ensures.part
+    (part_row (g.S.Sink.written c.args.out.now) (g.S.Sink.written c.write_row.new.out) c.write_direction.new.vector
+    c.in-Err.ensures.prints.part c.write_row.ensures.numbers)

@@ -1,7 +1,6 @@
-use Rattle.std.proofs.Common.{subst}
-use Rattle.std.specs.Io.KnownBytes.{Appends}
-use Rattle.poly_io.specs.Written.{AppendsPart}
-use Rattle.work_core.specs.ReplyLines.{row_line_text}
+use Rattle.std.proofs.Common.{[], ◌∷◌, subst}
+use Rattle.work_core.specs.ReplyLines.{row_line, WritesLines, WritesPartOfLines}
+use Rattle.work_core.proofs.WalkedLemmas.{writes_row, part_row}
 use Rattle.subtree_work.proofs.RowLines.{not_shown, is_shown, is_torn}
 use Rattle.subtree_work.proofs.rows.show_column.Goals as goal
 
@@ -18,8 +17,9 @@ returns-in-Ok-clause-shows g c =
     is_shown at.cone.now at.order.now at.dict.now c.args.col (g.S.Sink.written c.args.out.now)
     (g.S.Sink.written c.write_row.new.out) c.args.count c.one_row.result
     (c.shown_vector.ensures.shown.0 c.if-not-shown_vector.false)
-    (subst (λ v. Appends (g.S.Sink.written c.args.out.now) (g.S.Sink.written c.write_row.new.out) (row_line_text v)) is
-    c.in-Ok.ensures.whole)
+    (subst (λ v. WritesLines (g.S.Sink.written c.args.out.now) (g.S.Sink.written c.write_row.new.out) (row_line v ∷ [])) is
+    (writes_row (g.S.Sink.written c.args.out.now) (g.S.Sink.written c.write_row.new.out) c.shown_vector.new.vector
+    c.in-Ok.ensures.prints.whole c.write_row.ensures.numbers))
     c.one_row.ensures.rows c.one_row.ensures.jobs c.one_row.ensures.bases
 
 pub returns-in-Err-clause-tears : goal.returns-in-Err-clause-tears
@@ -29,5 +29,7 @@ returns-in-Err-clause-tears g c =
     is_torn at.cone.now at.order.now at.dict.now c.args.col (g.S.Sink.written c.args.out.now)
     (g.S.Sink.written c.write_row.new.out)
     (c.shown_vector.ensures.shown.0 c.if-not-shown_vector.false)
-    (subst (λ v. AppendsPart (g.S.Sink.written c.args.out.now) (g.S.Sink.written c.write_row.new.out) (row_line_text v)) is
-    c.in-Err.ensures.part)
+    (subst (λ v. WritesPartOfLines (g.S.Sink.written c.args.out.now) (g.S.Sink.written c.write_row.new.out) (row_line v ∷ []))
+    is
+    (part_row (g.S.Sink.written c.args.out.now) (g.S.Sink.written c.write_row.new.out) c.shown_vector.new.vector
+    c.in-Err.ensures.prints.part c.write_row.ensures.numbers))
