@@ -1,6 +1,7 @@
 pub mod LabelLemmas
 pub mod KeyTextLemmas
 pub mod OverflowLemmas
+pub mod PassesLemmas
 pub mod EndLemmas
 pub mod EntryLemmas
 pub mod FitLemmas

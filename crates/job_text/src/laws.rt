@@ -1,6 +1,7 @@
 //! Laws of the texts: functions with an empty body.
 ghost use Rattle.std.specs.Prelude.{List, ℕ};
-ghost use Rattle.job_text.specs.Laws.{EndsWhole, IsOneJob};
+ghost use Rattle.poly_model.specs.Systems.{Polyhedron};
+ghost use Rattle.job_text.specs.Laws.{EndsWhole, HasTextOfOverflows, IsOneJob};
 
 /// No whole reply is a proper prefix of another: so a reply that ends in the middle is never taken for a shorter one.
 pub fn no_proper_prefix()
@@ -10,4 +11,9 @@ pub fn no_proper_prefix()
 /// A text is the text of one job.
 pub fn one_job()
     ensures { (text : List ℕ) → IsOneJob text }
+{}
+
+/// Each overflow of a polyhedron has a text that is read again.
+pub fn overflows_have_texts()
+    ensures { (p : Polyhedron) → HasTextOfOverflows p }
 {}

@@ -27,7 +27,7 @@ mod writing;
 
 pub use job::{Job, JobHead};
 pub use keys::read_key;
-pub use laws::{no_proper_prefix, one_job};
+pub use laws::{no_proper_prefix, one_job, overflows_have_texts};
 pub use reader::ReplyReader;
 pub use reading::read_job;
 pub use reply::{Reply, Tail};
