@@ -1,5 +1,5 @@
 //! Bytes in memory, as one value.
-ghost use Rattle.std.specs.Prelude.{◌≡◌, ◌↔◌, [], length, IsTrue};
+ghost use Rattle.std.specs.Prelude.{◌≡◌, ◌↔◌, ◌<◌, ◌^◌, [], length, IsTrue};
 
 use std::marker::Model;
 
@@ -39,7 +39,9 @@ impl Bytes {
     }
 
     pub fn len(&self) -> usize
-        ensures { result ≡ length self.now }
+        ensures value { result ≡ length self.now }
+        // No memory is larger.
+        ensures range { length self.now < 2 ^ 63 }
     {
         self.items.len()
     }

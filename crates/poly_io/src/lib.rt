@@ -4,6 +4,7 @@
 mod bytes;
 mod calls;
 mod fault;
+mod front;
 mod memory;
 mod number;
 mod sink;
@@ -15,6 +16,7 @@ mod write;
 pub use bytes::Bytes;
 pub use calls::Call;
 pub use fault::{Failed, WriteFault};
+pub use front::{FrontStop, read_front};
 pub use memory::{MemSink, MemSource};
 pub use number::{write_count, write_num};
 pub use sink::Sink;

@@ -29,7 +29,7 @@ const WHOLE: ReadCase = ReadCase {
     faults: 0,
 };
 
-const READS: [ReadCase; 5] = [
+const READS: [ReadCase; 6] = [
     WHOLE,
     ReadCase {
         name: "as much as the limit says",
@@ -47,6 +47,20 @@ const READS: [ReadCase; 5] = [
     ReadCase {
         name: "past the limit",
         text: b"abcde",
+        limit: 3,
+        stop: Some(WholeStop::TooLong),
+        left: 1,
+        ..WHOLE
+    },
+    ReadCase {
+        name: "past the limit, in pieces",
+        text: b"abcde",
+        table: &[
+            Call::AtMost(2),
+            Call::AtMost(1),
+            Call::AtMost(1),
+            Call::Fail,
+        ],
         limit: 3,
         stop: Some(WholeStop::TooLong),
         left: 1,

@@ -4,7 +4,7 @@ ghost use Rattle.std.specs.Io.KnownBytes.{Consumes, IsAtEnd};
 ghost use Rattle.poly_io.specs.Causes.{Rose};
 ghost use Rattle.poly_io.specs.Taken.{Takes, TakesAtMost};
 
-use crate::{Bytes, Source};
+use crate::{Bytes, FrontStop, Source, read_front};
 use std::alloc::Global;
 
 /// Why a source was not read as a whole.
@@ -18,8 +18,8 @@ pub enum WholeStop {
     Memory,
 }
 
-/// Reads a source to its end, or to one byte past the limit. The memory grows with what is read:
-/// none is taken for a byte past the limit. After an error the bytes that were read are lost.
+/// Reads a source to its end, or to one byte past the limit. The memory grows with what is read. After an error the bytes
+/// that were read are lost.
 pub fn read_whole<S: Source>(
     alloc: Global,
     source: &mut S,
@@ -38,22 +38,13 @@ pub fn read_whole<S: Source>(
     ensures taken { TakesAtMost (S.left source.old) (S.left source.new) (limit + 1) }
     ensures later { S.faults source.old ≤ S.faults source.new }
 {
-    let mut all = Vec::new(alloc);
-    let mut buf = [0u8; 16384];
-    loop {
-        let room = limit - all.len();
-        let ask = room.saturating_add(1).min(buf.len());
-        let Ok(count) = source.read(&mut buf[..ask]) else {
-            return Err(WholeStop::Fault);
-        };
-        if count == 0 {
-            return Ok(Bytes::from_vec(all));
-        }
-        if count > room {
-            return Err(WholeStop::TooLong);
-        }
-        if all.extend_from_slice(&buf[..count]).is_err() {
-            return Err(WholeStop::Memory);
-        }
+    let text = match read_front(alloc, source, limit.saturating_add(1)) {
+        Ok(text) => text,
+        Err(FrontStop::Fault) => return Err(WholeStop::Fault),
+        Err(FrontStop::Memory) => return Err(WholeStop::Memory),
+    };
+    if text.len() > limit {
+        return Err(WholeStop::TooLong);
     }
+    Ok(text)
 }
