@@ -9,10 +9,12 @@ use crate::Base;
 use crate::hand::hand_on;
 use crate::held::Held;
 use poly_io::{Failed, Sink, WriteFault};
+use std::alloc::Global;
 use std::marker::PhantomData;
 
-/// A sink that holds what is written to it, up to 8 KiB, and hands it on to the sink `inner` in large pieces. It takes
-/// no memory. It cannot be dropped: what is held at the end goes on, or is lost, at `finish`.
+/// A sink that holds what is written to it, and hands it on to the sink `inner` in large pieces. The room for it is one
+/// of 8 KiB, which takes no memory, or one that grows. It cannot be dropped: what is held at the end goes on, or is
+/// lost, at `finish`.
 pub struct Buffered<B: Base, S: Sink> {
     inner: S,
     held: Held,
@@ -22,7 +24,7 @@ pub struct Buffered<B: Base, S: Sink> {
 }
 
 impl<B: Base, S: Sink> Buffered<B, S> {
-    /// A buffer with nothing in it, in front of a sink.
+    /// A buffer with nothing in it, in front of a sink. It holds up to 8 KiB, and takes no memory.
     pub fn new(inner: S) -> Buffered<B, S>
         requires { HasGrown B.base (S.written inner) }
         ensures inner { result.inner ≡ inner }
@@ -32,7 +34,24 @@ impl<B: Base, S: Sink> Buffered<B, S> {
     {
         Buffered {
             inner,
-            held: Held::new(),
+            held: Held::fixed(),
+            of: PhantomData,
+        }
+    }
+
+    /// A buffer with nothing in it, in front of a sink. It gathers in memory, which is taken as pieces come, up to
+    /// `most` bytes. Where these are full, or memory is refused, what is held is handed on, and the gathering goes on
+    /// in the memory that is there.
+    pub fn growing(alloc: Global, inner: S, most: usize) -> Buffered<B, S>
+        requires { HasGrown B.base (S.written inner) }
+        ensures inner { result.inner ≡ inner }
+        ensures held { result.held ≡ [] }
+        // So far the two sinks tell the same.
+        ensures told { append_known (S.written result.inner) result.held ≡ S.written inner }
+    {
+        Buffered {
+            inner,
+            held: Held::growing(alloc, most),
             of: PhantomData,
         }
     }
@@ -89,7 +108,7 @@ impl<B: Base, S: Sink> Sink for Buffered<B, S> {
         if self.held.append(bytes) {
             return Ok(bytes.len());
         }
-        // It is longer than the room.
+        // It is longer than the room, or there is no memory for it.
         self.inner.write(bytes)
     }
 }

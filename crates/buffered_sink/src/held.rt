@@ -1,66 +1,74 @@
 //! Bytes that wait to be handed on.
 ghost use Rattle.std.specs.Prelude.{◌≡◌, ◌≤◌, [], ◌++◌, length, drop, IsTrue};
 
+use crate::fixed::FixedRoom;
+use crate::growing::GrowingRoom;
+use crate::room::Room;
+use std::alloc::Global;
 use std::marker::Model;
 
-/// Bytes that wait to be handed on, in the order in which they came. There is room for 8 KiB.
+/// Bytes that wait to be handed on, in the order in which they came, in a room of either kind.
 #[derive(Drop)]
 pub struct Held {
-    room: [u8; 8192],
-    start: usize,
-    end: usize,
+    room: Room,
 }
 
 impl Model for Held {
-    ghost use Rattle.std.specs.Prelude.{List, ℕ, ◌≤◌, take, drop};
+    ghost use Rattle.std.specs.Prelude.{List, ℕ};
+    ghost use Rattle.buffered_sink.specs.Rooms.{bytes_of};
 
     ghost Value = { List ℕ };
 
-    ghost view = { λ h. drop h.start (take h.end h.room) };
-
-    ghost invariant = { λ h. (h.start ≤ h.end) × (h.end ≤ 8192) };
+    ghost view = { λ h. bytes_of h.room };
 }
 
 impl Held {
-    /// No bytes.
-    pub fn new() -> Held
+    /// No bytes, and room for 8 KiB. Takes no memory.
+    pub fn fixed() -> Held
         ensures { result ≡ [] }
     {
         Held {
-            room: [0; 8192],
-            start: 0,
-            end: 0,
+            room: Room::Fixed(FixedRoom::new()),
+        }
+    }
+
+    /// No bytes, and room for `most`. Memory is taken as they come.
+    pub fn growing(alloc: Global, most: usize) -> Held
+        ensures { result ≡ [] }
+    {
+        Held {
+            room: Room::Growing(GrowingRoom::new(alloc, most)),
         }
     }
 
     pub fn as_slice(&self) -> &[u8]
         ensures { result.now ≡ self.now }
     {
-        &self.room[self.start..self.end]
+        match &self.room {
+            Room::Fixed(room) => room.as_slice(),
+            Room::Growing(room) => room.as_slice(),
+        }
     }
 
-    /// Takes a piece, where there is room for all of it, and answers whether there is.
+    /// Takes a piece, where there is room for all of it, and answers whether it did.
     pub fn append(&mut self, bytes: &[u8]) -> bool
         ensures taken { IsTrue result → self.new ≡ self.old ++ bytes.now }
         ensures refused { ¬ (IsTrue result) → self.new ≡ self.old }
     {
-        if bytes.len() > self.room.len() - self.end {
-            return false;
+        match &mut self.room {
+            Room::Fixed(room) => room.append(bytes),
+            Room::Growing(room) => room.append(bytes),
         }
-        self.room[self.end..self.end + bytes.len()].copy_from_slice(bytes);
-        self.end += bytes.len();
-        true
     }
 
-    /// Lets the first `count` bytes go. Where none are left there is room for 8 KiB again.
+    /// Lets the first `count` bytes go. Where none are left the whole room is free again.
     pub fn remove_front(&mut self, count: usize)
         requires { count ≤ length self.old }
         ensures { self.new ≡ drop count self.old }
     {
-        self.start += count;
-        if self.start == self.end {
-            self.start = 0;
-            self.end = 0;
+        match &mut self.room {
+            Room::Fixed(room) => room.remove_front(count),
+            Room::Growing(room) => room.remove_front(count),
         }
     }
 }

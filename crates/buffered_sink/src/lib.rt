@@ -3,8 +3,11 @@
 
 mod base;
 mod buffered;
+mod fixed;
+mod growing;
 mod hand;
 mod held;
+mod room;
 mod through;
 
 pub use base::Base;
