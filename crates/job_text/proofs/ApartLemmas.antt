@@ -27,6 +27,14 @@ counts_within (job_line key ∷ lines) =
       said_size (said_text (inl (job_line key))) (line_is_said (job_line key)),
     )
 
+pub few_counts : (key : List ℕ) (lines : List ReplyLine) (tail : List ℕ) {whole : List ℕ} → whole ≡ reply_head key ++ (lines_text lines ++ tail)
+    → length whole < 2 ^ 64 → (length (rows_in_lines lines) < 2 ^ 64) × (length (keys_in_lines lines) < 2 ^ 64)
+few_counts key lines tail e lt =
+    let size = ap (λ (l : List ℕ). length l) e in
+    let parts = length-append (reply_head key) (lines_text lines ++ tail) in
+    let more_parts = length-append (lines_text lines) tail in
+    (omega (arith, size, parts, more_parts, lt, counts_within lines), omega (arith, size, parts, more_parts, lt, counts_within lines))
+
 pub nothing_more : (n : ℕ) (a b : Reply) (text more : List ℕ) → length (text ++ more) < 2 ^ 64 → IsWholeReply n a text
     → IsWholeReply n b (text ++ more) → more ≡ []
 nothing_more n a b text more small u w =
@@ -37,19 +45,11 @@ nothing_more n a b text more small u w =
       | inr k ↦ by k.left k.fit k.is
     ]
   where
-    within : (key : List ℕ) (lines : List ReplyLine) (tail whole : List ℕ) → whole ≡ reply_head key ++ (lines_text lines ++ tail)
-        → length whole < 2 ^ 64 → (length (rows_in_lines lines) < 2 ^ 64) × (length (keys_in_lines lines) < 2 ^ 64)
-    within key lines tail whole e lt =
-        let size = ap (λ (l : List ℕ). length l) e in
-        let parts = length-append (reply_head key) (lines_text lines ++ tail) in
-        let more_parts = length-append (lines_text lines) tail in
-        (omega (arith, size, parts, more_parts, lt, counts_within lines), omega (arith, size, parts, more_parts, lt, counts_within lines))
-
     few_a : (length (rows_in_lines u.lines) < 2 ^ 64) × (length (keys_in_lines u.lines) < 2 ^ 64)
-    few_a = within a.key u.lines (tail_text a.tail) text u.is_text (omega (arith, small, length-append text more))
+    few_a = few_counts a.key u.lines (tail_text a.tail) u.is_text (omega (arith, small, length-append text more))
 
     few_b : (length (rows_in_lines w.lines) < 2 ^ 64) × (length (keys_in_lines w.lines) < 2 ^ 64)
-    few_b = within b.key w.lines (tail_text b.tail) (text ++ more) w.is_text small
+    few_b = few_counts b.key w.lines (tail_text b.tail) w.is_text small
 
     heads : reply_head a.key ++ ((lines_text u.lines ++ tail_text a.tail) ++ more) ≡ reply_head b.key ++ (lines_text w.lines ++ tail_text b.tail)
     heads = sym (append_assoc (reply_head a.key) (lines_text u.lines ++ tail_text a.tail) more)

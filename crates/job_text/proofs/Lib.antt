@@ -9,7 +9,10 @@ pub mod ReplyLemmas
 pub mod ScanLemmas
 pub mod NotWholeLemmas
 pub mod ApartLemmas
+pub mod OneReplyLemmas
 pub mod JobLaws
+pub mod LengthLemmas
+pub mod JobOrBadLemmas
 pub mod JobLineLemmas
 pub mod JobTextLemmas
 pub mod TableLemmas

@@ -71,7 +71,7 @@ pub overflow_pieces : (o : Overflow) → overflow_text o ≡ phase_text o.phase 
 overflow_pieces o = ap (λ (l : List ℕ). phase_text o.phase ++ (32 ∷ (key_text o.key ++ (32 ∷ (place_text o.a ++ (32 ∷ (place_text o.b ++ (32 ∷ (place_text o.c ++ (32 ∷ l))))))))))
     (sym (append-nil (place_text o.d)))
 
-phase_has_no_blank : (phase : Phase) → Lacks 32 (phase_text phase)
+pub phase_has_no_blank : (phase : Phase) → Lacks 32 (phase_text phase)
 phase_has_no_blank Cone = lacks_tested 32 (phase_text Cone) refl
 phase_has_no_blank Prepare = lacks_tested 32 (phase_text Prepare) refl
 phase_has_no_blank Main = lacks_tested 32 (phase_text Main) refl

@@ -94,7 +94,7 @@ said_behind text rest e = ap (λ (l : List ℕ). l ++ rest) e ∙ append_assoc t
 pub said_size : {whole : List ℕ} (text : List ℕ) → whole ≡ text ++ 10 ∷ [] → length whole ≡ length text + 1
 said_size text e = ap (λ (l : List ℕ). length l) e ∙ length-append text (10 ∷ [])
 
-line_lacks : (n : ℕ) (l : ReplyLine) → IsReplyLine n l → Lacks 10 (said_text (inl l))
+pub line_lacks : (n : ℕ) (l : ReplyLine) → IsReplyLine n l → Lacks 10 (said_text (inl l))
 line_lacks n l fit = said_lacks n 0 0 (inl l) (omega arith) (omega arith) fit
 
 -- no line is a last one

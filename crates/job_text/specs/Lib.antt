@@ -1,3 +1,4 @@
+pub mod Limits
 pub mod KeyTexts
 pub mod Jobs
 pub mod Tables

@@ -10,6 +10,7 @@ mod keys;
 mod keyword;
 mod labels;
 mod laws;
+mod limits;
 mod lines;
 mod overflow;
 mod reader;
@@ -27,7 +28,10 @@ mod writing;
 
 pub use job::{Job, JobHead};
 pub use keys::read_key;
-pub use laws::{no_proper_prefix, one_job, overflows_have_texts};
+pub use laws::{
+    job_or_bad, jobs_are_short, no_proper_prefix, one_job, one_reply, overflows_have_texts,
+};
+pub use limits::MOST_JOB_BYTES;
 pub use reader::ReplyReader;
 pub use reading::read_job;
 pub use reply::{Reply, Tail};
