@@ -4,6 +4,6 @@ use Rattle.buffered_sink.specs.declared.room.Room.{Room}
 use Rattle.buffered_sink.specs.declared.room.Room.TheVariants.{Fixed, Growing}
 
 -- its bytes, whatever its kind
-abbrev pub bytes_of : Room → List ℕ
-bytes_of (Fixed bytes) = bytes
-bytes_of (Growing bytes) = bytes
+abbrev pub room_bytes : Room → List ℕ
+room_bytes (Fixed bytes) = bytes
+room_bytes (Growing bytes) = bytes

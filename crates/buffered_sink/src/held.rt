@@ -15,11 +15,11 @@ pub struct Held {
 
 impl Model for Held {
     ghost use Rattle.std.specs.Prelude.{List, ℕ};
-    ghost use Rattle.buffered_sink.specs.Rooms.{bytes_of};
+    ghost use Rattle.buffered_sink.specs.Rooms.{room_bytes};
 
     ghost Value = { List ℕ };
 
-    ghost view = { λ h. bytes_of h.room };
+    ghost view = { λ h. room_bytes h.room };
 }
 
 impl Held {

@@ -9,7 +9,7 @@ use Rattle.job_text.specs.Replies.{IsReplyLine, IsTailAt, EndsLines, IsWholeRepl
 use Rattle.job_text.specs.declared.reply.Reply.{Reply}
 use Rattle.job_text.specs.declared.reply.Tail.{Tail}
 use Rattle.job_text.specs.Fits.{said_text}
-use Rattle.job_text.specs.Scans.{StopsAt}
+use Rattle.job_text.specs.Scans.{StopsScanAt}
 use Rattle.job_text.proofs.JobLineLemmas.{same_behind, word_and_key_lack}
 use Rattle.plain_text.specs.Cuts.{Lacks}
 use Rattle.plain_text.proofs.CutLemmas.{one_line, lacks_tested}
@@ -18,7 +18,7 @@ use Rattle.job_text.proofs.ReplyLemmas.{line_is_said, tail_is_said, said_behind,
 
 -- ---- behind the head
 
-module _ (n : ℕ) (body : List ℕ) (place : ℕ) (s : StopsAt n body place) where
+module _ (n : ℕ) (body : List ℕ) (place : ℕ) (s : StopsScanAt n body place) where
   rows_before : ℕ
   rows_before = length (rows_in_lines s.lines)
 
@@ -87,7 +87,7 @@ reply_split : (key behind lines tail : List ℕ) → (reply_head key ++ (lines +
 reply_split key behind lines tail =
     append_assoc (reply_head key) (lines ++ tail) behind ∙ ap (λ (l : List ℕ). reply_head key ++ l) (append_assoc lines tail behind)
 
-pub not_whole : (n : ℕ) (key text body : List ℕ) (place : ℕ) → HasKeyText key → text ≡ reply_head key ++ body → StopsAt n body place
+pub not_whole : (n : ℕ) (key text body : List ℕ) (place : ℕ) → HasKeyText key → text ≡ reply_head key ++ body → StopsScanAt n body place
     → IsNotWhole n key text (length (reply_head key) + place)
 not_whole n key text body place has is s = record {
   not_whole = λ reply same whole. refused reply same whole;
@@ -195,7 +195,7 @@ no_head n key text none = record {
         ∙ reply_split key behind (lines_text w.lines) (tail_text reply.tail)))
 
 -- the lines do not stop past the text
-pub stop_within : (n : ℕ) (body : List ℕ) (place : ℕ) → StopsAt n body place → place ≤ length body
+pub stop_within : (n : ℕ) (body : List ℕ) (place : ℕ) → StopsScanAt n body place → place ≤ length body
 stop_within n body place s = elim s.stop [
   | inl a ↦ omega (arith, a.0, ap (λ (l : List ℕ). length l) s.split, length-append (lines_text s.lines) s.rest)
   | inr b ↦

@@ -9,7 +9,7 @@ use Rattle.work_core.specs.ReplyLines.{ReplyLine, row_line, job_line, line_text,
 use Rattle.job_text.specs.Replies.{IsReplyLine, IsTailAt, tail_text}
 use Rattle.job_text.specs.declared.reply.Tail.{Tail}
 use Rattle.job_text.specs.Fits.{Said, MaySay, said_text}
-use Rattle.job_text.specs.Scans.{Scanned, StopsAt}
+use Rattle.job_text.specs.Scans.{Scanned, StopsScanAt}
 use Rattle.job_text.proofs.TableLemmas.{length-table_rows, rows_more}
 use Rattle.job_text.proofs.ReplyLemmas.{line_is_said, tail_is_said, said_behind, said_lacks, said_size}
 
@@ -60,7 +60,7 @@ module _ (n : ℕ) (text rest : List ℕ) (rows : ℕ) (cells : Vector) (keys : 
       (subst (λ (k : ℕ). MaySay n rows k x) (sym keys_count) may)
 
   module _ (few : rows < 2 ^ 64) (less : length keys < 2 ^ 64) where
-    pub no_line_left : Lacks 10 rest → StopsAt n text place
+    pub no_line_left : Lacks 10 rest → StopsScanAt n text place
     no_line_left lacks = record {
       lines = s.lines;
       rest = rest;
@@ -71,7 +71,7 @@ module _ (n : ℕ) (text rest : List ℕ) (rows : ℕ) (cells : Vector) (keys : 
     }
 
     module _ (line behind : List ℕ) (cuts : CutsLine rest line behind) where
-      pub no_fit : ((x : Said) → MaySay n rows (length keys) x → line ≡ said_text x → ⊥) → StopsAt n text place
+      pub no_fit : ((x : Said) → MaySay n rows (length keys) x → line ≡ said_text x → ⊥) → StopsScanAt n text place
       no_fit none = record {
         lines = s.lines;
         rest = rest;
@@ -91,7 +91,7 @@ module _ (n : ℕ) (text rest : List ℕ) (rows : ℕ) (cells : Vector) (keys : 
           cuts.whole ∙ ap (λ (l : List ℕ). l ++ 10 ∷ behind) is ∙ sym (said_behind (said_text (inr tail)) behind (tail_is_said tail))
 
       pub more_behind : (tail : Tail) → IsTailAt rows (length keys) tail → line ≡ said_text (inr tail) → behind ≢ []
-          → StopsAt n text (place + length line + 1)
+          → StopsScanAt n text (place + length line + 1)
       more_behind tail may is some = record {
         lines = s.lines;
         rest = rest;

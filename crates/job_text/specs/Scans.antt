@@ -32,7 +32,7 @@ pub record IsScanOf (n : ℕ) (text : List ℕ) (scan : Scan) : Type 0 where
 
 -- the lines that fit end here, behind so many bytes: nothing that may follow stands in front of the rest, or more stands
 -- behind a last line
-pub record StopsAt (n : ℕ) (text : List ℕ) (place : ℕ) : Type 0 where
+pub record StopsScanAt (n : ℕ) (text : List ℕ) (place : ℕ) : Type 0 where
   pub lines : List ReplyLine
   pub rest : List ℕ
   pub fit : AllByRecursion (IsReplyLine n) lines

@@ -1,6 +1,6 @@
 //! The lines of a reply behind its head.
 ghost use Rattle.std.specs.Prelude.{◌≡◌, ℕ, length, IfOk, IsErrOf};
-ghost use Rattle.job_text.specs.Scans.{IsScanOf, StopsAt};
+ghost use Rattle.job_text.specs.Scans.{IsScanOf, StopsScanAt};
 
 use crate::fit::fit_line;
 use crate::said::Fit;
@@ -22,7 +22,7 @@ pub(crate) struct Scan {
 /// Reads the lines of a reply to its end, or to the first byte that is of no line that fits.
 pub(crate) fn scan_lines(alloc: Global, row: &mut [Num], text: &[u8]) -> Result<Scan, ReplyStop>
     ensures ok { IfOk result (λ s. IsScanOf (length row.old) text.now s) }
-    ensures stop { (place : ℕ) → IsErrOf result (ReplyStop.NotWhole place) → StopsAt (length row.old) text.now place }
+    ensures stop { (place : ℕ) → IsErrOf result (ReplyStop.NotWhole place) → StopsScanAt (length row.old) text.now place }
 {
     let mut cells = Vec::new(alloc);
     let mut keys = Vec::new(alloc);

@@ -25,7 +25,7 @@ use Rattle.work_core.specs.Walked.{HasWalked}
 use Rattle.work_core.proofs.WalkLemmas.{under_itself}
 use Rattle.work_core.proofs.SubsetShares.{has_shares, is_key, subset_walks_split}
 use Rattle.work_core.proofs.Dimensions.{some_dimension}
-use Rattle.subset_work.specs.Made.{Made, IsMade}
+use Rattle.subset_work.specs.Made.{BySubsets, IsBySubsets}
 use Rattle.subset_work.specs.Counts.{CountsOn}
 use Rattle.subset_work.specs.Standing.{IsPlainRow}
 use Rattle.subset_work.specs.Walked.{bound_of, WalksUnder}
@@ -95,7 +95,7 @@ module _ (p : Polyhedron) (narrow : p.n ≤ most_labels) (key : List ℕ) (is : 
       }
 
 -- for each search of which the work is
-pub run_is : (w : Made) (s : Search) → IsMade w s → w.sys.n ≤ most_labels → (key : List ℕ) (budget : Budget) (most longest : ℕ) →
+pub run_is : (w : BySubsets) (s : Search) → IsBySubsets w s → w.sys.n ≤ most_labels → (key : List ℕ) (budget : Budget) (most longest : ℕ) →
     most ≡ budget.bases → (0 < budget.depth → longest ≡ length key + budget.depth) → (budget.depth ≡ 0 → most_depth < longest) →
     (old new : Option (List ℕ)) (c d : Count) → c.bases < d.bases → d.bases ≤ most → c.rows ≡ 0 → c.jobs ≡ 0 → c.bases ≡ 0 →
     Meaning.is_key (meaning_of s) key → WalksUnder s.polyhedron key most longest old new c (Ok d) → IsWholeRun (meaning_of s) key budget old new d
@@ -117,7 +117,7 @@ pub key_in : (s : Search) → s.work ≡ Subsets → s.root ≡ [] → (key : Li
 key_in s e f key is = subst (λ t. Meaning.is_key (meaning_of t) key) (same_search s e f) is
 
 -- ---- which keys are of the work
-pub key_yes : (w : Made) (s : Search) → IsMade w s → (key : List ℕ) → IsKey key → length key ≤ w.depth →
+pub key_yes : (w : BySubsets) (s : Search) → IsBySubsets w s → (key : List ℕ) → IsKey key → length key ≤ w.depth →
     ((k : ℕ) → Contains key k → IsPlainRow w.sys k) → Meaning.is_key (meaning_of s) key
 key_yes w s made key k short plain = by (some_dimension s.polyhedron)
   where
@@ -131,13 +131,13 @@ key_yes w s made key k short plain = by (some_dimension s.polyhedron)
         (ap (λ (t : System). (row_of t.rows j).linear) (sym made.file) ∙ h.plain))
         (omega (arith, short, made.depth, l)))
 
-pub key_no_short : (w : Made) (s : Search) → IsMade w s → (key : List ℕ) → Meaning.is_key (meaning_of s) key → length key ≤ w.depth
+pub key_no_short : (w : BySubsets) (s : Search) → IsBySubsets w s → (key : List ℕ) → Meaning.is_key (meaning_of s) key → length key ≤ w.depth
 key_no_short w s made key is =
     let k = key_in s made.work made.root key is in
     let l = left_is_dimension s.polyhedron w.dict made.last w.free made.begun k.dimension k.reduced in
     let m = k.short in omega (arith, l, made.depth, m)
 
-pub key_no_plain : (w : Made) (s : Search) → IsMade w s → (key : List ℕ) → Meaning.is_key (meaning_of s) key → (j : ℕ) → Contains key j →
+pub key_no_plain : (w : BySubsets) (s : Search) → IsBySubsets w s → (key : List ℕ) → Meaning.is_key (meaning_of s) key → (j : ℕ) → Contains key j →
     IsPlainRow w.sys j
 key_no_plain w s made key is j c =
     let k = key_in s made.work made.root key is in
@@ -149,7 +149,7 @@ key_no_plain w s made key is j c =
     }
 
 -- ---- whatever it answers
-module _ (w : Made) (s : Search) (made : IsMade w s) (narrow : w.sys.n ≤ most_labels) (key : List ℕ) (is : Meaning.is_key (meaning_of s) key) (budget : Budget) (most longest : ℕ)
+module _ (w : BySubsets) (s : Search) (made : IsBySubsets w s) (narrow : w.sys.n ≤ most_labels) (key : List ℕ) (is : Meaning.is_key (meaning_of s) key) (budget : Budget) (most longest : ℕ)
     (same : most ≡ budget.bases) (far : 0 < budget.depth → longest ≡ length key + budget.depth) (near : budget.depth ≡ 0 → most_depth < longest)
     (old new : Option (List ℕ)) (c : Count) (rows : c.rows ≡ 0) (jobs : c.jobs ≡ 0) (bases : c.bases ≡ 0) where
   pub ok_run : (result : Result Count WorkStop) → IfOk result (CountsOn most c) →
@@ -166,7 +166,7 @@ pub same_stop : {T : Type 0} (x o : Overflow) → IsErrOf {T = T} {E = SubsetSto
 same_stop x o e = cc
 
 -- a key of the work is a list of rows that are not linear, at most as long as a list may be
-pub key_exactly : (w : Made) (s : Search) → IsMade w s → (key : List ℕ) → IsKey key →
+pub key_exactly : (w : BySubsets) (s : Search) → IsBySubsets w s → (key : List ℕ) → IsKey key →
     ((length key ≤ w.depth) × ((k : ℕ) → Contains key k → IsPlainRow w.sys k)) ↔ Meaning.is_key (meaning_of s) key
 key_exactly w s made key k = (
   λ h. key_yes w s made key k h.0 h.1,

@@ -4,7 +4,7 @@ use Rattle.std.specs.Prelude.{IfOk}
 use Rattle.poly_model.specs.declared.listed.Count.{Count}
 use Rattle.work_core.specs.declared.stops.WorkStop.{WorkStop}
 use Rattle.subset_work.specs.declared.progress.Progress.{Progress}
-use Rattle.subset_work.specs.Counts.{MayVisit, MayCome, IsOneBase, IsOneJob, CountsOn, ComesOn, HasCome}
+use Rattle.subset_work.specs.Counts.{MayVisit, MayCome, IsOneBase, IsOneGivenBack, CountsOn, ComesOn, HasCome}
 
 pub come_first : (most from : ℕ) (c d : Count) → c.bases < most → IsOneBase c d → HasCome most from from c d
 come_first most from c d l h = record {
@@ -69,7 +69,7 @@ on_by_visits most c (Ok d) h = record {
 }
 on_by_visits most c (Err x) h = tt
 
-pub on_by_job : (most : ℕ) (c : Count) (result : Result Count WorkStop) → c.bases ≤ most → IfOk result (IsOneJob c) →
+pub on_by_job : (most : ℕ) (c : Count) (result : Result Count WorkStop) → c.bases ≤ most → IfOk result (IsOneGivenBack c) →
     IfOk result (ComesOn most c)
 on_by_job most c (Ok d) l h = record {
   on = omega (arith, h.bases);
@@ -81,6 +81,6 @@ on_by_job most c (Err x) l h = tt
 
 -- what giving a key back promises of a count
 pub given_is_one : (c : Count) (result : Result Count WorkStop) → IfOk result (λ (d : Count). d.rows ≡ c.rows) →
-    IfOk result (λ (d : Count). d.jobs ≡ c.jobs + 1) → IfOk result (λ (d : Count). d.bases ≡ c.bases) → IfOk result (IsOneJob c)
+    IfOk result (λ (d : Count). d.jobs ≡ c.jobs + 1) → IfOk result (λ (d : Count). d.bases ≡ c.bases) → IfOk result (IsOneGivenBack c)
 given_is_one c (Ok d) rows jobs bases = record { rows = rows; jobs = jobs; bases = bases }
 given_is_one c (Err x) rows jobs bases = tt

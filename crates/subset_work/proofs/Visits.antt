@@ -7,7 +7,7 @@ use Rattle.poly_io.specs.Written.{AppendsPart}
 use Rattle.poly_model.specs.declared.listed.Count.{Count}
 use Rattle.poly_model.specs.declared.overflow.Overflow.{Overflow}
 use Rattle.poly_model.specs.Keys.{IsKey, with_label}
-use Rattle.poly_model.specs.Overflows.{Passes}
+use Rattle.plain_enum.specs.Plain.{PassesInCone}
 use Rattle.poly_model.specs.Systems.{System, Polyhedron, cone_of, row_of}
 use Rattle.dictionary.specs.Views.{Dictionary}
 use Rattle.plain_enum.specs.Listed.{HasRoomFor}
@@ -26,7 +26,7 @@ use Rattle.work_core.specs.Walked.{HasWalked}
 use Rattle.work_core.proofs.WalkLemmas.{under_itself}
 use Rattle.work_core.proofs.SubsetShares.{has_shares, shows_at}
 use Rattle.work_core.proofs.WalkedLemmas.{writes_given, part_given, walked_of, walked_visit, walked_show, walked_give, walked_then, cut_here, cut_under, torn_under, cut_is_torn, torn_job, torn_row}
-use Rattle.subset_work.specs.Counts.{IsOneBase, IsOneJob}
+use Rattle.subset_work.specs.Counts.{IsOneBase, IsOneGivenBack}
 use Rattle.subset_work.specs.Walked.{bound_of, HasWalkedTo, WalksUnder}
 use Rattle.subset_work.specs.Standing.{IsNext, HasRoom, MayTake, IsLive, IsDead, IsBefore}
 use Rattle.subset_work.proofs.ListTree.{with_last, plain_label, is_plain, child_under, before_none, before_under, before_apart, before_skip, before_child, before_all, key_alone, child_room, child_next}
@@ -74,18 +74,18 @@ module _ (p : Polyhedron) where
   one_overflow o u e = cc
 
   pub walks_past : (key : List ℕ) (most longest : ℕ) (old new : Option (List ℕ)) (c : Count) (o : Overflow) →
-      Passes p o → IsCutRun s key old new → WalksUnder p key most longest old new c (Err (WorkStop.Overflow o))
+      PassesInCone p o → IsCutRun s key old new → WalksUnder p key most longest old new c (Err (WorkStop.Overflow o))
   walks_past key most longest old new c o h r = record {
     whole = tt;
     torn = cut_is_torn s key old new r;
-    cut = λ u e. (subst (λ x. Passes p x) (one_overflow o u e) h, r);
+    cut = λ u e. (subst (PassesInCone p) (one_overflow o u e) h, r);
   }
 
   -- ---- a key that is given back
   pub given_back : (key : List ℕ) (most longest : ℕ) (old new : Option (List ℕ)) (c : Count) (result : Result Count WorkStop) →
       IsSubsetKey p key → c.bases ≤ most → length key ≤ longest → (most ≤ c.bases) ⊎ (longest ≤ length key) →
       OnOk result (Appends old new (job_line_text key)) → OnErr result (AppendsPart old new (job_line_text key)) → IsKey key →
-      IfOk result (IsOneJob c) → ((o : Overflow) → IsErrOf result (WorkStop.Overflow o) → ⊥) →
+      IfOk result (IsOneGivenBack c) → ((o : Overflow) → IsErrOf result (WorkStop.Overflow o) → ⊥) →
       WalksUnder p key most longest old new c result
   given_back key most longest old new c (Ok d) is within near stops whole part is_key h none =
       walks_ok key most longest old new c d
@@ -142,7 +142,7 @@ module _ (p : Polyhedron) where
           walks_ok key most longest old now c d
           (walked_of s Shows (bound_of most longest) (IsBefore p key from i) (IsKeyBelow s key) old now c d (before_all p key from room.is_key next i behind) w)
 
-      pub overflowed : (o : Overflow) → Passes p o → WalksUnder p key most longest old now c (Err (WorkStop.Overflow o))
+      pub overflowed : (o : Overflow) → PassesInCone p o → WalksUnder p key most longest old now c (Err (WorkStop.Overflow o))
       overflowed o h =
           walks_past key most longest old now c o h
           (cut_here s Shows (bound_of most longest) (has_shares p) (shows_at p room.narrow) key room.is_key (IsBefore p key from i)

@@ -35,7 +35,7 @@ pub record IsOneBase (c d : Count) : Type 0 where
   pub bases : d.bases ≡ c.bases + 1
 
 -- one key was given back, and no more
-pub record IsOneJob (c d : Count) : Type 0 where
+pub record IsOneGivenBack (c d : Count) : Type 0 where
   pub rows : d.rows ≡ c.rows
   pub jobs : d.jobs ≡ c.jobs + 1
   pub bases : d.bases ≡ c.bases

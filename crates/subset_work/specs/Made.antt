@@ -10,14 +10,14 @@ use Rattle.plain_enum.specs.Listed.{HasRoomFor}
 use Rattle.work_core.specs.Searches.{Search}
 
 -- the cone, the dictionary at which the linear rows have been tried, the free columns, and how many rows a list may have
-pub record Made : Type 0 where
+pub record BySubsets : Type 0 where
   pub sys : System
   pub dict : Dictionary
   pub free : List ℕ
   pub depth : ℕ
 
 -- the same by the dictionaries that are there to be written over, one for each row
-abbrev pub made_with : System → Dictionary → List ℕ → List Dictionary → Made
+abbrev pub made_with : System → Dictionary → List ℕ → List Dictionary → BySubsets
 made_with sys dict free deeper = record { sys = sys; dict = dict; free = free; depth = length deeper }
 
 -- there is room for what a run writes over, and a key has room for a list
@@ -26,7 +26,7 @@ pub record IsFit (sys : System) (dict : Dictionary) (deeper : List Dictionary) (
   pub few : length deeper ≤ most_labels
 
 -- it is the work of this search
-pub record IsMade (made : Made) (s : Search) : Type 0 where
+pub record IsBySubsets (made : BySubsets) (s : Search) : Type 0 where
   pub work : s.work ≡ Subsets
   pub root : s.root ≡ []
   pub file : made.sys ≡ cone_of s.polyhedron

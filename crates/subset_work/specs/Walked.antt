@@ -3,7 +3,7 @@ use Rattle.std.specs.Prelude.{◌≡◌, ℕ, ◌≤◌, List, length, Option, R
 use Rattle.poly_model.specs.declared.listed.Count.{Count}
 use Rattle.poly_model.specs.declared.overflow.Overflow.{Overflow}
 use Rattle.poly_model.specs.Systems.{Polyhedron}
-use Rattle.poly_model.specs.Overflows.{Passes}
+use Rattle.plain_enum.specs.Plain.{PassesInCone}
 use Rattle.work_core.specs.declared.stops.WorkStop.{WorkStop}
 use Rattle.work_core.specs.Meanings.{IsKeyBelow}
 use Rattle.work_core.specs.Searches.{by_subsets}
@@ -31,4 +31,4 @@ pub record WalksUnder (p : Polyhedron) (key : List ℕ) (most longest : ℕ) (ol
   pub whole : IfOk result (λ after. HasWalked (by_subsets p) (IsShownAtList p) (bound_of most longest)
       (IsKeyBelow (by_subsets p) key) old new before after)
   pub torn : OnErr result (IsTornRun (by_subsets p) key old new)
-  pub cut : (o : Overflow) → IsErrOf result (WorkStop.Overflow o) → Passes p o × IsCutRun (by_subsets p) key old new
+  pub cut : (o : Overflow) → IsErrOf result (WorkStop.Overflow o) → PassesInCone p o × IsCutRun (by_subsets p) key old new

@@ -40,6 +40,7 @@ pub fn visit_dead<S: Sink>(
     ensures overflow { (o : Passed) → IsErrOf result (WorkStop.Overflow o) → ⊥ }
     ensures later { S.faults out.old ≤ S.faults out.new }
     ensures fault { IsErrOf result WorkStop.WriteFault → Rose (S.faults out.old) (S.faults out.new) }
+    ensures same { ¬ (IsErrOf result WorkStop.WriteFault) → S.faults out.new ≡ S.faults out.old }
 {
     let mut count = one_base(so_far.count);
     if left == 0 {
@@ -82,6 +83,7 @@ fn come_to_dead<S: Sink>(
     ensures overflow { (o : Passed) → IsErrOf result (WorkStop.Overflow o) → ⊥ }
     ensures later { S.faults out.old ≤ S.faults out.new }
     ensures fault { IsErrOf result WorkStop.WriteFault → Rose (S.faults out.old) (S.faults out.new) }
+    ensures same { ¬ (IsErrOf result WorkStop.WriteFault) → S.faults out.new ≡ S.faults out.old }
 {
     if stops(so_far, list.key.len()) {
         return give_back(list.key, so_far.count, out);

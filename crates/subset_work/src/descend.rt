@@ -78,6 +78,7 @@ pub fn visit_under<S: Sink>(
     ensures depth { length deeper.new ≡ length deeper.old }
     ensures later { S.faults out.old ≤ S.faults out.new }
     ensures fault { IsErrOf result WorkStop.WriteFault → Rose (S.faults out.old) (S.faults out.new) }
+    ensures same { ¬ (IsErrOf result WorkStop.WriteFault) → S.faults out.new ≡ S.faults out.old }
 {
     let prefix = &way.prefix;
     let left = left_of(way, deeper.len());

@@ -45,6 +45,7 @@ pub fn show_left<S: Sink>(
     ensures width { length vector.new ≡ prefix.now.sys.now.n }
     ensures later { S.faults out.old ≤ S.faults out.new }
     ensures fault { IsErrOf result WorkStop.WriteFault → Rose (S.faults out.old) (S.faults out.new) }
+    ensures same { ¬ (IsErrOf result WorkStop.WriteFault) → S.faults out.new ≡ S.faults out.old }
 {
     let count = one_base(before);
     let Some(col) = left_coordinate(prefix.dict, prefix.free) else {
@@ -84,6 +85,7 @@ pub fn visit_live<S: Sink>(
     ensures depth { length deeper.new ≡ length deeper.old }
     ensures later { S.faults out.old ≤ S.faults out.new }
     ensures fault { IsErrOf result WorkStop.WriteFault → Rose (S.faults out.old) (S.faults out.new) }
+    ensures same { ¬ (IsErrOf result WorkStop.WriteFault) → S.faults out.new ≡ S.faults out.old }
 {
     let prefix = &live.prefix;
     if deeper.is_empty() {
@@ -131,6 +133,7 @@ fn come_to_next<S: Sink>(
     ensures depth { length deeper.new ≡ length deeper.old }
     ensures later { S.faults out.old ≤ S.faults out.new }
     ensures fault { IsErrOf result WorkStop.WriteFault → Rose (S.faults out.old) (S.faults out.new) }
+    ensures same { ¬ (IsErrOf result WorkStop.WriteFault) → S.faults out.new ≡ S.faults out.old }
 {
     let prefix = &live.prefix;
     prefix.sys.keeps_limits();

@@ -4,9 +4,9 @@ ghost use Rattle.std.specs.List.{Contains};
 ghost use Rattle.poly_io.specs.Causes.{Rose};
 ghost use Rattle.poly_model.specs.declared.kind.WorkKind.TheVariants.{Subsets};
 ghost use Rattle.poly_model.specs.declared.overflow.Overflow.{Overflow as Passed};
+ghost use Rattle.poly_model.specs.declared.overflow.Phase.TheVariants.{Cone};
 ghost use Rattle.poly_model.specs.Keys.{IsKey};
 ghost use Rattle.poly_model.specs.Limits.{most_labels};
-ghost use Rattle.poly_model.specs.Overflows.{Passes};
 ghost use Rattle.poly_model.specs.Systems.{Polyhedron, cone_of, row_of};
 ghost use Rattle.work_core.specs.Meanings.{Meaning};
 ghost use Rattle.work_core.specs.Searches.{Search, meaning_of};
@@ -14,7 +14,7 @@ ghost use Rattle.work_core.specs.ReplyLines.{IsWholeRun, IsCutRun, IsTornRun};
 ghost use Rattle.work_core.specs.Splits.{most_depth, IsBudget};
 ghost use Rattle.plain_enum.specs.Plain.{PassesInCone};
 ghost use Rattle.subset_work.specs.Counts.{MayVisit, CountsOn};
-ghost use Rattle.subset_work.specs.Made.{IsFit, IsMade, made_with};
+ghost use Rattle.subset_work.specs.Made.{IsFit, IsBySubsets, made_with};
 ghost use Rattle.subset_work.specs.Standing.{IsNext, IsPlainRow};
 ghost use Rattle.subset_work.specs.Walked.{WalksUnder};
 
@@ -42,9 +42,9 @@ pub struct SubsetWork<'a> {
 }
 
 impl<'a> Model for SubsetWork<'a> {
-    ghost use Rattle.subset_work.specs.Made.{Made, IsFit, made_with};
+    ghost use Rattle.subset_work.specs.Made.{BySubsets, IsFit, made_with};
 
-    ghost Value = { Made };
+    ghost Value = { BySubsets };
 
     ghost view = { λ w. made_with w.sys.now w.dict.value w.free w.room.deeper.items };
 
@@ -56,7 +56,7 @@ impl<'a> SubsetWork<'a> {
     /// only where a product passes in the phase `cone`.
     pub fn new(alloc: Global, sys: &'a System) -> Result<SubsetWork<'a>, SubsetStop>
         ensures work { IfOk result (λ w. (s : Search) → s.work ≡ Subsets → s.root ≡ [] → sys.now ≡ cone_of s.polyhedron →
-            IsMade w s) }
+            IsBySubsets w s) }
         ensures overflow { (o : Passed) → IsErrOf result (SubsetStop.Overflow o) → (p : Polyhedron) →
             sys.now ≡ cone_of p → PassesInCone p o }
     {
@@ -162,7 +162,7 @@ fn visit_key<S: Sink>(
     requires room { IsFit start.now.sys.now start.now.dict.now room.old.deeper.items room.old.vector.items }
     requires may { MayVisit so_far.now (length key.now) }
     ensures walked { (s : Search) →
-        IsMade (made_with start.now.sys.now start.now.dict.now start.now.free.now room.old.deeper.items) s →
+        IsBySubsets (made_with start.now.sys.now start.now.dict.now start.now.free.now room.old.deeper.items) s →
         Meaning.is_key (meaning_of s) key.now →
         WalksUnder s.polyhedron key.now so_far.now.most so_far.now.longest (S.written out.old) (S.written out.new)
         so_far.now.count result }
@@ -171,6 +171,7 @@ fn visit_key<S: Sink>(
     ensures depth { length room.new.deeper.items ≡ length room.old.deeper.items }
     ensures later { S.faults out.old ≤ S.faults out.new }
     ensures fault { IsErrOf result WorkStop.WriteFault → Rose (S.faults out.old) (S.faults out.new) }
+    ensures same { ¬ (IsErrOf result WorkStop.WriteFault) → S.faults out.new ≡ S.faults out.old }
 {
     let labels = key.labels();
     let list = RowList {
@@ -203,32 +204,34 @@ fn run_from<S: Sink>(
     requires room { IsFit start.now.sys.now start.now.dict.now room.old.deeper.items room.old.vector.items }
     requires budget { IsBudget budget }
     ensures whole { (s : Search) →
-        IsMade (made_with start.now.sys.now start.now.dict.now start.now.free.now room.old.deeper.items) s →
+        IsBySubsets (made_with start.now.sys.now start.now.dict.now start.now.free.now room.old.deeper.items) s →
         Meaning.is_key (meaning_of s) key.now →
         IfOk result (IsWholeRun (meaning_of s) key.now budget (S.written out.old) (S.written out.new)) }
     ensures overflow { (o : Passed) → IsErrOf result (WorkStop.Overflow o) → (s : Search) →
-        IsMade (made_with start.now.sys.now start.now.dict.now start.now.free.now room.old.deeper.items) s →
+        IsBySubsets (made_with start.now.sys.now start.now.dict.now start.now.free.now room.old.deeper.items) s →
         Meaning.is_key (meaning_of s) key.now →
-        Passes s.polyhedron o × IsCutRun (meaning_of s) key.now (S.written out.old) (S.written out.new) }
+        PassesInCone s.polyhedron o × IsCutRun (meaning_of s) key.now (S.written out.old) (S.written out.new) }
     ensures torn { (s : Search) →
-        IsMade (made_with start.now.sys.now start.now.dict.now start.now.free.now room.old.deeper.items) s →
+        IsBySubsets (made_with start.now.sys.now start.now.dict.now start.now.free.now room.old.deeper.items) s →
         Meaning.is_key (meaning_of s) key.now →
         OnErr result (IsTornRun (meaning_of s) key.now (S.written out.old) (S.written out.new)) }
     ensures room { IsFit start.now.sys.now start.now.dict.now room.new.deeper.items room.new.vector.items }
     ensures depth { length room.new.deeper.items ≡ length room.old.deeper.items }
     ensures later { S.faults out.old ≤ S.faults out.new }
     ensures fault { IsErrOf result WorkStop.WriteFault → Rose (S.faults out.old) (S.faults out.new) }
+    ensures same { ¬ (IsErrOf result WorkStop.WriteFault) → S.faults out.new ≡ S.faults out.old }
 {
     let so_far = start_of(key.len(), budget);
     visit_key(start, room, key, &so_far, out)
 }
 
 impl<'a> Work for SubsetWork<'a> {
-    ghost is_of = { IsMade };
+    ghost is_of = { IsBySubsets };
 
     ghost is_asked_for_key = { λ w s key o passes. ⊥ };
 
-    ghost is_asked_in_run = { λ w s key o passes. Unit {0} };
+    // A run eliminates in the cone.
+    ghost is_asked_in_run = { λ w s key o passes. o.phase ≡ Cone };
 
     fn first_key(&self) -> Key {
         Key::empty()

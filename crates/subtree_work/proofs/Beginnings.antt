@@ -93,6 +93,12 @@ pub root_is_consistent : (p : Polyhedron) (root : List ℕ) → length (cone_of 
 root_is_consistent p root few r = points_are_consistent p r.free few r.feasible.dictionary.points
 
 -- ---- from where a walk stands
+-- it stands at a key
+pub stands_at_key : (p : Polyhedron) (sys : System) (rays : Rays) (walk : Walk) (vector : Vector) →
+    IsSearch p sys rays walk vector → IsSubtreeKey p walk.root walk.dict.key
+stands_at_key p sys rays walk vector x =
+    record { free = x.free; columns = x.columns; table = table_of walk.dict; feasible = x.walk_in.stands.feasible }
+
 module _ (p : Polyhedron) (sys : System) (rays : Rays) (walk : Walk) (vector : Vector)
     (x : IsSearch p sys rays walk vector) (key : List ℕ) (new : Walk) where
   abbrev main : Space

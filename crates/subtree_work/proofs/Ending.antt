@@ -3,7 +3,6 @@ use Rattle.std.proofs.Common.{◌≡◌, inl, inr, ⊎_elim, ℕ, suc, ◌+◌, 
 use Rattle.std.specs.List.{All, Contains}
 use Rattle.std.proofs.lemmas.List.Elements.{All-from_recursion, Contains-append_right}
 use Rattle.poly_num.specs.Vectors.{Vector}
-use Rattle.poly_io.specs.Written.{AppendsPart}
 use Rattle.poly_model.specs.declared.overflow.Overflow.{Overflow as Passed}
 use Rattle.poly_model.specs.Due.{IsDue, IsAskedInMain}
 use Rattle.poly_model.specs.Spaces.{main_space}

@@ -1,11 +1,8 @@
 -- Lines of rows, column by column.
 use Rattle.std.proofs.Common.{◌≡◌, ℕ, ◌+◌, List, [], ◌∷◌, ◌++◌, length-append, Option, refl, sym, ap, subst, arith}
 use Rattle.std.specs.List.{Contains}
-use Rattle.std.specs.Io.KnownBytes.{Appends}
-use Rattle.std.proofs.KnownBytes.{Appends-nil}
 use Rattle.std.proofs.lemmas.List.{map-append}
 use Rattle.poly_num.specs.Vectors.{Vector}
-use Rattle.poly_io.specs.Written.{AppendsPart}
 use Rattle.poly_model.specs.declared.listed.Count.{Count}
 use Rattle.poly_model.specs.Systems.{System}
 use Rattle.dictionary.specs.Views.{Dictionary}

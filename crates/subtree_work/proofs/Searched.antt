@@ -1,6 +1,6 @@
 -- A search by subtrees in the words of a work.
-use Rattle.std.proofs.Common.{◌≡◌, ◌↔◌, ◌⊎◌, inr, ap₂, List, ℕ, Bool, true, Option, Result, sym, subst}
-use Rattle.std.specs.Prelude.{IfOk, OnErr}
+use Rattle.std.proofs.Common.{◌≡◌, ◌↔◌, ◌⊎◌, inl, inr, ap₂, List, ℕ, Bool, true, Option, Result, Ok, Err, sym, subst}
+use Rattle.std.specs.Prelude.{IfOk, IfErr, OnErr}
 use Rattle.poly_model.specs.declared.kind.WorkKind.TheVariants.{Subtrees}
 use Rattle.poly_model.specs.declared.listed.Count.{Count}
 use Rattle.poly_model.specs.declared.overflow.Overflow.{Overflow}
@@ -12,11 +12,26 @@ use Rattle.work_core.specs.declared.stops.WorkStop.{WorkStop}
 use Rattle.work_core.specs.Meanings.{Meaning}
 use Rattle.work_core.specs.ReplyLines.{IsWholeRun, IsCutRun, IsTornRun}
 use Rattle.work_core.specs.Searches.{Search, MayBegin, by_subtrees, meaning_of}
+use Rattle.subtree_work.specs.Made.{BySubtrees, IsAskedForKey, IsAskedInRun}
 
 -- asked for in a run
 pub due_in_run : (p : Polyhedron) (from to root : List ℕ) (o : Overflow) → IsDue p o (IsAskedInMain p root o) →
     IsDue p o (λ passes. IsAskedOnTheWay p from to o passes ⊎ IsAskedInMain p root o passes)
 due_in_run p from to root o d = record { passes = d.passes; asked = inr d.asked }
+
+-- asked for by a work that stands at a key
+module _ (made : BySubtrees) (s : Search) (stands : IsSubtreeKey s.polyhedron made.root made.at) (key : List ℕ) where
+  pub asked_for_key : (r : Result Bool Overflow) → IfErr r (λ o. IsDue s.polyhedron o (IsAskedOnTheWay s.polyhedron made.at key o)) →
+      IfErr r (λ o. IsDue s.polyhedron o (IsAskedForKey made s key o))
+  asked_for_key (Ok b) h = tt
+  asked_for_key (Err o) h = record { passes = h.passes; asked = record { stands = stands; way = h.asked } }
+
+  pub asked_in_run : (o : Overflow) → IsDue s.polyhedron o (λ passes. IsAskedOnTheWay s.polyhedron made.at key o passes
+      ⊎ IsAskedInMain s.polyhedron made.root o passes) → IsDue s.polyhedron o (IsAskedInRun made s key o)
+  asked_in_run o h = record {
+    passes = h.passes;
+    asked = elim h.asked [ inl w ↦ inl (record { stands = stands; way = w }) | inr m ↦ inr m ];
+  }
 
 module _ (s : Search) (root : List ℕ) (work : s.work ≡ Subtrees) (same : s.root ≡ root) where
   abbrev by_tree : Search

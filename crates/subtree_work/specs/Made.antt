@@ -6,6 +6,7 @@ use Rattle.poly_model.specs.declared.overflow.Overflow.{Overflow as Passed}
 use Rattle.poly_model.specs.Systems.{System, Polyhedron, cone_of}
 use Rattle.poly_model.specs.FreeColumns.{AreFreeColumns}
 use Rattle.poly_model.specs.Spaces.{IsStartCobasis, main_space}
+use Rattle.poly_model.specs.Subtrees.{IsSubtreeKey}
 use Rattle.poly_model.specs.Overflows.{Passes}
 use Rattle.poly_model.specs.Due.{IsDue, IsAskedInMain, IsAskedOnTheWay}
 use Rattle.reverse_step.specs.Walks.{Walk}
@@ -14,7 +15,7 @@ use Rattle.convert_core.specs.Searches.{IsSearch}
 use Rattle.work_core.specs.Searches.{Search, MayBegin}
 
 -- the cone, the root, and the key of the cobasis where the walk stands
-pub record Made : Type 0 where
+pub record BySubtrees : Type 0 where
   pub sys : System
   pub root : List ℕ
   pub at : List ℕ
@@ -25,20 +26,21 @@ pub record IsSearchOfEach (sys : System) (rays : Rays) (walk : Walk) (vector : V
   pub each : (p : Polyhedron) → sys ≡ cone_of p → IsSearch p sys rays walk vector
 
 -- it is the work of this search, which may begin at its root
-pub record IsMade (made : Made) (s : Search) : Type 0 where
+pub record IsBySubtrees (made : BySubtrees) (s : Search) : Type 0 where
   pub work : s.work ≡ Subtrees
   pub root : s.root ≡ made.root
   pub file : made.sys ≡ cone_of s.polyhedron
   pub begins : MayBegin s
 
 -- ---- pivots that are asked for
--- on the way from where the walk stands to the key; in a run also at a lexicographically feasible cobasis
-abbrev pub IsAskedForKey : Made → (s : Search) → List ℕ → (o : Passed) → Passes s.polyhedron o → Type 0
-IsAskedForKey made s key o passes = IsAskedOnTheWay s.polyhedron made.at key o passes
+-- on the way to the key from another one, where the walk stands
+pub record IsAskedForKey (made : BySubtrees) (s : Search) (key : List ℕ) (o : Passed) (passes : Passes s.polyhedron o) : Type 0 where
+  pub stands : IsSubtreeKey s.polyhedron made.root made.at
+  pub way : IsAskedOnTheWay s.polyhedron made.at key o passes
 
-abbrev pub IsAskedInRun : Made → (s : Search) → List ℕ → (o : Passed) → Passes s.polyhedron o → Type 0
-IsAskedInRun made s key o passes =
-    IsAskedOnTheWay s.polyhedron made.at key o passes ⊎ IsAskedInMain s.polyhedron made.root o passes
+-- in a run also at a lexicographically feasible cobasis
+abbrev pub IsAskedInRun : BySubtrees → (s : Search) → List ℕ → (o : Passed) → Passes s.polyhedron o → Type 0
+IsAskedInRun made s key o passes = IsAskedForKey made s key o passes ⊎ IsAskedInMain s.polyhedron made.root o passes
 
 -- a pivot on the way from the start cobasis to the root cannot be carried out, since a number passes
 pub record IsDueOnWayToRoot (p : Polyhedron) (root : List ℕ) (o : Passed) : Type 0 where

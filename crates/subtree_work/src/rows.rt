@@ -1,5 +1,5 @@
 //! The lines of the rows that are shown at a cobasis.
-ghost use Rattle.std.specs.Prelude.{◌≡◌, ◌≤◌, ◌<◌, ◌+◌, ◌∷◌, [], length, IfOk, OnErr};
+ghost use Rattle.std.specs.Prelude.{◌≡◌, ◌≤◌, ◌<◌, ◌+◌, ◌∷◌, [], length, IfOk, OnOk, OnErr};
 ghost use Rattle.poly_io.specs.Causes.{Rose};
 ghost use Rattle.poly_model.specs.Limits.{most_columns};
 ghost use Rattle.hull_lift.specs.Facets.{IsColumn};
@@ -36,6 +36,7 @@ fn show_column<S: Sink>(
     ensures width { length vector.new ≡ length vector.old }
     ensures later { S.faults out.old ≤ S.faults out.new }
     ensures fault { OnErr result (Rose (S.faults out.old) (S.faults out.new)) }
+    ensures same { OnOk result (S.faults out.new ≡ S.faults out.old) }
 {
     if !shown_vector(at, col, vector) {
         return Ok(count);
@@ -65,6 +66,7 @@ pub(crate) fn show_columns<S: Sink>(
     ensures width { length vector.new ≡ length vector.old }
     ensures later { S.faults out.old ≤ S.faults out.new }
     ensures fault { OnErr result (Rose (S.faults out.old) (S.faults out.new)) }
+    ensures same { OnOk result (S.faults out.new ≡ S.faults out.old) }
 {
     let mut count = show_column(at, Label::CONSTANT, vector, count, out)?;
     let key = at.dict.key();

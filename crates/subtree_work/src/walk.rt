@@ -50,6 +50,7 @@ pub(crate) fn run_on<S: Sink, L: Ledger>(
     ensures sys { search.new.sys.now ≡ search.old.sys.now }
     ensures later { S.faults out.old ≤ S.faults out.new }
     ensures fault { IsErrOf result WorkStop.WriteFault → Rose (S.faults out.old) (S.faults out.new) }
+    ensures same { ¬ (IsErrOf result WorkStop.WriteFault) → S.faults out.new ≡ S.faults out.old }
 {
     let none = Count {
         rows: 0,
@@ -89,6 +90,7 @@ fn step<S: Sink, L: Ledger>(
     ensures width { length search.new.vector.items ≡ length search.old.vector.items }
     ensures later { S.faults out.old ≤ S.faults out.new }
     ensures fault { IsErrOf result WorkStop.WriteFault → Rose (S.faults out.old) (S.faults out.new) }
+    ensures same { ¬ (IsErrOf result WorkStop.WriteFault) → S.faults out.new ≡ S.faults out.old }
 {
     match search.walker.next(steps) {
         Ok(Visit::New) => {
@@ -130,6 +132,7 @@ fn meet<S: Sink>(
     ensures width { length search.new.vector.items ≡ length search.old.vector.items }
     ensures later { S.faults out.old ≤ S.faults out.new }
     ensures fault { IsErrOf result WorkStop.WriteFault → Rose (S.faults out.old) (S.faults out.new) }
+    ensures same { ¬ (IsErrOf result WorkStop.WriteFault) → S.faults out.new ≡ S.faults out.old }
 {
     if !stops(budget, depth, count.bases) {
         return visit(search, count, out);
@@ -159,6 +162,7 @@ fn visit<S: Sink>(search: &mut Search, count: Count, out: &mut S) -> Result<Coun
     ensures width { length search.new.vector.items ≡ length search.old.vector.items }
     ensures later { S.faults out.old ≤ S.faults out.new }
     ensures fault { IsErrOf result WorkStop.WriteFault → Rose (S.faults out.old) (S.faults out.new) }
+    ensures same { ¬ (IsErrOf result WorkStop.WriteFault) → S.faults out.new ≡ S.faults out.old }
 {
     let at = Basis {
         cone: search.sys,

@@ -10,7 +10,7 @@ ghost use Rattle.reverse_step.specs.Starts.{Starts};
 ghost use Rattle.work_core.specs.ReplyLines.{IsWholeRun, IsCutRun, IsTornRun};
 ghost use Rattle.work_core.specs.Searches.{Search as Searched, MayBegin, by_subtrees};
 ghost use Rattle.work_core.specs.Splits.{IsBudget};
-ghost use Rattle.subtree_work.specs.Made.{IsSearchOfEach, IsMade, IsAskedForKey, IsAskedInRun, IsDueOnWayToRoot};
+ghost use Rattle.subtree_work.specs.Made.{IsSearchOfEach, IsBySubtrees, IsAskedForKey, IsAskedInRun, IsDueOnWayToRoot};
 ghost use Rattle.dictionary.specs.Blanks.{IsBlankOf};
 
 use crate::begin::begin;
@@ -36,9 +36,9 @@ pub struct SubtreeWork<'a> {
 
 impl<'a> Model for SubtreeWork<'a> {
     ghost use Rattle.std.specs.Prelude.{◌≡◌};
-    ghost use Rattle.subtree_work.specs.Made.{Made, IsSearchOfEach};
+    ghost use Rattle.subtree_work.specs.Made.{BySubtrees, IsSearchOfEach};
 
-    ghost Value = { Made };
+    ghost Value = { BySubtrees };
 
     ghost view = { λ w. record { sys = w.search.sys.now; root = w.root; at = w.search.walker.dict.key } };
 
@@ -54,7 +54,7 @@ impl<'a> SubtreeWork<'a> {
     pub fn new(alloc: Global, sys: &'a System, root: Root) -> Result<SubtreeWork<'a>, SubtreeStop>
         requires file { (p : Polyhedron) × (sys.now ≡ cone_of p) }
         ensures work { IfOk result (λ w. (s : Searched) → s.work ≡ Subtrees → s.root ≡ root.key →
-            sys.now ≡ cone_of s.polyhedron → IsMade w s) }
+            sys.now ≡ cone_of s.polyhedron → IsBySubtrees w s) }
         ensures bad_root { IsErrOf result SubtreeStop.BadRoot → (s : Searched) → s.work ≡ Subtrees → s.root ≡ root.key →
             sys.now ≡ cone_of s.polyhedron → MayBegin s → ⊥ }
         ensures overflow { (o : Passed) → IsErrOf result (SubtreeStop.Overflow o) → (p : Polyhedron) →
@@ -126,6 +126,7 @@ fn run_under<S: Sink, L: Ledger>(
     ensures sys { search.new.sys.now ≡ search.old.sys.now }
     ensures later { S.faults out.old ≤ S.faults out.new }
     ensures fault { IsErrOf result WorkStop.WriteFault → Rose (S.faults out.old) (S.faults out.new) }
+    ensures same { ¬ (IsErrOf result WorkStop.WriteFault) → S.faults out.new ≡ S.faults out.old }
 {
     let mut steps = Steps::<L>::new(blank);
     match go_to(search, key, &mut steps) {
@@ -141,7 +142,7 @@ fn run_under<S: Sink, L: Ledger>(
 }
 
 impl<'a> Work for SubtreeWork<'a> {
-    ghost is_of = { IsMade };
+    ghost is_of = { IsBySubtrees };
 
     ghost is_asked_for_key = { IsAskedForKey };
 

@@ -60,6 +60,7 @@ pub fn give_back<S: Sink>(key: &Key, count: Count, out: &mut S) -> Result<Count,
     ensures overflow { (o : Passed) → IsErrOf result (WorkStop.Overflow o) → ⊥ }
     ensures later { S.faults out.old ≤ S.faults out.new }
     ensures fault { IsErrOf result WorkStop.WriteFault → Rose (S.faults out.old) (S.faults out.new) }
+    ensures same { ¬ (IsErrOf result WorkStop.WriteFault) → S.faults out.new ≡ S.faults out.old }
 {
     match write_given(key, out) {
         Ok(()) => Ok(one_job(count)),

@@ -51,5 +51,6 @@ pub trait Work {
             → OnErr result (IsTornRun (meaning_of s) key.now (S.written out.old) (S.written out.new)) }
         ensures later { S.faults out.old ≤ S.faults out.new }
         ensures fault { IsErrOf result WorkStop.WriteFault → Rose (S.faults out.old) (S.faults out.new) }
+        ensures same { ¬ (IsErrOf result WorkStop.WriteFault) → S.faults out.new ≡ S.faults out.old }
         ensures kept { (s : Search) → is_of self.old s ↔ is_of self.new s };
 }

@@ -4,7 +4,7 @@ use Rattle.std.proofs.lemmas.Bool.{eqb-true, eqb-false}
 use Rattle.plain_text.specs.Texts.{IsReadOf}
 use Rattle.plain_text.proofs.ReadLemmas.{read_none, read_at}
 use Rattle.job_text.specs.Fits.{Said, MaySay, said_text}
-use Rattle.job_text.specs.Scans.{StopsAt}
+use Rattle.job_text.specs.Scans.{StopsScanAt}
 use Rattle.job_text.specs.declared.scan.Scan.{Scan}
 use Rattle.job_text.specs.declared.stops.ReplyStop.{ReplyStop}
 use Rattle.job_text.specs.declared.stops.ReplyStop.TheVariants.{NotWhole}
@@ -16,10 +16,10 @@ place_of : Result Scan ReplyStop → ℕ
 place_of (Err (NotWhole place)) = place
 place_of _ = 0
 
-stopped : (n : ℕ) (text : List ℕ) (at place : ℕ) → StopsAt n text at → IsErrOf {T = Scan} {E = ReplyStop} (Err (NotWhole at)) (NotWhole place)
-    → StopsAt n text place
+stopped : (n : ℕ) (text : List ℕ) (at place : ℕ) → StopsScanAt n text at → IsErrOf {T = Scan} {E = ReplyStop} (Err (NotWhole at)) (NotWhole place)
+    → StopsScanAt n text place
 unfolding place_of
-stopped n text at place h e = subst (StopsAt n text) (ap place_of e) h
+stopped n text at place h e = subst (StopsScanAt n text) (ap place_of e) h
 
 -- what a line says, in the numbers of the loop
 said_of : (n m rows jobs count : ℕ) {line : List ℕ} {said : Option Said} → m ≡ n → count ≡ jobs

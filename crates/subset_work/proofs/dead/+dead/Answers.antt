@@ -42,7 +42,7 @@ visit_dead-rows-init g t c =
     } in
     record {
       come = come_first so_far.most list.from so_far.count c.one_base-count.result c.requires.may.some base;
-      later = omega arith;
+      same = refl;
       walked = λ p file room next dead.
           begin_at p list.key.now c.args.left list.from room next so_far.most so_far.longest
           (g.S.Sink.written c.args.out.now) so_far.count c.one_base-count.result
@@ -77,7 +77,7 @@ visit_dead-rows-preserved g t c =
       | visit_dead-then-not-is_linear+in-Ok w ↦ record {
         come = subst (λ (n : Count). HasCome so_far.most list.from (c.rows.i + 1) so_far.count n) (sym w.count-is)
             (come_on so_far.most list.from c.rows.i so_far.count c.rows.count come w.in-Ok.on w.in-Ok.ensures.on few);
-        later = omega (arith, c.rows.invariant.later, ap g.S.Sink.faults w.out-is, w.in-Ok.ensures.later);
+        same = ap g.S.Sink.faults w.out-is ∙ w.in-Ok.ensures.same (λ e. cc) ∙ c.rows.invariant.same;
         walked = λ p file room next dead.
             let step = step_here p list.sys.now file list.key.now c.args.left list.from room next so_far.most
             so_far.longest c.rows.i old (g.S.Sink.written c.rows.out) so_far.count c.rows.count
@@ -94,7 +94,7 @@ visit_dead-rows-preserved g t c =
       | visit_dead-else-not-is_linear w ↦ record {
         come = subst (λ (n : Count). HasCome so_far.most list.from (c.rows.i + 1) so_far.count n) (sym w.count-is)
             (come_past so_far.most list.from c.rows.i so_far.count c.rows.count come few);
-        later = omega (arith, c.rows.invariant.later, ap g.S.Sink.faults w.out-is);
+        same = ap g.S.Sink.faults w.out-is ∙ c.rows.invariant.same;
         walked = λ p file room next dead.
             walked_at g.S.Sink.written p list.key.now list.from (c.rows.i + 1) so_far.most so_far.longest old so_far.count
             w.out-is w.count-is

@@ -1,4 +1,4 @@
-use Rattle.std.proofs.Common.{◌≡◌, ◌+◌, ◌*◌, ◌≤◌}
+use Rattle.std.proofs.Common.{◌≡◌, ◌+◌, ◌*◌}
 use Rattle.poly_model.specs.Systems.{Polyhedron, cone_of}
 use Rattle.subset_work.specs.Counts.{HasCome}
 use Rattle.subset_work.specs.Standing.{IsNext, HasRoom, IsDead}
@@ -17,7 +17,7 @@ abbrev pub invariant-visit_dead-rows : goal.invariant-visit_dead-rows
 invariant-visit_dead-rows g l =
     record {
       come : HasCome l.so_far.most l.list.from l.i l.fn.so_far.count l.count;
-      later : g.S.Sink.faults l.fn.out ≤ g.S.Sink.faults l.out;
+      same : g.S.Sink.faults l.out ≡ g.S.Sink.faults l.fn.out;
       walked : (p : Polyhedron) → l.list.sys.now ≡ cone_of p → HasRoom p l.list.key.now l.left →
           IsNext l.list.key.now l.list.from → IsDead p l.list.key.now →
           HasWalkedTo p l.list.key.now l.list.from l.i l.so_far.most l.so_far.longest (g.S.Sink.written l.fn.out)

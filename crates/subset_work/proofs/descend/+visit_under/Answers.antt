@@ -2,7 +2,6 @@ use Rattle.std.proofs.Common.{arith, ◌≡◌, ◌+◌, ◌-◌, [], ◌∷◌,
 use Rattle.std.specs.List.{All}
 use Rattle.dictionary.specs.Views.{Dictionary}
 use Rattle.plain_enum.specs.Listed.{HasRoomFor, HasShapeOf}
-use Rattle.plain_enum.specs.Plain.{PassesInCone}
 use Rattle.plain_enum.proofs.LoopUnder.{shape_first, room_with, room_below}
 use Rattle.plain_enum.proofs.NextRow as next_row
 use Rattle.work_core.specs.Searches.{by_subsets}
@@ -71,10 +70,9 @@ returns-in-Err-clause-walked g t c p front live next eq room nextk =
     live next key label c.in-Some.later.now begins room.is_key in
     walks_past p key c.args.so_far.now.most c.args.so_far.now.longest (g.S.Sink.written c.args.out.now)
     (g.S.Sink.written c.args.out.now) c.args.so_far.now.count c.in-Err.overflow
-    (PassesInCone.passes
     (next_row.overflows prefix.sys.now prefix.free.now prefix.dict.now label (length c.args.deeper.now) p
     here.cone here.fixed here.left here.marks here.at c.in-Some-column_for.col c.in-Err.overflow
-    c.in-Some-column_for.ensures.pivots c.in-Err.ensures.passes))
+    c.in-Some-column_for.ensures.pivots c.in-Err.ensures.passes)
     (no_lines (by_subsets p) key (g.S.Sink.written c.args.out.now))
 
 pub returns-in-Err-clause-room : goal.returns-in-Err-clause-room

@@ -4,7 +4,6 @@ use Rattle.poly_model.specs.declared.listed.Count.{Count}
 use Rattle.poly_model.specs.Keys.{with_label}
 use Rattle.dictionary.specs.Views.{Dictionary, IsPivot, CanPivot, IsOverflow}
 use Rattle.plain_enum.specs.Columns.{IsColumnOf, HasNoColumn}
-use Rattle.plain_enum.specs.Plain.{PassesInCone}
 use Rattle.plain_enum.specs.Listed.{HasRoomFor, HasShapeOf}
 use Rattle.plain_enum.proofs.LoopUnder.{shape_first, room_with, room_below}
 use Rattle.plain_enum.proofs.NextRow as next_row
@@ -67,11 +66,10 @@ come_to_next-returns-in-Err-clause-walked g t c p live may =
     let col = c.in-Some.col in
     walks_past p (with_label prefix.from c.args.live.now.key.now) so_far.most so_far.longest
     (g.S.Sink.written c.args.out.now) (g.S.Sink.written c.args.out.now) so_far.count overflow
-    (PassesInCone.passes
     (next_row.overflows prefix.sys.now prefix.free.now prefix.dict.now prefix.from (length c.args.deeper.now) p live.cone
     live.fixed live.left live.marks live.at col overflow
     (subst (λ k. CanPivot prefix.dict.now k col) c.row-row.ensures c.in-Some.ensures.pivots)
-    (subst (λ k. IsOverflow prefix.dict.now k col overflow) c.row-row.ensures c.in-Err.ensures.passes)))
+    (subst (λ k. IsOverflow prefix.dict.now k col overflow) c.row-row.ensures c.in-Err.ensures.passes))
     (no_lines (by_subsets p) (with_label prefix.from c.args.live.now.key.now) (g.S.Sink.written c.args.out.now))
 
 pub come_to_next-returns-in-Err-clause-room : goal.come_to_next-returns-in-Err-clause-room
@@ -161,7 +159,7 @@ visit_live-rows-init g t c =
       room = c.requires.room;
       depth = refl;
       come = come_first so_far.most prefix.from so_far.count c.one_base-count.result c.requires.may.some base;
-      later = omega arith;
+      same = refl;
       stands = λ p live. live;
       walked = λ p live room next.
           begin_at p key (length c.args.deeper.now) prefix.from room next so_far.most so_far.longest
@@ -204,7 +202,7 @@ visit_live-rows-preserved g t c =
         depth = ap length w.deeper-is ∙ w.in-Ok.ensures.depth ∙ c.rows.invariant.depth;
         come = subst (λ (n : Count). HasCome so_far.most prefix.from (c.rows.i + 1) so_far.count n) (sym w.count-is)
             (come_on so_far.most prefix.from c.rows.i so_far.count c.rows.count come w.in-Ok.on w.in-Ok.ensures.on few);
-        later = omega (arith, c.rows.invariant.later, ap g.S.Sink.faults w.out-is, w.in-Ok.ensures.later);
+        same = ap g.S.Sink.faults w.out-is ∙ w.in-Ok.ensures.same (λ e. cc) ∙ c.rows.invariant.same;
         stands = λ p live. live_stays prefix.sys.now prefix.free.now prefix.dict.now c.rows.i depth p key
             (c.rows.invariant.stands p live) row;
         walked = λ p live room next.
@@ -226,7 +224,7 @@ visit_live-rows-preserved g t c =
         depth = ap length w.deeper-is ∙ c.rows.invariant.depth;
         come = subst (λ (n : Count). HasCome so_far.most prefix.from (c.rows.i + 1) so_far.count n) (sym w.count-is)
             (come_past so_far.most prefix.from c.rows.i so_far.count c.rows.count come few);
-        later = omega (arith, c.rows.invariant.later, ap g.S.Sink.faults w.out-is);
+        same = ap g.S.Sink.faults w.out-is ∙ c.rows.invariant.same;
         stands = λ p live. live_stays prefix.sys.now prefix.free.now prefix.dict.now c.rows.i depth p key
             (c.rows.invariant.stands p live) row;
         walked = λ p live room next.

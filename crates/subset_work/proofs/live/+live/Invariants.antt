@@ -1,4 +1,4 @@
-use Rattle.std.proofs.Common.{◌≡◌, ◌+◌, ◌*◌, ◌≤◌, length}
+use Rattle.std.proofs.Common.{◌≡◌, ◌+◌, ◌*◌, length}
 use Rattle.poly_model.specs.Systems.{Polyhedron}
 use Rattle.plain_enum.specs.Listed.{HasRoomFor}
 use Rattle.subset_work.specs.Counts.{HasCome}
@@ -21,7 +21,7 @@ invariant-visit_live-rows g l =
       room : HasRoomFor l.live.prefix.sys.now l.live.prefix.dict.now l.deeper l.vector;
       depth : length l.deeper ≡ length l.fn.deeper;
       come : HasCome l.so_far.most l.live.prefix.from l.i l.fn.so_far.count l.count;
-      later : g.S.Sink.faults l.fn.out ≤ g.S.Sink.faults l.out;
+      same : g.S.Sink.faults l.out ≡ g.S.Sink.faults l.fn.out;
       stands : (p : Polyhedron) → IsLive l.live.prefix.sys.now l.live.prefix.free.now l.live.prefix.dict.now
           l.live.prefix.from (length l.fn.deeper) p l.live.key.now →
           IsLive l.live.prefix.sys.now l.live.prefix.free.now l.live.prefix.dict.now l.i (length l.fn.deeper) p

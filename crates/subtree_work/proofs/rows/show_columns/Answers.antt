@@ -55,6 +55,6 @@ columns-preserved g c =
           c.columns.invariant.shows (g.S.Sink.written c.show_column-in-columns.new.out) c.in_ok-count-2.count
           c.in_ok-count-2.ensures.shows);
       width = c.in_ok-count-2.ensures.width ∙ c.columns.invariant.width;
-      later = let a = c.in_ok-count-2.ensures.later in let b = c.columns.invariant.later in omega (arith, a, b);
+      same = c.in_ok-count-2.ensures.same ∙ c.columns.invariant.same;
       few = let a = c.columns.invariant.few in let b = c.in_ok-count-2.ensures.few in omega (arith, a, b);
     }

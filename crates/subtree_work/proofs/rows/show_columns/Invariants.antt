@@ -9,6 +9,6 @@ invariant-columns g l = record {
   shows : ShowsRows l.fn.at.cone.now l.fn.at.order.now l.fn.at.dict.now (constant_label ∷ take l.col-index l.cobasis)
       (g.S.Sink.written l.fn.out) (g.S.Sink.written l.out) l.fn.count l.count;
   width : length l.vector ≡ length l.fn.vector;
-  later : g.S.Sink.faults l.fn.out ≤ g.S.Sink.faults l.out;
+  same : g.S.Sink.faults l.out ≡ g.S.Sink.faults l.fn.out;
   few : l.count.rows ≤ l.fn.count.rows + l.col-index + 1;
 }

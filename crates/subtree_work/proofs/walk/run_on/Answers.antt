@@ -1,5 +1,5 @@
 use Rattle.std.specs.Prelude.{OnErr, IsErrOf}
-use Rattle.std.proofs.Common.{ap, refl, sym, subst, ◌∙◌, Err, arith}
+use Rattle.std.proofs.Common.{ap, refl, sym, subst, ◌∙◌, Err}
 use Rattle.std.proofs.lemmas.Result.{err_from_is_err_and}
 use Rattle.poly_model.specs.declared.listed.Count.{Count}
 use Rattle.reverse_step.specs.Walks.{Walk}
@@ -44,7 +44,7 @@ steps-init g c =
           c.in_ok-count.ensures.width);
       sys = c.in_ok-count.ensures.sys;
       rays = c.in_ok-count.ensures.rays;
-      later = c.in_ok-count.ensures.later;
+      same = c.in_ok-count.ensures.same (λ e. cc);
     }
 
 -- ---- a step
@@ -132,5 +132,5 @@ steps-preserved g c =
           c.in_ok-visit.ensures.takes;
       sys = c.in_ok-visit.ensures.sys ∙ c.steps.invariant.sys;
       rays = c.in_ok-visit.ensures.rays ∙ c.steps.invariant.rays;
-      later = let a = c.in_ok-visit.ensures.later in let b = c.steps.invariant.later in omega (arith, a, b);
+      same = c.in_ok-visit.ensures.same (λ e. cc) ∙ c.steps.invariant.same;
     }

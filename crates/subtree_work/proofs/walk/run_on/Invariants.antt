@@ -1,4 +1,4 @@
-use Rattle.std.proofs.Common.{◌≡◌, ◌≤◌}
+use Rattle.std.proofs.Common.{◌≡◌}
 use Rattle.poly_model.specs.Systems.{Polyhedron, cone_of}
 use Rattle.subtree_work.proofs.Running.{Running}
 use Rattle.subtree_work.proofs.walk.run_on.Given as goal
@@ -11,7 +11,7 @@ invariant-steps g l = record {
       (g.S.Sink.written l.out);
   sys : l.search.sys.now ≡ l.fn.search.sys.now;
   rays : l.search.rays ≡ l.fn.search.rays;
-  later : g.S.Sink.faults l.fn.out ≤ g.S.Sink.faults l.out;
+  same : g.S.Sink.faults l.out ≡ g.S.Sink.faults l.fn.out;
 }
 
 abbrev pub decreases-steps : goal.decreases-steps

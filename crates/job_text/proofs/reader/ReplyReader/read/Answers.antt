@@ -1,7 +1,7 @@
 use Rattle.std.proofs.Common.{◌≡◌, ◌∙◌, ◌+◌, ◌++◌, ℕ, List, length, refl, sym, ap, subst, arith, rules, length-append, Result, Ok, Err, true, false}
 use Rattle.std.specs.Result.{IsErrOf}
 use Rattle.job_text.specs.Replies.{IsNotWhole, reply_head}
-use Rattle.job_text.specs.Scans.{StopsAt, IsScanOf}
+use Rattle.job_text.specs.Scans.{StopsScanAt, IsScanOf}
 use Rattle.job_text.specs.declared.scan.Scan.{Scan}
 use Rattle.job_text.specs.declared.reply.Reply.{Reply}
 use Rattle.job_text.specs.declared.stops.ReplyStop.{ReplyStop}
@@ -79,7 +79,7 @@ returns-clause-not_whole c place e =
     let (inner, is, at) = c.further.ensures place (the_stop _ place e) in
     let stop = c.in-Err.ensures.stop inner (ap as_error is) in
     let size : length c.deref_mut.result.now ≡ c.args.n = search rules in
-    let s = subst (λ (n : ℕ). StopsAt n c.in-Some.found.1.now inner) size stop in
+    let s = subst (λ (n : ℕ). StopsScanAt n c.in-Some.found.1.now inner) size stop in
     let start : length (reply_head c.in-Some.found.0) + inner ≡ place =
     omega (arith, at, ap (λ (l : List ℕ). length l) text, length-append (reply_head c.in-Some.found.0) c.in-Some.found.1.now) in
     subst (IsNotWhole c.args.n c.args.key.now c.args.text.now) start
