@@ -1,2 +1,4 @@
 pub mod ReplyTexts
 pub mod Allowed
+pub mod DueLemmas
+pub mod TakenTexts

@@ -1,5 +1,5 @@
 -- Replies of a job: what was written is one, or the beginning of one.
-use Rattle.std.proofs.Common.{ℕ, List, [], ◌∷◌, ◌++◌, Option, refl, arith}
+use Rattle.std.proofs.Common.{inl, inr, ℕ, List, [], ◌∷◌, ◌++◌, Option, refl, arith}
 use Rattle.std.specs.List.{All, AllByRecursion}
 use Rattle.std.specs.Io.KnownBytes.{Appends}
 use Rattle.std.proofs.KnownBytes.{Appends-trans}
@@ -10,7 +10,10 @@ use Rattle.poly_io.proofs.Parts.{part_before, part_after}
 use Rattle.poly_model.specs.declared.listed.Count.{Count}
 use Rattle.poly_model.specs.declared.overflow.Overflow.{Overflow as Passed}
 use Rattle.poly_model.specs.Keys.{IsKey}
+use Rattle.poly_model.specs.declared.kind.WorkKind.{WorkKind}
+use Rattle.poly_model.specs.declared.kind.WorkKind.TheVariants.{Subsets, Subtrees}
 use Rattle.poly_model.specs.Overflows.{Passes}
+use Rattle.poly_model.specs.Systems.{Polyhedron}
 use Rattle.listing_laws.proofs.ListLemmas.{all_members}
 use Rattle.work_core.specs.Meanings.{Meaning, IsKeyBelow}
 use Rattle.work_core.specs.Searches.{meaning_of, MayBegin}
@@ -25,6 +28,7 @@ use Rattle.job_text.specs.Jobs.{HasHeadText}
 use Rattle.job_text.specs.Replies.{reply_head, tail_text, IsReplyLine, EndsLines}
 use Rattle.job_text.specs.Rule.{search_of, Obeys, IsReply}
 use Rattle.job_text.proofs.PassesLemmas.{passing_has_text}
+use Rattle.worker_job.specs.Due.{IsDueBy, IsDueInJob}
 use Rattle.worker_job.specs.Replies.{HasItsKey, RepliesWith, BeginsReply, IsOfAFile}
 
 -- ---- the text of a reply
@@ -60,11 +64,17 @@ nothing_within work key = record { rows_within = All-nil (work.in_share key); ke
 starved : (job : Job) → IsReplyOf job [] Memory
 starved job = record { fit = tt; ends = tt; rule = nothing_within (meaning_of (search_of job)) job.head.key }
 
+due_passes : (work : WorkKind) (p : Polyhedron) (root key : List ℕ) (o : Passed) → IsDueBy work p root key o → Passes p o
+due_passes Subsets p root key o h = h.passes
+due_passes Subtrees p root key o (inl h) = h.passes
+due_passes Subtrees p root key o (inr (inl h)) = h.due.passes
+due_passes Subtrees p root key o (inr (inr h)) = h.passes
+
 -- ---- replies of no line
 pub starves : (job : Job) → HasHeadText job.head → (a b : Option (List ℕ)) →
     Appends a b (reply_head job.head.key ++ tail_text Memory) → RepliesWith job a b Memory
 starves job head a b w = record {
-  may_run = tt;
+  may_end = tt;
   text = reply_text job [] Memory;
   obeys = reply_of job head [] Memory (starved job);
   ends = refl;
@@ -76,7 +86,10 @@ pub starves_in_part : (job : Job) → HasHeadText job.head → (a b : Option (Li
 starves_in_part job head a b w =
     record { text = reply_text job [] Memory; obeys = reply_of job head [] Memory (starved job); written = w }
 
-module _ (job : Job) (file : IsOfAFile job) (o : Passed) (is_key : IsKey o.key) (passes : Passes job.poly o) where
+module _ (job : Job) (file : IsOfAFile job) (o : Passed) (is_key : IsKey o.key) (due : IsDueInJob job o) where
+  abbrev passes : Passes job.poly o
+  passes = due_passes job.head.work job.poly job.head.root.key job.head.key o due
+
   passed : (lines : List ReplyLine) → AllByRecursion (IsReplyLine job.poly.n) lines →
       AreWithin (meaning_of (search_of job)) job.head.key (rows_in_lines lines) (keys_in_lines lines) →
       IsReplyOf job lines (Overflow o)
@@ -90,7 +103,7 @@ module _ (job : Job) (file : IsOfAFile job) (o : Passed) (is_key : IsKey o.key) 
   pub passes_alone : (a b : Option (List ℕ)) → Appends a b (reply_head job.head.key ++ tail_text (Overflow o)) →
       RepliesWith job a b (Overflow o)
   passes_alone a b w =
-      record { may_run = tt; text = reply_text job [] (Overflow o); obeys = alone; ends = refl; written = w }
+      record { may_end = due; text = reply_text job [] (Overflow o); obeys = alone; ends = refl; written = w }
 
   pub passes_in_part : (a b : Option (List ℕ)) → AppendsPart a b (reply_head job.head.key ++ tail_text (Overflow o)) →
       BeginsReply job a b
@@ -189,7 +202,7 @@ module _ (job : Job) (file : IsOfAFile job) (begins : MayBegin (search_of job)) 
 
     pub ends_with : (d : Option (List ℕ)) → HasItsKey job → Appends c d (tail_text (End count)) → RepliesWith job a d (End count)
     ends_with d is t = record {
-      may_run = (begins, is);
+      may_end = (begins, is);
       text = reply_text job run.lines (End count);
       obeys = ended;
       ends = refl;
@@ -204,16 +217,16 @@ module _ (job : Job) (file : IsOfAFile job) (begins : MayBegin (search_of job)) 
     }
 
   -- an overflow stopped it
-  module _ (a b c : Option (List ℕ)) (o : Passed) (is_key : IsKey o.key) (passes : Passes job.poly o)
+  module _ (a b c : Option (List ℕ)) (o : Passed) (is_key : IsKey o.key) (due : IsDueInJob job o)
       (h : Appends a b (reply_head job.head.key)) (run : IsCutRun work job.head.key b c) where
     abbrev stopped : IsReply job (reply_text job run.lines (Overflow o))
     stopped =
         reply_of job file.head run.lines (Overflow o)
-        (passed job file o is_key passes run.lines (within_fit run.lines run.written.in_hand run.within) run.within)
+        (passed job file o is_key due run.lines (within_fit run.lines run.written.in_hand run.within) run.within)
 
     pub stops_with : (d : Option (List ℕ)) → Appends c d (tail_text (Overflow o)) → RepliesWith job a d (Overflow o)
     stops_with d t = record {
-      may_run = tt;
+      may_end = due;
       text = reply_text job run.lines (Overflow o);
       obeys = stopped;
       ends = refl;

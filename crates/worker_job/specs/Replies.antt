@@ -1,5 +1,5 @@
 -- How a job ends that was read: which reply of it was written, or what is wrong with it.
-use Rattle.std.specs.Prelude.{◌≡◌, ◌⊎◌, ℕ, ◌≤◌, List, Option, Result, MatchResult, length}
+use Rattle.std.specs.Prelude.{◌≡◌, ◌⊎◌, ⊤, ℕ, ◌≤◌, List, Option, Result, MatchResult, length}
 use Rattle.std.specs.Io.KnownBytes.{Appends}
 use Rattle.poly_io.specs.Written.{AppendsPart}
 use Rattle.poly_model.specs.declared.listed.Count.{Count}
@@ -15,6 +15,7 @@ use Rattle.job_text.specs.declared.reply.Tail.{Tail}
 use Rattle.job_text.specs.declared.reply.Tail.TheVariants.{End, Overflow, Memory}
 use Rattle.job_text.specs.Jobs.{HasHeadText}
 use Rattle.job_text.specs.Rule.{search_of, IsReply}
+use Rattle.worker_job.specs.Due.{IsDueInJob}
 
 -- the job's key is one of its work
 abbrev pub HasItsKey : Job → Type 0
@@ -25,15 +26,16 @@ abbrev pub IsBadStart : Job → ℕ → Type 0
 IsBadStart job place =
     ((place ≡ 2) × (MayBegin (search_of job) → ⊥)) ⊎ ((place ≡ 3) × MayBegin (search_of job) × (HasItsKey job → ⊥))
 
--- only of a reply that ends in `end` is it known that the root and the key may be run
-abbrev pub MayRun : Tail → Job → Type 0
-MayRun (End count) job = MayBegin (search_of job) × HasItsKey job
-MayRun (Overflow o) job = Unit {0}
-MayRun Memory job = Unit {0}
+-- a reply may end so: in `end` where a search may begin at the root and the key is one of the work, in an overflow that is
+-- due; in want of memory any may
+abbrev pub MayEnd : Tail → Job → Type 0
+MayEnd (End count) job = MayBegin (search_of job) × HasItsKey job
+MayEnd (Overflow o) job = IsDueInJob job o
+MayEnd Memory job = ⊤
 
 -- a whole reply of the job was written, which ends so
 pub record RepliesWith (job : Job) (old new : Option (List ℕ)) (tail : Tail) : Type 0 where
-  pub may_run : MayRun tail job
+  pub may_end : MayEnd tail job
   pub text : List ℕ
   pub obeys : IsReply job text
   pub ends : obeys.reply.tail ≡ tail

@@ -1,15 +1,11 @@
 -- What is answered to a job text.
-use Rattle.std.specs.Prelude.{◌≡◌, ◌⊎◌, ℕ, List, Option, length}
+use Rattle.std.specs.Prelude.{◌≡◌, ◌⊎◌, ℕ, ◌+◌, ◌≤◌, List, Option, length}
 use Rattle.std.specs.Io.KnownBytes.{Consumes, IsAtEnd}
 use Rattle.job_text.specs.declared.job.Job.{Job}
 use Rattle.job_text.specs.declared.reply.Tail.{Tail}
 use Rattle.job_text.specs.Jobs.{IsBadText, IsJobText}
-use Rattle.worker_job.specs.declared.limits.TheConstants as constants
+use Rattle.job_text.specs.Limits.{most_job_bytes}
 use Rattle.worker_job.specs.Replies.{IsBadStart, RepliesWith, BeginsReply}
-
--- bytes of the longest job text, and one more
-abbrev pub most_job_bytes : ℕ
-most_job_bytes = constants.MOST_JOB_BYTES
 
 -- what is wrong with a text: first its lines and its file, then its root, then its key
 abbrev pub IsBadJob : List ℕ → ℕ → Type 0
@@ -27,9 +23,10 @@ pub record RepliesInPart (old new : Option (List ℕ)) (text : List ℕ) : Type 
   pub is_text : IsJobText job text
   pub reply : BeginsReply job old new
 
--- bytes were taken to the end of the source, or one more than any job text has, and have P
+-- bytes were taken to the end of the source, or one more than a job text may have, and have P
 pub record TakesText (old new : Option (List ℕ)) (P : List ℕ → Type 0) : Type 0 where
   pub text : List ℕ
   pub taken : Consumes old new text
-  pub enough : IsAtEnd new ⊎ (length text ≡ most_job_bytes)
+  pub within : length text ≤ most_job_bytes + 1
+  pub enough : IsAtEnd new ⊎ (length text ≡ most_job_bytes + 1)
   pub holds : P text

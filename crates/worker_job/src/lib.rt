@@ -1,11 +1,11 @@
 //! The reply of a job text.
 #![tactic(auto)]
 
-mod limits;
 mod replying;
 mod shipped;
 #[cfg(test)]
 mod tests;
+mod whole;
 
-pub use limits::MOST_JOB_BYTES;
 pub use shipped::{ShippedJob, reply};
+pub use whole::job;

@@ -3,15 +3,16 @@ ghost use Rattle.std.specs.Prelude.{◌≡◌, ◌≤◌, ◌++◌, IsErrOf};
 ghost use Rattle.poly_io.specs.Causes.{Rose};
 ghost use Rattle.poly_io.specs.Written.{Prints};
 ghost use Rattle.poly_model.specs.declared.kind.WorkKind.TheVariants.{Subsets, Subtrees};
-ghost use Rattle.poly_model.specs.Overflows.{Passes};
+ghost use Rattle.poly_model.specs.declared.overflow.Overflow.{Overflow as Passed};
 ghost use Rattle.poly_model.specs.Systems.{cone_of};
 ghost use Rattle.work_core.specs.Meanings.{Meaning};
 ghost use Rattle.work_core.specs.Searches.{Search, meaning_of, MayBegin};
-ghost use Rattle.job_text.specs.declared.reply.Tail.TheVariants.{End, Overflow as Passed, Memory as Starved};
+ghost use Rattle.job_text.specs.declared.reply.Tail.TheVariants.{End, Overflow as Passing, Memory as Starved};
 ghost use Rattle.job_text.specs.Replies.{reply_head, tail_text};
 ghost use Rattle.poly_model.specs.Keys.{IsKey};
 ghost use Rattle.job_text.specs.Rule.{search_of};
 ghost use Rattle.job_text.specs.Jobs.{HasHeadText};
+ghost use Rattle.worker_job.specs.Due.{IsDueInJob, IsDueInWork};
 ghost use Rattle.worker_job.specs.Replies.{EndsJob, IsOfAFile};
 
 use hull_lift::system_of;
@@ -28,6 +29,7 @@ pub(crate) fn reply_job<O: Sink>(alloc: Global, job: &Job, out: &mut O) -> Resul
     requires head { HasHeadText job.now.head }
     ensures ends { EndsJob job.now (O.written out.old) (O.written out.new) (out.new ≡ out.old) result }
     ensures fault { IsErrOf result JobStop.WriteFault → Rose (O.faults out.old) (O.faults out.new) }
+    ensures same { ¬ (IsErrOf result JobStop.WriteFault) → O.faults out.new ≡ O.faults out.old }
     ensures later { O.faults out.old ≤ O.faults out.new }
 {
     let Ok(cone) = system_of(alloc, &job.poly) else {
@@ -51,6 +53,7 @@ fn by_subsets<O: Sink>(
     requires work { job.now.head.work ≡ Subsets }
     ensures ends { EndsJob job.now (O.written out.old) (O.written out.new) (out.new ≡ out.old) result }
     ensures fault { IsErrOf result JobStop.WriteFault → Rose (O.faults out.old) (O.faults out.new) }
+    ensures same { ¬ (IsErrOf result JobStop.WriteFault) → O.faults out.new ≡ O.faults out.old }
     ensures later { O.faults out.old ≤ O.faults out.new }
 {
     if !job.head.root.key().is_empty() {
@@ -77,6 +80,7 @@ fn by_subtrees<O: Sink>(
     requires work { job.now.head.work ≡ Subtrees }
     ensures ends { EndsJob job.now (O.written out.old) (O.written out.new) (out.new ≡ out.old) result }
     ensures fault { IsErrOf result JobStop.WriteFault → Rose (O.faults out.old) (O.faults out.new) }
+    ensures same { ¬ (IsErrOf result JobStop.WriteFault) → O.faults out.new ≡ O.faults out.old }
     ensures later { O.faults out.old ≤ O.faults out.new }
 {
     match SubtreeWork::new(alloc, cone, job.head.root) {
@@ -95,8 +99,10 @@ fn reply_by<W: Work, O: Sink>(work: &mut W, job: &Job, out: &mut O) -> Result<Co
     requires file { IsOfAFile job.now }
     requires begins { MayBegin (search_of job.now) }
     requires work { W.is_of work.old (search_of job.now) }
+    requires asked { (w : W) (o : Passed) → W.is_of w (search_of job.now) → IsDueInWork W.Work w job.now o → IsDueInJob job.now o }
     ensures ends { EndsJob job.now (O.written out.old) (O.written out.new) (out.new ≡ out.old) result }
     ensures fault { IsErrOf result JobStop.WriteFault → Rose (O.faults out.old) (O.faults out.new) }
+    ensures same { ¬ (IsErrOf result JobStop.WriteFault) → O.faults out.new ≡ O.faults out.old }
     ensures later { O.faults out.old ≤ O.faults out.new }
 {
     match work.has_key(&job.head.key) {
@@ -111,9 +117,11 @@ fn run<W: Work, O: Sink>(work: &mut W, job: &Job, out: &mut O) -> Result<Count, 
     requires file { IsOfAFile job.now }
     requires begins { MayBegin (search_of job.now) }
     requires work { W.is_of work.old (search_of job.now) }
+    requires asked { (w : W) (o : Passed) → W.is_of w (search_of job.now) → IsDueInWork W.Work w job.now o → IsDueInJob job.now o }
     requires key { (s : Search) → W.is_of work.old s → Meaning.is_key (meaning_of s) job.now.head.key }
     ensures ends { EndsJob job.now (O.written out.old) (O.written out.new) (out.new ≡ out.old) result }
     ensures fault { IsErrOf result JobStop.WriteFault → Rose (O.faults out.old) (O.faults out.new) }
+    ensures same { ¬ (IsErrOf result JobStop.WriteFault) → O.faults out.new ≡ O.faults out.old }
     ensures later { O.faults out.old ≤ O.faults out.new }
 {
     if let Err(WriteFault) = write_reply_head(&job.head.key, out) {
@@ -135,9 +143,10 @@ fn run<W: Work, O: Sink>(work: &mut W, job: &Job, out: &mut O) -> Result<Count, 
 // A reply of nothing but its first line and the overflow.
 fn pass<O: Sink>(job: &Job, overflow: Overflow, out: &mut O) -> Result<Count, JobStop>
     requires file { IsOfAFile job.now }
-    requires passes { Passes job.now.poly overflow }
+    requires due { IsDueInJob job.now overflow }
     ensures ends { EndsJob job.now (O.written out.old) (O.written out.new) (out.new ≡ out.old) result }
     ensures fault { IsErrOf result JobStop.WriteFault → Rose (O.faults out.old) (O.faults out.new) }
+    ensures same { ¬ (IsErrOf result JobStop.WriteFault) → O.faults out.new ≡ O.faults out.old }
     ensures later { O.faults out.old ≤ O.faults out.new }
 {
     match write_alone(job, &overflow, out) {
@@ -151,6 +160,7 @@ fn starve<O: Sink>(job: &Job, out: &mut O) -> Result<Count, JobStop>
     requires head { HasHeadText job.now.head }
     ensures ends { EndsJob job.now (O.written out.old) (O.written out.new) (out.new ≡ out.old) result }
     ensures fault { IsErrOf result JobStop.WriteFault → Rose (O.faults out.old) (O.faults out.new) }
+    ensures same { ¬ (IsErrOf result JobStop.WriteFault) → O.faults out.new ≡ O.faults out.old }
     ensures later { O.faults out.old ≤ O.faults out.new }
 {
     match write_starved(job, out) {
@@ -176,7 +186,7 @@ fn write_end<O: Sink>(count: Count, out: &mut O) -> Result<(), WriteFault>
 
 // The last line of a run that an overflow stopped. A key's labels ascend, and it has room for them.
 fn write_passed<O: Sink>(overflow: &Overflow, out: &mut O) -> Result<(), WriteFault>
-    ensures prints { Prints O.Sink out.old out.new result (tail_text (Passed overflow.now)) }
+    ensures prints { Prints O.Sink out.old out.new result (tail_text (Passing overflow.now)) }
     ensures key { IsKey overflow.now.key }
 {
     let _labels = overflow.key.labels();
@@ -185,7 +195,7 @@ fn write_passed<O: Sink>(overflow: &Overflow, out: &mut O) -> Result<(), WriteFa
 
 // The first line of the reply, and the last: the overflow.
 fn write_alone<O: Sink>(job: &Job, overflow: &Overflow, out: &mut O) -> Result<(), WriteFault>
-    ensures prints { Prints O.Sink out.old out.new result (reply_head job.now.head.key ++ tail_text (Passed overflow.now)) }
+    ensures prints { Prints O.Sink out.old out.new result (reply_head job.now.head.key ++ tail_text (Passing overflow.now)) }
     ensures key { IsKey overflow.now.key }
 {
     let _labels = overflow.key.labels();

@@ -28,6 +28,7 @@ pub fn reply<O: Sink>(alloc: Global, text: &[u8], out: &mut O) -> Result<Count, 
     ensures read { IsErrOf result JobStop.ReadFault → ⊥ }
     ensures write { IsErrOf result JobStop.WriteFault → Rose (O.faults out.old) (O.faults out.new)
         × RepliesInPart (O.written out.old) (O.written out.new) text.now }
+    ensures writes { ¬ (IsErrOf result JobStop.WriteFault) → O.faults out.new ≡ O.faults out.old }
     ensures later { O.faults out.old ≤ O.faults out.new }
 {
     match read_job(alloc, text) {

@@ -1,6 +1,6 @@
 //! The plane, the quadrant, lines and a file whose products pass, by both works; bad jobs, and a sink that fails.
-use crate::reply;
-use poly_io::{Call, MemSink};
+use crate::{job, reply};
+use poly_io::{Call, MemSink, MemSource};
 use poly_model::Count;
 use std::test::Fail;
 use work_core::JobStop;
@@ -11,8 +11,9 @@ enum End {
     Done(u64, u64, u64),
     Bad(u64),
     Overflow,
-    Fault,
-    Other,
+    ReadFault,
+    WriteFault,
+    Memory,
 }
 
 /// A job text, what the calls of the sink do, and what is written.
@@ -107,7 +108,7 @@ const CASES: [Case; 12] = [
         text: "lrs-job 1 subsets\nroot 0\nkey 0\nbases 1\ndepth 0\ninput 39\nH-representation\nbegin\n0 3 integer\nend\n",
         calls: &[Call::AtMost(6), Call::Fail],
         reply: "reply ",
-        end: End::Fault,
+        end: End::WriteFault,
     },
 ];
 
@@ -122,7 +123,28 @@ fn replies(rt: HostRuntime) -> Result<(), Fail> {
             "{}",
             case.name
         );
+        let mut input = MemSource::new(case.text.as_bytes(), &[Call::AtMost(9), Call::AtMost(1)]);
+        let mut out = MemSink::new(rt.alloc(), case.calls);
+        let end = end_of(job(rt.alloc(), &mut input, &mut out));
+        assert_eq!(rt;
+            (end, out.written(), input.left()),
+            (case.end, case.reply.as_bytes(), b"".as_slice()),
+            "{}",
+            case.name
+        );
     }
+    Ok(())
+}
+
+#[test]
+fn says_that_the_source_fails(rt: HostRuntime) -> Result<(), Fail> {
+    let mut input = MemSource::new(b"lrs-job 1 subsets\n", &[Call::AtMost(3), Call::Fail]);
+    let mut out = MemSink::new(rt.alloc(), &[]);
+    let end = end_of(job(rt.alloc(), &mut input, &mut out));
+    assert_eq!(rt;
+        (end, out.written(), input.faults()),
+        (End::ReadFault, b"".as_slice(), 1)
+    );
     Ok(())
 }
 
@@ -131,7 +153,8 @@ fn end_of(answer: Result<Count, JobStop>) -> End {
         Ok(count) => End::Done(count.rows, count.jobs, count.bases),
         Err(JobStop::BadJob { place }) => End::Bad(place),
         Err(JobStop::Overflow(_)) => End::Overflow,
-        Err(JobStop::WriteFault) => End::Fault,
-        Err(JobStop::ReadFault | JobStop::Memory) => End::Other,
+        Err(JobStop::ReadFault) => End::ReadFault,
+        Err(JobStop::WriteFault) => End::WriteFault,
+        Err(JobStop::Memory) => End::Memory,
     }
 }

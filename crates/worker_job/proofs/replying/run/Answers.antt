@@ -1,4 +1,4 @@
-use Rattle.std.proofs.Common.{ap, Err}
+use Rattle.std.proofs.Common.{inr, ap, Err}
 use Rattle.job_text.specs.Rule.{search_of}
 use Rattle.worker_job.proofs.ReplyTexts.{head_in_part, run_in_part, ends_with, ends_in_part, stops_with, stops_in_part}
 use Rattle.worker_job.proofs.replying.run.Goals as goal
@@ -24,14 +24,16 @@ pub returns-in-Ok-write_passed-clause-ends : goal.returns-in-Ok-write_passed-cla
 returns-in-Ok-write_passed-clause-ends g c =
     let o = c.in-Err-Overflow.overflow in
     let stop = c.in-Err-Overflow.ensures.overflow o (ap Err c.in-Err-Overflow.field-0-is) (search_of c.args.job.now) c.requires.work in
-    stops_with _ c.requires.file c.requires.begins _ _ _ o c.write_passed.ensures.key stop.0.passes
+    stops_with _ c.requires.file c.requires.begins _ _ _ o c.write_passed.ensures.key
+    (c.requires.asked _ o c.requires.work (record { passes = stop.0.passes; asked = inr stop.0.asked }))
     c.in_default.ensures.whole stop.1 _ c.in-Ok-write_passed.ensures.prints.whole
 
 pub returns-in-Err-write_passed-clause-ends : goal.returns-in-Err-write_passed-clause-ends
 returns-in-Err-write_passed-clause-ends g c =
     let o = c.in-Err-Overflow.overflow in
     let stop = c.in-Err-Overflow.ensures.overflow o (ap Err c.in-Err-Overflow.field-0-is) (search_of c.args.job.now) c.requires.work in
-    stops_in_part _ c.requires.file c.requires.begins _ _ _ o c.write_passed.ensures.key stop.0.passes
+    stops_in_part _ c.requires.file c.requires.begins _ _ _ o c.write_passed.ensures.key
+    (c.requires.asked _ o c.requires.work (record { passes = stop.0.passes; asked = inr stop.0.asked }))
     c.in_default.ensures.whole stop.1 _ c.in-Err-write_passed.ensures.prints.part
 
 pub returns-in-Err-WriteFault-clause-ends : goal.returns-in-Err-WriteFault-clause-ends
