@@ -1,5 +1,5 @@
 -- Words with which clap finds no fault: no step of its walk over them fails.
-use Rattle.std.proofs.Common.{◌≡◌, ◌∷◌, [], Bool, true, false, List, codes, refl, sym, Option, Some, None, is_some, option_map, arith, true≢false}
+use Rattle.std.proofs.Common.{◌≡◌, ◌∷◌, [], Bool, List, refl, Option, is_some}
 use mathlib.Core.List.{cons≢nil}
 use Rattle.clap.specs.Words.{App, Kinds, Shape, Text, fault_of}
 use Rattle.clap.specs.Simple.{built, entered, names_of}

@@ -1,5 +1,5 @@
 -- What was found for the words of `demo`.
-use Rattle.std.proofs.Common.{◌≡◌, sym, ◌∙◌, ap, Option, Some, None, IfSome, IsNone}
+use Rattle.std.proofs.Common.{◌≡◌, sym, ◌∙◌, ap, Option, Some, None, IfSome}
 use Rattle.clap.specs.Words.{Text}
 use Rattle.example_polys.specs.declared.kind.ExampleKind.{ExampleKind}
 use Rattle.command_line.specs.Lines.{word_of}

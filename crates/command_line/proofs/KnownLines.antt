@@ -5,18 +5,26 @@ use Rattle.clap.specs.declared.error.kind.ErrorKind.TheVariants.{InvalidSubcomma
 use Rattle.clap.proofs.OnLiterals.{clap_on_literals}
 use Rattle.example_polys.specs.declared.kind.ExampleKind.TheVariants.{Cube, Pyramid}
 use Rattle.command_line.specs.Lines.{AskFor, lrs_app}
-use Rattle.command_line.specs.declared.lines.Line.TheVariants.{Convert, Demo}
+use Rattle.command_line.specs.declared.lines.Line.TheVariants.{Convert, Job, Demo}
 
 -- ---- lines that are taken
 
-convert : AskFor (codes "convert" ∷ []) Convert
+pub convert : AskFor (codes "convert" ∷ []) Convert
 unfolding clap_on_literals
 convert = record { faultless = refl; rows = []; command = refl; says = tt }
 
 -- clap takes `--` where flags may stand, and here nothing follows it
-convert_dashes : AskFor (codes "convert" ∷ codes "--" ∷ []) Convert
+pub convert_dashes : AskFor (codes "convert" ∷ codes "--" ∷ []) Convert
 unfolding clap_on_literals
 convert_dashes = record { faultless = refl; rows = []; command = refl; says = tt }
+
+pub job : AskFor (codes "job" ∷ []) Job
+unfolding clap_on_literals
+job = record { faultless = refl; rows = []; command = refl; says = tt }
+
+pub job_dashes : AskFor (codes "job" ∷ codes "--" ∷ []) Job
+unfolding clap_on_literals
+job_dashes = record { faultless = refl; rows = []; command = refl; says = tt }
 
 demo : AskFor (codes "demo" ∷ codes "cube" ∷ codes "16" ∷ []) (Demo Cube 16)
 unfolding clap_on_literals
@@ -64,6 +72,10 @@ large_letters = refl
 empty_word : fault_of lrs_app ([] ∷ []) ≡ stray
 unfolding clap_on_literals
 empty_word = refl
+
+large_letter : fault_of lrs_app (codes "Job" ∷ []) ≡ stray
+unfolding clap_on_literals
+large_letter = refl
 
 one_dash : fault_of lrs_app (codes "-" ∷ []) ≡ stray
 unfolding clap_on_literals
@@ -117,6 +129,18 @@ convert_empty_word = refl
 convert_dashes_twice : fault_of lrs_app (codes "convert" ∷ codes "--" ∷ codes "--" ∷ []) ≡ unknown
 unfolding clap_on_literals
 convert_dashes_twice = refl
+
+job_word : fault_of lrs_app (codes "job" ∷ codes "x" ∷ []) ≡ unknown
+unfolding clap_on_literals
+job_word = refl
+
+job_help : fault_of lrs_app (codes "job" ∷ codes "--help" ∷ []) ≡ unknown
+unfolding clap_on_literals
+job_help = refl
+
+job_dashes_twice : fault_of lrs_app (codes "job" ∷ codes "--" ∷ codes "--" ∷ []) ≡ unknown
+unfolding clap_on_literals
+job_dashes_twice = refl
 
 -- `demo` wants two words, and the second is a number from 1 to 20
 demo_alone : fault_of lrs_app (codes "demo" ∷ []) ≡ MissingRequiredArgument ∷ []

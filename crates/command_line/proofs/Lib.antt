@@ -3,6 +3,6 @@ pub mod InRange
 mod FoundWords
 mod FaultlessLines
 mod WordlessCommands
-mod ConvertLines
-pub mod OneLines
 mod KnownLines
+mod WordlessLines
+pub mod OneLines

@@ -1,12 +1,11 @@
 -- Words ask for one line at most.
-use Rattle.std.proofs.Common.{◌≡◌, ℕ, List, codes, refl, sym, ap, ap₂, subst, ◌∙◌, Some, get_or, arith}
-use Rattle.std.specs.Prelude.{option_and_then}
-use Rattle.clap.specs.Words.{Row, Text, first_of, subcommand_of}
+use Rattle.std.proofs.Common.{◌≡◌, ℕ, List, refl, sym, ap, ap₂, subst, ◌∙◌, Some, get_or, arith}
+use Rattle.clap.specs.Words.{Row, Text}
 use Rattle.example_polys.specs.declared.kind.ExampleKind.{ExampleKind}
 use Rattle.example_polys.specs.declared.kind.ExampleKind.TheVariants.{Cube, Cross, Product, Pyramid}
-use Rattle.command_line.specs.Lines.{AskFor, Says, lrs_app, name_of, number_within, word_of}
+use Rattle.command_line.specs.Lines.{AskFor, Says, name_of, word_of}
 use Rattle.command_line.specs.declared.lines.Line.{Line}
-use Rattle.command_line.specs.declared.lines.Line.TheVariants.{Convert, Demo}
+use Rattle.command_line.specs.declared.lines.Line.TheVariants.{Convert, Job, Demo}
 use Rattle.command_line.proofs.FoundWords.{same_some}
 
 one_kind : (a b : ExampleKind) → word_of a ≡ word_of b → a ≡ b
@@ -36,8 +35,13 @@ same_rows p q e = ap (λ (x : Text × List Row). x.1) (same_some p q e)
 by_name : (one other : Line) → name_of one ≡ name_of other → (rows : List Row) → Says rows one → Says rows other →
     one ≡ other
 by_name Convert Convert e rows a b = refl
+by_name Convert Job e rows a b = absurd (cc)
 by_name Convert (Demo k n) e rows a b = absurd (cc)
+by_name Job Convert e rows a b = absurd (cc)
+by_name Job Job e rows a b = refl
+by_name Job (Demo k n) e rows a b = absurd (cc)
 by_name (Demo k n) Convert e rows a b = absurd (cc)
+by_name (Demo k n) Job e rows a b = absurd (cc)
 by_name (Demo k n) (Demo l m) e rows a b =
     ap₂ (λ (x : ExampleKind) (y : ℕ). Demo x y) (one_kind k l (same_some (word_of k) (word_of l) (sym a.0 ∙ b.0)))
     (same_some n m (sym a.1 ∙ b.1))

@@ -47,7 +47,7 @@ value_is_stray s h step is_value none = go s.is_leaf (subst (λ x. step_fault (b
     go false e = cons≢nil e
 
 -- what a first word is, by the command that it names
-abbrev step_by : Text → Option Text → Held × Step
+abbrev pub step_by : Text → Option Text → Held × Step
 step_by word met = subcommand_or_other [] met idle 1 word nothing_held
 
 -- what it is where it names none, by whether it is `--`

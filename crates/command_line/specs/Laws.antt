@@ -1,9 +1,9 @@
 -- What is known of the lines.
 use Rattle.std.specs.Prelude.{◌≡◌, ◌⊎◌, ◌↔◌, ◌≤◌, ⊤, List, [], ◌∷◌, codes}
 use Rattle.clap.specs.Words.{Text}
-use Rattle.command_line.specs.Lines.{AskFor}
+use Rattle.command_line.specs.Lines.{AskFor, name_of}
 use Rattle.command_line.specs.declared.lines.Line.{Line}
-use Rattle.command_line.specs.declared.lines.Line.TheVariants.{Convert, Demo}
+use Rattle.command_line.specs.declared.lines.Line.TheVariants.{Convert, Job, Demo}
 
 -- the words ask for one line at most
 abbrev pub AskForOneLine : Type 0
@@ -12,15 +12,23 @@ AskForOneLine = (words : List Text) (one other : Line) → AskFor words one → 
 -- the number of a line is one that its command takes
 abbrev pub IsInRange : Line → Type 0
 IsInRange Convert = ⊤
+IsInRange Job = ⊤
 IsInRange (Demo kind n) = (1 ≤ n) × (n ≤ 20)
 
 abbrev pub AskedIsInRange : Type 0
 AskedIsInRange = (words : List Text) (line : Line) → AskFor words line → IsInRange line
 
--- the words are `convert`, alone or with the mark `--` behind it, which says that no flag follows
-abbrev pub IsConvert : List Text → Type 0
-IsConvert words = (words ≡ codes "convert" ∷ []) ⊎ (words ≡ codes "convert" ∷ codes "--" ∷ [])
+-- the words are this name, alone or with the mark `--` behind it, which says that no flag follows
+abbrev pub IsAlone : Text → List Text → Type 0
+IsAlone name words = (words ≡ name ∷ []) ⊎ (words ≡ name ∷ codes "--" ∷ [])
 
--- these ask for the line `Convert`, and no others do
+-- such words with the name of the line's command ask for the line, and no others do
+abbrev pub IsAskedAlone : Line → Type 0
+IsAskedAlone line = (words : List Text) → AskFor words line ↔ IsAlone (name_of line) words
+
+-- so it is of each command without words of its own
 abbrev pub ConvertIsExact : Type 0
-ConvertIsExact = (words : List Text) → AskFor words Convert ↔ IsConvert words
+ConvertIsExact = IsAskedAlone Convert
+
+abbrev pub JobIsExact : Type 0
+JobIsExact = IsAskedAlone Job

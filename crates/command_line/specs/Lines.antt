@@ -7,7 +7,7 @@ use Rattle.clap.specs.declared.builder.value_parser.ValueParser.TheVariants as p
 use Rattle.example_polys.specs.declared.kind.ExampleKind.{ExampleKind}
 use Rattle.example_polys.specs.declared.kind.ExampleKind.TheVariants.{Cube, Cross, Product, Pyramid}
 use Rattle.command_line.specs.declared.lines.Line.{Line}
-use Rattle.command_line.specs.declared.lines.Line.TheVariants.{Convert, Demo}
+use Rattle.command_line.specs.declared.lines.Line.TheVariants.{Convert, Job, Demo}
 
 -- ---- the commands
 
@@ -38,15 +38,18 @@ number_rule = record (new_rule (codes "N")) { required = true; parser = Some (pa
 abbrev pub demo_app : App
 demo_app = with_rule (with_rule (new_app (codes "demo")) kind_rule) number_rule
 
--- the program: its commands are `convert` and `demo`
+-- the program: its commands are `convert`, `job` and `demo`
 abbrev pub lrs_app : App
-lrs_app = with_subcommand (with_subcommand base_app (plain_app (codes "convert")).top) demo_app.top
+lrs_app = with_subcommand
+    (with_subcommand (with_subcommand base_app (plain_app (codes "convert")).top) (plain_app (codes "job")).top)
+    demo_app.top
 
 -- ---- the lines
 
 -- the name of the command that a line asks for
 abbrev pub name_of : Line → Text
 name_of Convert = codes "convert"
+name_of Job = codes "job"
 name_of (Demo kind n) = codes "demo"
 
 -- the word for a family of examples
@@ -64,6 +67,7 @@ number_within least most text =
 -- what clap found for the words of a command is what the line says
 abbrev pub Says : List Row → Line → Type 0
 Says rows Convert = ⊤
+Says rows Job = ⊤
 Says rows (Demo kind n) =
     (first_of (codes "KIND") rows ≡ Some (word_of kind))
     × (option_and_then (number_within 1 20) (first_of (codes "N") rows) ≡ Some n)

@@ -13,7 +13,8 @@ pub(crate) fn lrs_command<'a>(alloc: Global) -> Result<Command<'a>, AllocError>
     ensures { IfOk result (λ c. app_of c ≡ lrs_app) }
 {
     let converts = with_command(base_command(alloc), plain_command(alloc, "convert"))?;
-    with_command(converts, demo_command(alloc)?)
+    let jobs = with_command(converts, plain_command(alloc, "job"))?;
+    with_command(jobs, demo_command(alloc)?)
 }
 
 // The program without a command. It has no flag of its own, and nothing asks it for help or a version.

@@ -1,5 +1,5 @@
 //! Laws of the lines: contracts of functions with an empty body.
-ghost use Rattle.command_line.specs.Laws.{AskForOneLine, AskedIsInRange, ConvertIsExact};
+ghost use Rattle.command_line.specs.Laws.{AskForOneLine, AskedIsInRange, ConvertIsExact, JobIsExact};
 
 /// The words ask for one line at most.
 pub fn asks_for_one_line()
@@ -14,4 +14,9 @@ pub fn asked_is_in_range()
 /// The words that ask for `Line::Convert`, written out: `convert`, alone or with one `--` behind it.
 pub fn convert_is_exact()
     ensures { ConvertIsExact }
+{}
+
+/// The words that ask for `Line::Job`, by the same rule: `job`, alone or with one `--` behind it.
+pub fn job_is_exact()
+    ensures { JobIsExact }
 {}

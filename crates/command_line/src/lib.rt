@@ -9,5 +9,5 @@ mod lines;
 #[cfg(test)]
 mod tests;
 
-pub use laws::{asked_is_in_range, asks_for_one_line, convert_is_exact};
+pub use laws::{asked_is_in_range, asks_for_one_line, convert_is_exact, job_is_exact};
 pub use lines::{Line, LineStop, read_line};

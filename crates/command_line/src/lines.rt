@@ -15,6 +15,8 @@ use std::alloc::Global;
 pub enum Line {
     /// A file from the input, its listing to the output.
     Convert,
+    /// A job text from the input, its reply to the output.
+    Job,
     /// The example of a family at `n`, and what its listing comes to.
     Demo { kind: ExampleKind, n: u32 },
 }
@@ -78,6 +80,8 @@ fn line_named(name: &str, given: &ArgMatches) -> Option<Line>
 {
     if name == "convert" {
         Some(Line::Convert)
+    } else if name == "job" {
+        Some(Line::Job)
     } else if name == "demo" {
         demo_line(given)
     } else {

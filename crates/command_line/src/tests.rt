@@ -30,6 +30,14 @@ fn reads_lines(rt: HostRuntime) -> Result<(), Fail> {
             read: Ok(Line::Convert),
         },
         Row {
+            words: &["job"],
+            read: Ok(Line::Job),
+        },
+        Row {
+            words: &["job", "--"],
+            read: Ok(Line::Job),
+        },
+        Row {
             words: &["demo", "cross", "20"],
             read: Ok(Line::Demo {
                 kind: ExampleKind::Cross,
@@ -55,6 +63,13 @@ fn reads_lines(rt: HostRuntime) -> Result<(), Fail> {
         refused(&[]),
         refused(&["convert", "convert"]),
         refused(&["convert", "x"]),
+        refused(&["job", "x"]),
+        refused(&["job", "--help"]),
+        refused(&["job", "job"]),
+        refused(&["job", "--", "--"]),
+        refused(&["convert", "job"]),
+        refused(&["Job"]),
+        refused(&["jobs"]),
         refused(&["fly"]),
         refused(&["run"]),
         refused(&["conv"]),

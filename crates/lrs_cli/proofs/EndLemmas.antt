@@ -7,8 +7,8 @@ use Rattle.poly_reader.specs.declared.bad.BadFile.{BadFile as Fault}
 use Rattle.poly_reader.specs.Reading.{reading}
 use Rattle.convert_core.specs.Listed.{IsDueInSearch}
 use Rattle.lrs_cli.specs.declared.status.Status.{Status}
-use Rattle.lrs_cli.specs.declared.status.Status.TheVariants.{Done, Usage, BadFile, Infeasible, Overflow, ReadFault, WriteFault, OutOfMemory}
-use Rattle.lrs_cli.specs.Answers.{Told, Knows, HasNoObstacle, IsBadFile, HasOverflow, ComesOfPolyhedron, Ends}
+use Rattle.lrs_cli.specs.declared.status.Status.TheVariants.{Done, Usage, BadFile, BadJob, Infeasible, Overflow, ReadFault, WriteFault, OutOfMemory}
+use Rattle.lrs_cli.specs.Answers.{WhereTold, Knows, HasNoObstacle, IsBadFile, HasOverflow, ComesOfPolyhedron, Ends}
 
 same_ok : (p q : Polyhedron) → ◌≡◌ {A = Result Polyhedron Fault} (Ok p) (Ok q) → p ≡ q
 same_ok p q e = cc
@@ -20,11 +20,11 @@ not_both p f e = cc
 same_polyhedron : (text : List ℕ) (p q : Polyhedron) → reading text ≡ Ok p → reading text ≡ Ok q → p ≡ q
 same_polyhedron text p q a b = same_ok p q (sym a ∙ b)
 
-pub not_bad : (source : Option (List ℕ)) → Knows source HasNoObstacle → (f : Fault) → Told source (IsBadFile f) → ⊥
+pub not_bad : (source : Option (List ℕ)) → Knows source HasNoObstacle → (f : Fault) → WhereTold source (IsBadFile f) → ⊥
 not_bad None k f t = k
 not_bad (Some text) k f t = not_both k.polyhedron f (sym k.read ∙ t)
 
-not_overflow : (source : Option (List ℕ)) → Knows source HasNoObstacle → (o : Passed) → Told source (HasOverflow o) → ⊥
+not_overflow : (source : Option (List ℕ)) → Knows source HasNoObstacle → (o : Passed) → WhereTold source (HasOverflow o) → ⊥
 not_overflow None k o t = k
 not_overflow (Some text) k o t =
     k.holds o (subst (λ p. IsDueInSearch p o) (same_polyhedron text t.polyhedron k.polyhedron t.read k.read) t.holds)
@@ -32,7 +32,7 @@ not_overflow (Some text) k o t =
 -- of a polyhedron's answers those are left that end
 module _ (source : Option (List ℕ)) (known : Knows source HasNoObstacle) where
   pub ends : (s : Status) → ComesOfPolyhedron s → (s ≡ WriteFault → ⊥) →
-      ((o : Passed) → s ≡ Overflow o → Told source (HasOverflow o)) → Ends s
+      ((o : Passed) → s ≡ Overflow o → WhereTold source (HasOverflow o)) → Ends s
   ends (Done rows lines) l w d = tt
   ends Infeasible l w d = tt
   ends OutOfMemory l w d = tt
@@ -40,4 +40,5 @@ module _ (source : Option (List ℕ)) (known : Knows source HasNoObstacle) where
   ends WriteFault l w d = absurd (w refl)
   ends Usage l w d = absurd l
   ends (BadFile x) l w d = absurd l
+  ends (BadJob place) l w d = absurd l
   ends ReadFault l w d = absurd l

@@ -9,7 +9,7 @@ use Rattle.poly_reader.specs.Limits.{most_file_bytes}
 use Rattle.poly_reader.specs.Reading.{reading, IsFileOf}
 use Rattle.poly_reader.specs.Taking.{FindsPolyhedron, FindsFault}
 use Rattle.poly_model.specs.Systems.{Polyhedron}
-use Rattle.lrs_cli.specs.Answers.{Told, Describes, IsBadFile}
+use Rattle.lrs_cli.specs.Answers.{WhereTold, Describes, IsBadFile}
 
 abbrev too_long : BadFile
 too_long = record { kind = TooLong; line = 0 }
@@ -31,21 +31,21 @@ fault_of_all : (text rest : List ℕ) (f : BadFile) → (rest ≡ []) ⊎ (lengt
 fault_of_all text rest f (inl end) e = rw (end, append-nil text) e
 fault_of_all text rest f (inr long) e = fault_of_long text rest f long e
 
-pub fault_of_source : (old new : Option (List ℕ)) (f : BadFile) → FindsFault old new f → Told old (IsBadFile f)
+pub fault_of_source : (old new : Option (List ℕ)) (f : BadFile) → FindsFault old new f → WhereTold old (IsBadFile f)
 fault_of_source None new f h = tt
 fault_of_source (Some whole) None f h = absurd h.taken
 fault_of_source (Some whole) (Some rest) f h = rw h.taken (fault_of_all h.text rest f h.enough h.read)
 
 -- the polyhedron that was found is that of all that the source had
 pub text_of_source : (old new : Option (List ℕ)) (p : Polyhedron) → FindsPolyhedron old new p →
-    Told old (λ text. IsFileOf text p)
+    WhereTold old (λ text. IsFileOf text p)
 text_of_source None new p h = tt
 text_of_source (Some whole) None p h = absurd h.taken
 text_of_source (Some whole) (Some rest) p h = rw (h.taken, h.ends, append-nil p.text) h.read
 
 -- what holds of the polyhedron of a text
 pub described : (P : Polyhedron → Type 0) (p : Polyhedron) (source : Option (List ℕ)) →
-    Told source (λ text. IsFileOf text p) → P p →
-    Told source (Describes P)
+    WhereTold source (λ text. IsFileOf text p) → P p →
+    WhereTold source (Describes P)
 described P p None t h = tt
 described P p (Some text) t h = record { polyhedron = p; read = t; holds = h }

@@ -4,3 +4,4 @@ pub mod AnswerLemmas
 pub mod ThroughLemmas
 pub mod DemoLemmas
 pub mod LineLemmas
+pub mod JobLemmas

@@ -1,11 +1,12 @@
 -- The answer to words: that to the line that they ask for, or why there is none.
-use Rattle.std.proofs.Common.{◌≡◌, ◌+◌, ℕ, List, [], Option, refl, subst, arith}
+use Rattle.std.proofs.Common.{◌≡◌, ◌+◌, inl, ℕ, List, [], Option, refl, subst, arith}
 use Rattle.std.proofs.KnownBytes.{Consumes-nil}
 use Rattle.command_line.specs.declared.lines.Line.{Line}
-use Rattle.command_line.specs.declared.lines.Line.TheVariants.{Convert, Demo}
+use Rattle.command_line.specs.declared.lines.Line.TheVariants.{Convert, Job, Demo}
 use Rattle.command_line.specs.Lines.{IsAccepted, AskFor}
 use Rattle.command_line.proofs.OneLines.{one_line}
 use Rattle.example_polys.specs.Examples.{example_of}
+use Rattle.job_text.specs.Limits.{most_job_bytes}
 use Rattle.poly_io.specs.Taken.{TakesAtMost}
 use Rattle.poly_reader.specs.Limits.{most_file_bytes}
 use Rattle.lrs_cli.specs.declared.status.Status.{Status}
@@ -29,6 +30,7 @@ module _ (before : Streams) (Unread Unwritten : Type 0) (unread : Unread) (unwri
     stopped = λ s. absurd s;
     printed = λ s. absurd s;
     bad_file = λ f e. absurd (cc);
+    no_job = λ place e. absurd (cc);
     read_fault = λ e. absurd (cc);
     reads = λ n. refl;
     write_fault = λ e. absurd (cc);
@@ -38,7 +40,11 @@ module _ (before : Streams) (Unread Unwritten : Type 0) (unread : Unread) (unwri
   }
 
   line_memory : (line : Line) → AnswersLine line before before Unread Unwritten OutOfMemory
-  line_memory Convert = convert_memory
+  line_memory Convert = (none_taken before.left (most_file_bytes + 1), convert_memory)
+  line_memory Job = (
+    none_taken before.left (most_job_bytes + 1),
+    record { comes = inl unwritten; reads = λ n. refl; writes = λ n. refl },
+  )
   line_memory (Demo kind n) = (
     unread,
     answers_memory (example_of kind n) before.written before.written before.write_faults before.write_faults Unwritten
@@ -51,7 +57,6 @@ module _ (before : Streams) (Unread Unwritten : Type 0) (unread : Unread) (unwri
     accepted = λ u m. absurd (m refl);
     unasked = λ n. (unread, unwritten);
     line = λ line asked. line_memory line;
-    taken = none_taken before.left (most_file_bytes + 1);
   }
 
   pub words_usage : (words : List (List ℕ)) → ¬ (IsAccepted words) → Answers words before before Unread Unwritten Usage
@@ -60,18 +65,16 @@ module _ (before : Streams) (Unread Unwritten : Type 0) (unread : Unread) (unwri
     accepted = λ u m. absurd (u refl);
     unasked = λ n. (unread, unwritten);
     line = λ line asked. absurd (none (line, asked));
-    taken = none_taken before.left (most_file_bytes + 1);
   }
 
 -- the line that the words ask for was answered
 pub words_line : (words : List (List ℕ)) (line : Line) → AskFor words line → (before after : Streams) (Unread Unwritten : Type 0)
     (answer : Status) → (answer ≡ Usage → ⊥) → AnswersLine line before after Unread Unwritten answer →
-    TakesAtMost before.left after.left (most_file_bytes + 1) → Answers words before after Unread Unwritten answer
-words_line words line asked before after Unread Unwritten answer never answers taken = record {
+    Answers words before after Unread Unwritten answer
+words_line words line asked before after Unread Unwritten answer never answers = record {
   usage = λ e. absurd (never e);
   accepted = λ u m. (line, asked);
   unasked = λ n. absurd (n (line, asked));
   line = λ other also. subst (λ (l : Line). AnswersLine l before after Unread Unwritten answer)
       (one_line words line other asked also) answers;
-  taken = taken;
 }

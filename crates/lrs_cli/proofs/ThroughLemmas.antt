@@ -1,6 +1,6 @@
 -- The answer of `convert` through a buffer: what holds of the buffered sink, and of its end, holds of the sink below it.
-use Rattle.std.proofs.Common.{◌≡◌, ℕ, List, [], Option, None, Some, Result, Ok, Err, OnOk, OnErr, IsOk, arith, inl, inr, refl, sym, subst, ◌∙◌}
-use Rattle.std.specs.Io.KnownBytes.{Appends, Keeps}
+use Rattle.std.proofs.Common.{◌≡◌, ℕ, List, Option, None, Some, Result, Ok, Err, OnOk, OnErr, IsOk, arith, inl, inr, refl, sym, subst, ◌∙◌}
+use Rattle.std.specs.Io.KnownBytes.{Keeps}
 use Rattle.std.proofs.KnownBytes.{Appends-kept}
 use Rattle.poly_io.proofs.Parts.{part_of_all}
 use Rattle.poly_io.specs.Causes.{Rose, HasCause}
@@ -8,14 +8,14 @@ use Rattle.poly_io.specs.Written.{AppendsPart}
 use Rattle.poly_model.specs.Systems.{Polyhedron, cone_of}
 use Rattle.poly_model.specs.Extreme.{IsFeasible}
 use Rattle.lrs_cli.specs.declared.status.Status.{Status}
-use Rattle.lrs_cli.specs.declared.status.Status.TheVariants.{Done, Usage, BadFile, Infeasible, Overflow, ReadFault, WriteFault, OutOfMemory}
-use Rattle.lrs_cli.specs.Answers.{Told, Describes, WritesWhole, WritesPart, IsPartlyListed, IsFeasibleFile, WritesNothing}
+use Rattle.lrs_cli.specs.declared.status.Status.TheVariants.{Done, Usage, BadFile, BadJob, Infeasible, Overflow, ReadFault, WriteFault, OutOfMemory}
+use Rattle.lrs_cli.specs.Answers.{WhereTold, Describes, WritesWhole, WritesPart, IsPartlyListed, IsFeasibleFile, WritesNothing}
 use Rattle.lrs_cli.specs.Streams.{Streams, streams}
 use Rattle.lrs_cli.specs.Convert.{AnswersConvert}
 
 -- a fact of a described polyhedron gives another
 told_also : (left : Option (List ℕ)) (P Q : Polyhedron → Type 0) → ((p : Polyhedron) → P p → Q p) →
-    Told left (λ t. Describes P t) → Told left (λ t. Describes Q t)
+    WhereTold left (λ t. Describes P t) → WhereTold left (λ t. Describes Q t)
 told_also None P Q f d = tt
 told_also (Some t) P Q f d = record { polyhedron = d.polyhedron; read = d.read; holds = f d.polyhedron d.holds }
 
@@ -51,6 +51,7 @@ through_ok left after_left reads after_reads old told new faults mid_faults new_
       }) (h.stopped s);
       printed = λ s. elim (h.printed s) [ inl u ↦ inl (f u) | inr d ↦ inr d ];
       bad_file = h.bad_file;
+      no_job = h.no_job;
       read_fault = h.read_fault;
       reads = h.reads;
       write_fault = λ e. rw same (h.write_fault e);
@@ -61,7 +62,7 @@ through_ok left after_left reads after_reads old told new faults mid_faults new_
 
 -- what the buffered sink tells, whatever the answer was, where something was written
 partly : (before mid : Streams) (U : Type 0) (status : Status) → AnswersConvert before mid U status → (U → ⊥) →
-    Told before.left (IsPartlyListed before.written mid.written)
+    WhereTold before.left (IsPartlyListed before.written mid.written)
 partly before mid U (Done rows lines) h never =
     let old = before.written in
     let told = mid.written in
@@ -75,12 +76,13 @@ partly before mid U WriteFault h never = h.stopped tt
 partly before mid U Infeasible h never = absurd (never (h.unwritten tt))
 partly before mid U OutOfMemory h never = absurd (never (h.unwritten tt))
 partly before mid U (BadFile f) h never = absurd (never (h.unwritten tt))
+partly before mid U (BadJob place) h never = absurd (never (h.unwritten tt))
 partly before mid U Usage h never = absurd (never (h.unwritten tt))
 partly before mid U ReadFault h never = absurd (never (h.unwritten tt))
 
 -- then the file has a point
 feasible : (before mid : Streams) (U : Type 0) (status : Status) → AnswersConvert before mid U status → (U → ⊥) →
-    Told before.left IsFeasibleFile
+    WhereTold before.left IsFeasibleFile
 feasible before mid U (Done rows lines) h never =
     told_also before.left (WritesWhole before.written mid.written rows lines) (λ p. IsFeasible (cone_of p))
     (λ p w. w.feasible) (h.done rows lines refl).1
@@ -89,6 +91,7 @@ feasible before mid U WriteFault h never = elim (h.printed tt) [ inl u ↦ absur
 feasible before mid U Infeasible h never = absurd (never (h.unwritten tt))
 feasible before mid U OutOfMemory h never = absurd (never (h.unwritten tt))
 feasible before mid U (BadFile f) h never = absurd (never (h.unwritten tt))
+feasible before mid U (BadJob place) h never = absurd (never (h.unwritten tt))
 feasible before mid U Usage h never = absurd (never (h.unwritten tt))
 feasible before mid U ReadFault h never = absurd (never (h.unwritten tt))
 
@@ -106,6 +109,7 @@ through_err before mid after U W status h never same part rose = record {
       (partly before mid U status h never);
   printed = λ s. inr (feasible before mid U status h never);
   bad_file = λ f e. absurd (cc);
+  no_job = λ place e. absurd (cc);
   read_fault = λ e. absurd (cc);
   reads = λ n. same ∙ h.reads (λ e. never (h.unwritten (subst WritesNothing (sym e) tt)));
   write_fault = λ e. rose;
@@ -130,6 +134,8 @@ rose_since before mid U (Done rows lines) c h r =
 rose_since before mid U (Overflow o) c h r =
     rose_after before.write_faults mid.write_faults c (h.writes (λ e. cc)) r
 rose_since before mid U (BadFile f) c h r =
+    rose_after before.write_faults mid.write_faults c (h.writes (λ e. cc)) r
+rose_since before mid U (BadJob place) c h r =
     rose_after before.write_faults mid.write_faults c (h.writes (λ e. cc)) r
 rose_since before mid U Infeasible c h r = rose_after before.write_faults mid.write_faults c (h.writes (λ e. cc)) r
 rose_since before mid U OutOfMemory c h r = rose_after before.write_faults mid.write_faults c (h.writes (λ e. cc)) r

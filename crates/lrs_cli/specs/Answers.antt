@@ -11,12 +11,12 @@ use Rattle.poly_reader.specs.Reading.{IsFileOf, IsFirstFault}
 use Rattle.row_printer.specs.Listings.{IsCountedListing}
 use Rattle.convert_core.specs.Listed.{IsDueInSearch}
 use Rattle.lrs_cli.specs.declared.status.Status.{Status}
-use Rattle.lrs_cli.specs.declared.status.Status.TheVariants.{Done, Usage, BadFile, Infeasible, Overflow, ReadFault, WriteFault, OutOfMemory}
+use Rattle.lrs_cli.specs.declared.status.Status.TheVariants.{Done, Usage, BadFile, BadJob, Infeasible, Overflow, ReadFault, WriteFault, OutOfMemory}
 
 -- a fact about bytes, where they are told
-abbrev pub Told : Option (List ℕ) → (List ℕ → Type 0) → Type 0
-Told None P = ⊤
-Told (Some bytes) P = P bytes
+abbrev pub WhereTold : Option (List ℕ) → (List ℕ → Type 0) → Type 0
+WhereTold None P = ⊤
+WhereTold (Some bytes) P = P bytes
 
 -- a fact about bytes, which are told
 abbrev pub Knows : Option (List ℕ) → (List ℕ → Type 0) → Type 0
@@ -74,6 +74,7 @@ Ends OutOfMemory = Unit {0}
 Ends (Overflow o) = ⊥
 Ends WriteFault = ⊥
 Ends (BadFile f) = ⊥
+Ends (BadJob place) = ⊥
 Ends Usage = ⊥
 Ends ReadFault = ⊥
 
@@ -89,6 +90,7 @@ ComesOfPolyhedron (Overflow o) = Unit {0}
 ComesOfPolyhedron WriteFault = Unit {0}
 ComesOfPolyhedron OutOfMemory = Unit {0}
 ComesOfPolyhedron (BadFile f) = ⊥
+ComesOfPolyhedron (BadJob place) = ⊥
 ComesOfPolyhedron Usage = ⊥
 ComesOfPolyhedron ReadFault = ⊥
 
@@ -100,6 +102,7 @@ StopsListing (Done rows lines) = ⊥
 StopsListing Infeasible = ⊥
 StopsListing OutOfMemory = ⊥
 StopsListing (BadFile f) = ⊥
+StopsListing (BadJob place) = ⊥
 StopsListing Usage = ⊥
 StopsListing ReadFault = ⊥
 
@@ -111,5 +114,6 @@ WritesNothing WriteFault = ⊥
 WritesNothing Infeasible = Unit {0}
 WritesNothing OutOfMemory = Unit {0}
 WritesNothing (BadFile f) = Unit {0}
+WritesNothing (BadJob place) = Unit {0}
 WritesNothing Usage = Unit {0}
 WritesNothing ReadFault = Unit {0}

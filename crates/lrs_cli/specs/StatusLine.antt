@@ -4,7 +4,7 @@ use Rattle.poly_reader.specs.declared.bad.BadKind.{BadKind}
 use Rattle.poly_reader.specs.declared.bad.BadKind.TheVariants as kinds
 use Rattle.row_printer.specs.OverflowText.{overflow_text}
 use Rattle.lrs_cli.specs.declared.status.Status.{Status}
-use Rattle.lrs_cli.specs.declared.status.Status.TheVariants.{Done, Usage, BadFile, Infeasible, Overflow as Overflowed, ReadFault, WriteFault, OutOfMemory}
+use Rattle.lrs_cli.specs.declared.status.Status.TheVariants.{Done, Usage, BadFile, BadJob, Infeasible, Overflow as Overflowed, ReadFault, WriteFault, OutOfMemory}
 
 -- the name of what is wrong with a file
 abbrev pub kind_text : BadKind → List ℕ
@@ -34,6 +34,7 @@ status_text (Done rows lines) =
 status_text Usage = codes "lrs: usage: lrs convert / run LEDGER / resume LEDGER / status LEDGER / job / demo KIND N\n"
 status_text (BadFile bad) =
     codes "lrs: bad file: " ++ (kind_text bad.kind ++ (codes " at line " ++ (decimal bad.line ++ codes "\n")))
+status_text (BadJob place) = codes "lrs: bad job: line " ++ (decimal place ++ codes "\n")
 status_text Infeasible = codes "lrs: infeasible\n"
 status_text (Overflowed o) = codes "lrs: overflow " ++ (overflow_text o ++ codes "\n")
 status_text ReadFault = codes "lrs: read fault\n"
@@ -48,4 +49,5 @@ status_number Infeasible = 4
 status_number (Overflowed o) = 5
 status_number ReadFault = 6
 status_number WriteFault = 7
+status_number (BadJob place) = 13
 status_number OutOfMemory = 15

@@ -3,6 +3,7 @@
 
 mod convert;
 mod demo;
+mod job;
 mod process;
 mod status;
 #[cfg(test)]

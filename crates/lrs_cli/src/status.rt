@@ -11,12 +11,15 @@ use row_printer::write_overflow;
 /// How a call of the program ended.
 #[derive(Clone, Copy, PartialEq, Eq, Debug)]
 pub enum Status {
-    /// The listing was written whole: so many shown rows, and so many lines or equations before them.
+    /// What was asked for was written whole: so many shown rows, and so many lines or equations before them. Of a reply the
+    /// rows are its own, and the lines none.
     Done { rows: u64, lines: u32 },
     /// The words are no command of this program.
     Usage,
     /// The input describes no polyhedron: what is wrong first, and on which line.
     BadFile(BadFile),
+    /// The input is no job that can be run: which of its lines is the first that is wrong, 7 for the file behind them.
+    BadJob { place: u64 },
     /// No point satisfies the rows of the input.
     Infeasible,
     /// A product that the listing needs does not fit 127 bits and a sign.
@@ -42,6 +45,7 @@ impl Status {
             Status::Overflow(_) => 5,
             Status::ReadFault => 6,
             Status::WriteFault => 7,
+            Status::BadJob { .. } => 13,
             Status::OutOfMemory => 15,
         }
     }
@@ -59,6 +63,7 @@ pub fn status_line<S: Sink>(status: &Status, out: &mut S) -> Result<(), WriteFau
             b"lrs: usage: lrs convert / run LEDGER / resume LEDGER / status LEDGER / job / demo KIND N\n",
         ),
         Status::BadFile(bad) => bad_file_line(*bad, out),
+        Status::BadJob { place } => bad_job_line(*place, out),
         Status::Infeasible => write_all(out, b"lrs: infeasible\n"),
         Status::Overflow(overflow) => overflow_line(overflow, out),
         Status::ReadFault => write_all(out, b"lrs: read fault\n"),
@@ -84,6 +89,14 @@ fn bad_file_line<S: Sink>(bad: BadFile, out: &mut S) -> Result<(), WriteFault>
     write_kind(bad.kind, out)?;
     write_all(out, b" at line ")?;
     write_count(bad.line, out)?;
+    write_all(out, b"\n")
+}
+
+fn bad_job_line<S: Sink>(place: u64, out: &mut S) -> Result<(), WriteFault>
+    ensures { Prints S.Sink out.old out.new result (status_text (Status.BadJob place)) }
+{
+    write_all(out, b"lrs: bad job: line ")?;
+    write_count(place, out)?;
     write_all(out, b"\n")
 }
 

@@ -27,6 +27,7 @@ struct Case {
 enum End {
     Done(u64, u32),
     BadFile(BadKind, u64),
+    BadJob(u64),
     Overflow(Phase),
     Other(u8),
 }
@@ -381,6 +382,74 @@ const DEMOS: [Case; 10] = [
     },
 ];
 
+/// A job of the plane without rows.
+const PLANE_JOB: Case = Case {
+    name: "a job of the plane, by subsets",
+    words: &["job"],
+    file: "lrs-job 1 subsets\nroot 0\nkey 0\nbases 1\ndepth 0\ninput 39\nH-representation\nbegin\n0 3 integer\nend\n",
+    reads: &[],
+    writes: &[],
+    end: End::Done(1, 0),
+    written: "reply 0\nrow 1 0 0\nend 1 0 1\n",
+};
+
+const JOBS: [Case; 9] = [
+    PLANE_JOB,
+    Case {
+        name: "a job of the plane, by subtrees",
+        file: "lrs-job 1 subtrees\nroot 0\nkey 0\nbases 1\ndepth 0\ninput 39\nH-representation\nbegin\n0 3 integer\nend\n",
+        ..PLANE_JOB
+    },
+    Case {
+        name: "a reply in one write: the next would fail",
+        writes: &[Call::AtMost(usize::MAX), Call::Fail],
+        ..PLANE_JOB
+    },
+    Case {
+        name: "a sink that takes 8 bytes, and then fails",
+        writes: &[Call::AtMost(8), Call::Fail],
+        end: End::Other(7),
+        written: "reply 0\n",
+        ..PLANE_JOB
+    },
+    Case {
+        name: "a job whose source fails",
+        reads: &[Call::AtMost(40), Call::Fail],
+        end: End::Other(6),
+        written: "",
+        ..PLANE_JOB
+    },
+    Case {
+        name: "a key with the label of no row",
+        file: "lrs-job 1 subsets\nroot 0\nkey 1 9\nbases 1\ndepth 0\ninput 39\nH-representation\nbegin\n0 3 integer\nend\n",
+        end: End::BadJob(3),
+        written: "",
+        ..PLANE_JOB
+    },
+    Case {
+        name: "a byte behind the file",
+        file: "lrs-job 1 subsets\nroot 0\nkey 0\nbases 1\ndepth 0\ninput 39\nH-representation\nbegin\n0 3 integer\nend\n\n",
+        end: End::BadJob(7),
+        written: "",
+        ..PLANE_JOB
+    },
+    Case {
+        name: "a job whose products pass",
+        file: "lrs-job 1 subsets\nroot 0\nkey 0\nbases 9\ndepth 0\ninput 111\nH-representation\nbegin\n2 3 integer\n\
+         1 1267650600228229401496703205376 1\n1 1 1267650600228229401496703205376\nend\n",
+        end: End::Overflow(Phase::Cone),
+        written: "reply 0\noverflow cone 3 1 x1 x2 2,x1 x0,x2 x0,x1 2,x2\n",
+        ..PLANE_JOB
+    },
+    Case {
+        name: "job job",
+        words: &["job", "job"],
+        end: USAGE,
+        written: "",
+        ..PLANE_JOB
+    },
+];
+
 const ONE: Call = Call::AtMost(1);
 
 const STOPPED: [Case; 13] = [
@@ -518,6 +587,7 @@ fn end_of(status: &Status) -> End {
     match status {
         Status::Done { rows, lines } => End::Done(*rows, *lines),
         Status::BadFile(bad) => End::BadFile(bad.kind, bad.line),
+        Status::BadJob { place } => End::BadJob(*place),
         Status::Overflow(overflow) => End::Overflow(overflow.phase),
         other => End::Other(other.number()),
     }
@@ -530,6 +600,7 @@ fn answers_calls(rt: HostRuntime) -> Result<(), Fail> {
         .iter()
         .chain(&WITHOUT_A_LISTING)
         .chain(&DEMOS)
+        .chain(&JOBS)
         .chain(&STOPPED);
     for case in cases {
         let mut input = MemSource::new(case.file.as_bytes(), case.reads);
@@ -538,6 +609,28 @@ fn answers_calls(rt: HostRuntime) -> Result<(), Fail> {
         let found = answered(alloc, end_of(&status), out.written())?;
         let want = answered(alloc, case.end, case.written.as_bytes())?;
         assert_eq!(rt; found, want, "{}", case.name);
+    }
+    Ok(())
+}
+
+#[test]
+fn a_job_text_without_its_end_writes_nothing(rt: HostRuntime) -> Result<(), Fail> {
+    let whole = PLANE_JOB.file.as_bytes();
+    let lines = [18, 25, 31, 39, 47, 56];
+    for len in 0..whole.len() {
+        let mut input = MemSource::new(&whole[..len], &[]);
+        let (status, out) = lrs(
+            rt.alloc(),
+            &["job"],
+            &mut input,
+            MemSink::new(rt.alloc(), &[]),
+        );
+        let place = lines.iter().filter(|end| **end <= len).count() as u64 + 1;
+        assert_eq!(rt;
+            (end_of(&status), out.written()),
+            (End::BadJob(place), b"".as_slice()),
+            "{len}"
+        );
     }
     Ok(())
 }
@@ -625,6 +718,7 @@ fn prints_status_lines(rt: HostRuntime) -> Result<(), Fail> {
             "lrs: bad file: WideNumber at line 12\n",
         ),
         (Status::Infeasible, "lrs: infeasible\n"),
+        (Status::BadJob { place: 7 }, "lrs: bad job: line 7\n"),
     ];
     for (status, line) in rows {
         let mut out = MemSink::new(rt.alloc(), &[]);

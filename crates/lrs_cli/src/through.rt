@@ -40,8 +40,8 @@ fn convert_over<B: Base, I: Source, O: Sink>(alloc: Global, input: &mut I, out: 
     (ended(status, end), out)
 }
 
-// A fault at the end of the output is a write fault.
-fn ended(status: Status, end: Result<(), WriteFault>) -> Status
+/// A fault at the end of the output is a write fault.
+pub(crate) fn ended(status: Status, end: Result<(), WriteFault>) -> Status
     ensures ok { OnOk end (result ≡ status) }
     ensures err { OnErr end (result ≡ Status.WriteFault) }
 {

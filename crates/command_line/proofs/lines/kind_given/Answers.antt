@@ -1,4 +1,4 @@
-use Rattle.std.proofs.Common.{◌≡◌, codes, sym, ◌∙◌, Some, None}
+use Rattle.std.proofs.Common.{◌≡◌, codes, ◌∙◌, Some, None}
 use Rattle.clap.specs.Words.{found_of}
 use Rattle.clap.proofs.WalkLemmas.{first_value-rows}
 use Rattle.command_line.proofs.FoundWords.{kind_found, same_some}

@@ -31,6 +31,7 @@ returns-in-Ok-clause-answers g c =
       printed = λ s. ⊎_elim (λ k. inl k)
           (λ f. inr (described (λ p. IsFeasible (cone_of p)) poly source text f)) (listing.printed s);
       bad_file = λ f e. absurd (subst ComesOfPolyhedron e listing.lists);
+      no_job = λ place e. absurd (subst ComesOfPolyhedron e listing.lists);
       read_fault = λ e. absurd (subst ComesOfPolyhedron e listing.lists);
       reads = λ n. c.in-Ok.ensures.same (λ e. cc);
       write_fault = listing.write_fault;
