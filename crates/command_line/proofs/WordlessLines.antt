@@ -10,7 +10,7 @@ use Rattle.clap.specs.Walk.{Walk, after_step, idle, nothing_held, subcommand_met
 use Rattle.clap.specs.Faults.{entered_fault, level_fault}
 use Rattle.clap.proofs.WalkLemmas.{walk_stopped}
 use Rattle.clap.proofs.OnLiterals.{clap_on_literals}
-use Rattle.command_line.specs.Laws.{ConvertIsExact, IsAlone, IsAskedAlone, JobIsExact}
+use Rattle.command_line.specs.Laws.{ConvertIsExact, IsNameAlone, IsAskedAlone, JobIsExact}
 use Rattle.command_line.specs.Lines.{AskFor, lrs_app, name_of, plain_app}
 use Rattle.command_line.specs.declared.lines.Line.{Line}
 use Rattle.command_line.specs.declared.lines.Line.TheVariants.{Convert, Job}
@@ -107,7 +107,7 @@ words_of name (word ∷ rest) none =
     inr (ap₂ (λ (x : Text) (xs : List Text). x ∷ xs) both.0 both.1)
 
 behind_name : (name : Text) → IsWordless name → (words : List Text) → IsFaultless (name ∷ words) →
-    IsAlone name (name ∷ words)
+    IsNameAlone name (name ∷ words)
 behind_name name is words faultless =
     let below = (faultless_passes (name ∷ words) faultless).entered in
     let taken = words_of name words (sym (is.below words)
@@ -119,18 +119,18 @@ behind_name name is words faultless =
 
 -- what asks for its line is its name, or its name and `--`
 alone_words : (line : Line) → IsWordless (name_of line) → (words : List Text) → AskFor words line →
-    IsAlone (name_of line) words
+    IsNameAlone (name_of line) words
 alone_words line is [] asked = absurd (no_command [] (inl refl) asked.faultless)
 alone_words line is (word ∷ rest) asked =
     let names : FirstNames word rest = faultless_names word rest asked.faultless (bytes_eq convert word) refl
     (bytes_eq job word) refl (bytes_eq demo word) refl in
     let is_name : name_of line ≡ word = same_some (name_of line) word (sym (ap name_in asked.command) ∙ names) in
-    subst (λ w. IsFaultless (w ∷ rest) → IsAlone (name_of line) (w ∷ rest)) is_name
+    subst (λ w. IsFaultless (w ∷ rest) → IsNameAlone (name_of line) (w ∷ rest)) is_name
     (behind_name (name_of line) is rest) asked.faultless
 
 -- and these ask for it, where they do so written out
 alone_is_line : (line : Line) → AskFor (name_of line ∷ []) line → AskFor (name_of line ∷ dashes ∷ []) line →
-    (words : List Text) → IsAlone (name_of line) words → AskFor words line
+    (words : List Text) → IsNameAlone (name_of line) words → AskFor words line
 alone_is_line line alone marked words (inl is) = subst (λ ws. AskFor ws line) (sym is) alone
 alone_is_line line alone marked words (inr is) = subst (λ ws. AskFor ws line) (sym is) marked
 

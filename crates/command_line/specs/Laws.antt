@@ -19,12 +19,12 @@ abbrev pub AskedIsInRange : Type 0
 AskedIsInRange = (words : List Text) (line : Line) → AskFor words line → IsInRange line
 
 -- the words are this name, alone or with the mark `--` behind it, which says that no flag follows
-abbrev pub IsAlone : Text → List Text → Type 0
-IsAlone name words = (words ≡ name ∷ []) ⊎ (words ≡ name ∷ codes "--" ∷ [])
+abbrev pub IsNameAlone : Text → List Text → Type 0
+IsNameAlone name words = (words ≡ name ∷ []) ⊎ (words ≡ name ∷ codes "--" ∷ [])
 
 -- such words with the name of the line's command ask for the line, and no others do
 abbrev pub IsAskedAlone : Line → Type 0
-IsAskedAlone line = (words : List Text) → AskFor words line ↔ IsAlone (name_of line) words
+IsAskedAlone line = (words : List Text) → AskFor words line ↔ IsNameAlone (name_of line) words
 
 -- so it is of each command without words of its own
 abbrev pub ConvertIsExact : Type 0
