@@ -3,6 +3,7 @@ pub mod Subsets
 pub mod Searches
 pub mod Splits
 pub mod ReplyLines
+pub mod Calls
 pub mod Laws
 pub mod Walks
 pub mod Shown

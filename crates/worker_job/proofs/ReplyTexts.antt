@@ -25,7 +25,8 @@ use Rattle.job_text.specs.declared.reply.Tail.{Tail}
 use Rattle.job_text.specs.declared.reply.Tail.TheVariants.{End, Overflow, Memory}
 use Rattle.job_text.specs.KeyTexts.{IsKeyLabel}
 use Rattle.job_text.specs.Jobs.{HasHeadText}
-use Rattle.job_text.specs.Replies.{reply_head, tail_text, IsReplyLine, EndsLines}
+use Rattle.job_text.specs.LineTexts.{IsReplyLine}
+use Rattle.job_text.specs.Replies.{reply_head, tail_text, EndsLines}
 use Rattle.job_text.specs.Rule.{search_of, Obeys, IsReply}
 use Rattle.job_text.proofs.PassesLemmas.{passing_has_text}
 use Rattle.worker_job.specs.Due.{IsDueBy, IsDueInJob}

@@ -1,4 +1,4 @@
--- Overflows of a job that are due: a product passes, and it is that of a pivot which its work cannot do without.
+-- Of which pivot an overflow of a job is: by subtrees of one that the job cannot do without, by subsets of any in the cone.
 use Rattle.std.specs.Prelude.{◌⊎◌, ℕ, List}
 use Rattle.poly_model.specs.declared.kind.WorkKind.{WorkKind}
 use Rattle.poly_model.specs.declared.kind.WorkKind.TheVariants.{Subsets, Subtrees}

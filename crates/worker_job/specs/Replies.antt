@@ -26,8 +26,8 @@ abbrev pub IsBadStart : Job → ℕ → Type 0
 IsBadStart job place =
     ((place ≡ 2) × (MayBegin (search_of job) → ⊥)) ⊎ ((place ≡ 3) × MayBegin (search_of job) × (HasItsKey job → ⊥))
 
--- a reply may end so: in `end` where a search may begin at the root and the key is one of the work, in an overflow that is
--- due; in want of memory any may
+-- a reply may end so: in `end` where a search may begin at the root and the key is one of the work, in an overflow of a pivot
+-- that its work may ask for; in want of memory any may
 abbrev pub MayEnd : Tail → Job → Type 0
 MayEnd (End count) job = MayBegin (search_of job) × HasItsKey job
 MayEnd (Overflow o) job = IsDueInJob job o

@@ -1,5 +1,5 @@
 //! The call that the program ships to its workers.
-ghost use Rattle.std.specs.Prelude.{◌≡◌, ◌⊎◌, ◌≤◌, ◌<◌, ◌^◌, ℕ, length, IfOk, IsErrOf};
+ghost use Rattle.std.specs.Prelude.{◌≡◌, ◌⊎◌, ◌≤◌, ℕ, IfOk, IsErrOf};
 ghost use Rattle.poly_io.specs.Causes.{Rose};
 ghost use Rattle.poly_model.specs.declared.overflow.Overflow.{Overflow as Passed};
 ghost use Rattle.job_text.specs.Rule.{IsReplyFor};
@@ -38,14 +38,6 @@ pub fn reply<O: Sink>(alloc: Global, text: &[u8], out: &mut O) -> Result<Count, 
     }
 }
 
-// How many bytes a text has.
-fn bytes_of(text: &[u8]) -> usize
-    ensures value { result ≡ length text.now }
-    ensures range { length text.now < 2 ^ 64 }
-{
-    text.len()
-}
-
 /// Writes the reply of a job text.
 pub struct ShippedJob {
     alloc: Global,
@@ -61,8 +53,9 @@ impl ShippedJob {
 impl JobCall for ShippedJob {
     ghost allows = { IsReplyFor };
 
+    ghost is_bad = { IsBadJob };
+
     fn call<S: Sink>(&mut self, text: &[u8], out: &mut S) -> Result<Count, JobStop> {
-        let _bytes = bytes_of(text);
         reply(self.alloc, text, out)
     }
 }

@@ -1,16 +1,19 @@
-use Rattle.worker_job.proofs.Allowed.{whole_of, part_of_result}
+use Rattle.std.proofs.Common.{inl, inr}
+use Rattle.job_text.specs.declared.reply.Tail.TheVariants.{Overflow, Memory}
+use Rattle.worker_job.proofs.Allowed.{whole, part, whole_of_result}
 use Rattle.worker_job.proofs.shipped.ShippedJobJobCall.call.Goals as goal
 
-pub returns-clause-whole : goal.returns-clause-whole
-returns-clause-whole g c = whole_of c.args.text.now c.bytes_of-bytes.ensures.range _ _ c.reply.result c.reply.ensures.done
+pub returns-clause-done : goal.returns-clause-done
+returns-clause-done g c = whole_of_result c.args.text.now _ _ c.reply.result c.reply.ensures.done
 
-pub returns-clause-part : goal.returns-clause-part
-returns-clause-part g c =
-    part_of_result c.args.text.now c.bytes_of-bytes.ensures.range _ _ c.reply.result _
-    (record {
-      bad = λ place e. (c.reply.ensures.bad place e).1;
-      overflow = c.reply.ensures.overflow;
-      read = c.reply.ensures.read;
-      write = λ e. (c.reply.ensures.write e).1;
-      memory = c.reply.ensures.memory;
-    })
+pub returns-clause-overflow : goal.returns-clause-overflow
+returns-clause-overflow g c o e = whole c.args.text.now _ _ (Overflow o) (c.reply.ensures.overflow o e)
+
+pub returns-clause-memory : goal.returns-clause-memory
+returns-clause-memory g c e = elim (c.reply.ensures.memory e) [
+  | inl unwritten ↦ inl unwritten
+  | inr replies ↦ inr (whole c.args.text.now _ _ Memory replies)
+]
+
+pub returns-clause-write : goal.returns-clause-write
+returns-clause-write g c e = let w = c.reply.ensures.write e in (w.0, part c.args.text.now _ _ w.1)
