@@ -13,7 +13,7 @@ use Rattle.work_core.specs.ReplyLines.{row_line, job_line}
 use Rattle.job_text.specs.KeyTexts.{HasKeyText}
 use Rattle.row_printer.specs.OverflowText.{overflow_text}
 use Rattle.job_text.specs.Overflows.{HasOverflowText}
-use Rattle.job_text.specs.Replies.{IsReplyLine}
+use Rattle.job_text.specs.LineTexts.{IsReplyLine}
 use Rattle.job_text.specs.declared.keyword.Keyword.{Keyword}
 use Rattle.job_text.specs.declared.keyword.Keyword.TheVariants.{Row, Job, End, Overflow, Memory}
 use Rattle.job_text.specs.declared.reply.Tail.TheVariants as tails

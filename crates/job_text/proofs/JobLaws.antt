@@ -1,5 +1,5 @@
 -- A job text is one job.
-use Rattle.std.proofs.Common.{◌≡◌, ◌<◌, ◌^◌, ℕ, List, [], ◌∷◌, ◌++◌, length, refl, sym, ap, ◌∙◌, arith, append-nil, length-append, Result, Ok, Err}
+use Rattle.std.proofs.Common.{◌≡◌, ◌<◌, ◌^◌, ℕ, List, [], ◌∷◌, ◌++◌, length, refl, sym, ap, ◌∙◌, arith, append-nil}
 use Rattle.std.specs.Prelude.{codes, decimal}
 use Rattle.plain_text.specs.Cuts.{Lacks}
 use Rattle.plain_text.proofs.CutLemmas.{one_line, lacks_tested}
@@ -8,14 +8,15 @@ use Rattle.poly_model.specs.declared.kind.WorkKind.{WorkKind}
 use Rattle.poly_model.specs.declared.kind.WorkKind.TheVariants.{Subsets, Subtrees}
 use Rattle.poly_model.specs.LabelText.{key_text}
 use Rattle.poly_model.specs.Systems.{Polyhedron}
-use Rattle.poly_reader.specs.declared.bad.BadFile.{BadFile}
-use Rattle.poly_reader.specs.Reading.{reading}
+use Rattle.poly_reader.specs.Reading.{reading, IsOfItsText}
+use Rattle.poly_reader.proofs.ReadingLaws.{one_reading}
 use Rattle.job_text.specs.KeyTexts.{HasKeyText}
 use Rattle.job_text.specs.declared.job.Job.{Job}
 use Rattle.job_text.specs.declared.job.JobHead.{JobHead}
-use Rattle.job_text.specs.Jobs.{work_line, root_line, key_line, bases_line, depth_line, input_line, five_lines, HasHeadText, IsJobText}
+use Rattle.job_text.specs.Jobs.{work_line, five_lines, HasHeadText, IsJobText}
 use Rattle.job_text.proofs.KeyTextLemmas.{key_front_tells}
 use Rattle.job_text.proofs.JobLineLemmas.{work_lacks, word_and_key_lack, word_and_count_lack, same_behind}
+use Rattle.job_text.proofs.LengthLemmas.{file_is_short}
 
 work_tells : (v w : WorkKind) → work_line v ≡ work_line w → v ≡ w
 work_tells Subsets Subsets e = refl
@@ -24,7 +25,7 @@ work_tells Subsets Subtrees e = absurd (omega (arith, ap (λ (l : List ℕ). len
 work_tells Subtrees Subsets e = absurd (omega (arith, ap (λ (l : List ℕ). length l) e))
 
 -- a word and a key, cut off as a line
-key_cut : (word a b x y : List ℕ) → Lacks 10 word → HasKeyText a → HasKeyText b
+pub key_cut : (word a b x y : List ℕ) → Lacks 10 word → HasKeyText a → HasKeyText b
     → (word ++ key_text a) ++ 10 ∷ x ≡ (word ++ key_text b) ++ 10 ∷ y → (a ≡ b) × (x ≡ y)
 key_cut word a b x y lacks p q e =
     let cut = one_line (word ++ key_text a) x (word ++ key_text b) y (word_and_key_lack word a lacks p) (word_and_key_lack word b lacks q) e in (
@@ -33,7 +34,7 @@ key_cut word a b x y lacks p q e =
       cut.1,
     )
 
-count_cut : (word : List ℕ) (m n : ℕ) (x y : List ℕ) → Lacks 10 word → m < 2 ^ 64 → n < 2 ^ 64
+pub count_cut : (word : List ℕ) (m n : ℕ) (x y : List ℕ) → Lacks 10 word → m < 2 ^ 64 → n < 2 ^ 64
     → (word ++ decimal m) ++ 10 ∷ x ≡ (word ++ decimal n) ++ 10 ∷ y → (m ≡ n) × (x ≡ y)
 count_cut word m n x y lacks p q e =
     let cut = one_line (word ++ decimal m) x (word ++ decimal n) y (word_and_count_lack word m lacks p) (word_and_count_lack word n lacks q) e in
@@ -58,41 +59,18 @@ one_head a b x y p q e =
       depth.1,
     )
 
-polyhedron_or : Polyhedron → Result Polyhedron BadFile → Polyhedron
-polyhedron_or p (Ok q) = q
-polyhedron_or p (Err f) = p
+-- polyhedra of one text are the same
+pub one_polyhedron : (p q : Polyhedron) → IsOfItsText p → IsOfItsText q → p.text ≡ q.text → p ≡ q
+one_polyhedron p q own also same = (one_reading q.text).one_polyhedron p q (ap reading (sym same) ∙ own) also
 
--- a text of no more bytes than a machine may have is one job
-pub one_job : (a b : Job) (text : List ℕ) → length text < 2 ^ 64 → IsJobText a text → IsJobText b text → a ≡ b
-unfolding polyhedron_or
-one_job a b text small u w =
+-- a text is one job
+pub one_job : (a b : Job) (text : List ℕ) → IsJobText a text → IsJobText b text → a ≡ b
+one_job a b text u w =
     let cut = one_head a.head b.head _ _ u.head w.head (sym u.is_text ∙ w.is_text) in
     let file = count_cut (codes "input ") (length a.poly.text) (length b.poly.text) a.poly.text b.poly.text
-    (lacks_tested 10 (codes "input ") refl) (within a u) (within b w) cut.1 in
-    let same : a.poly ≡ b.poly =
-    ap (polyhedron_or a.poly) (sym u.file ∙ ap reading file.1 ∙ w.file) in
+    (lacks_tested 10 (codes "input ") refl) (within a text u) (within b text w) cut.1 in
+    let same : a.poly ≡ b.poly = one_polyhedron a.poly b.poly u.file w.file file.1 in
     λ i. record { head = cut.0 i; poly = same i }
   where
-    shorter : (line rest : List ℕ) → length rest < length (line ++ 10 ∷ rest)
-    shorter line rest = omega (arith, length-append line (10 ∷ rest))
-
-    within : (job : Job) → IsJobText job text → length job.poly.text < 2 ^ 64
-    within job h =
-        let head = job.head in
-        let file = job.poly.text in
-        let sixth = input_line (decimal (length file)) ++ 10 ∷ file in
-        let fifth = depth_line head.budget.depth ++ 10 ∷ sixth in
-        let fourth = bases_line head.budget.bases ++ 10 ∷ fifth in
-        let third = key_line head.key ++ 10 ∷ fourth in
-        let second = root_line head.root.key ++ 10 ∷ third in
-        omega (
-          arith,
-          small,
-          ap (λ (l : List ℕ). length l) h.is_text,
-          shorter (work_line head.work) second,
-          shorter (root_line head.root.key) third,
-          shorter (key_line head.key) fourth,
-          shorter (bases_line head.budget.bases) fifth,
-          shorter (depth_line head.budget.depth) sixth,
-          shorter (input_line (decimal (length file))) file,
-        )
+    within : (job : Job) (text : List ℕ) → IsJobText job text → length job.poly.text < 2 ^ 64
+    within job text h = omega (arith, file_is_short job.poly.text job.poly h.file)

@@ -40,19 +40,19 @@ use Rattle.job_text.proofs.LengthLemmas.{IsTold, file_is_short}
 
 -- ---- what can be found out
 
-abbrev Known : Type 0 → Type 0
+abbrev pub Known : Type 0 → Type 0
 Known P = P ⊎ (P → ⊥)
 
-both : {P Q : Type 0} → Known P → Known Q → Known (P × Q)
+pub both : {P Q : Type 0} → Known P → Known Q → Known (P × Q)
 both (inl p) (inl q) = inl (p, q)
 both (inl p) (inr n) = inr (λ h. n h.1)
 both (inr n) q = inr (λ h. n h.0)
 
-from_test : {P : Type 0} (r : Bool) → Decides r P → Known P
+pub from_test : {P : Type 0} (r : Bool) → Decides r P → Known P
 from_test true d = inl (d.0 refl)
 from_test false d = inr (not_from_Decides false d refl)
 
-same_texts : (a b : List ℕ) → Known (a ≡ b)
+pub same_texts : (a b : List ℕ) → Known (a ≡ b)
 same_texts a b = from_test _ (bytes_eq-Decides a b)
 
 is_below : (m n : ℕ) → Known (m < n)
@@ -62,7 +62,7 @@ is_below m n = elim (cases_lt m n) [
 ]
 
 -- a number below a bound
-abbrev Below : ℕ → (ℕ → Type 0) → Type 0
+abbrev pub Below : ℕ → (ℕ → Type 0) → Type 0
 Below bound P = (n : ℕ) × (n < bound) × P n
 
 below_more : (bound : ℕ) (P : ℕ → Type 0) → Known (P bound) → Known (Below bound P) → Known (Below (suc bound) P)
@@ -75,12 +75,12 @@ below_more bound P (inr never) (inr none) = inr (λ h.
       | inr le ↦ never (subst P (omega (arith, lt, le)) p)
     ])
 
-number_below : (bound : ℕ) (P : ℕ → Type 0) → ((n : ℕ) → Known (P n)) → Known (Below bound P)
+pub number_below : (bound : ℕ) (P : ℕ → Type 0) → ((n : ℕ) → Known (P n)) → Known (Below bound P)
 number_below zero P known = inr (λ h. let (n, lt, p) = h in omega (arith, lt))
 number_below (suc bound) P known = below_more bound P (known bound) (number_below bound P known)
 
 -- a list of not too many numbers below a bound
-abbrev Listed : ℕ → ℕ → (List ℕ → Type 0) → Type 0
+abbrev pub Listed : ℕ → ℕ → (List ℕ → Type 0) → Type 0
 Listed room bound P = (l : List ℕ) × (length l ≤ room) × AllByRecursion (λ x. x < bound) l × P l
 
 abbrev AsHead : ℕ → ℕ → (List ℕ → Type 0) → ℕ → Type 0
@@ -107,7 +107,7 @@ empty_listed : (bound : ℕ) (P : List ℕ → Type 0) → Known (P []) → Know
 empty_listed bound P (inl p) = inl ([], omega arith, tt, p)
 empty_listed bound P (inr never) = inr (λ h. let (l, le, all, p) = h in none_listed bound P never l le p)
 
-list_below : (room bound : ℕ) (P : List ℕ → Type 0) → ((l : List ℕ) → Known (P l)) → Known (Listed room bound P)
+pub list_below : (room bound : ℕ) (P : List ℕ → Type 0) → ((l : List ℕ) → Known (P l)) → Known (Listed room bound P)
 list_below zero bound P known = empty_listed bound P (known [])
 list_below (suc room) bound P known =
     listed_more room bound P (known [])
@@ -119,7 +119,7 @@ all_above : (x : ℕ) (l : List ℕ) → Known (AllByRecursion (λ y. x < y) l)
 all_above x [] = inl tt
 all_above x (y ∷ l) = both (is_below x y) (all_above x l)
 
-is_ascending : (l : List ℕ) → Known (IsAscending l)
+pub is_ascending : (l : List ℕ) → Known (IsAscending l)
 is_ascending [] = inl tt
 is_ascending (x ∷ l) = both (all_above x l) (is_ascending l)
 
@@ -361,7 +361,7 @@ reading_keeps text =
     keeps text (rows_from last opening.kind size.width marks size.words) _ (λ rows.
     keeps_own text (record { kind = opening.kind; n = size.width; rows = rows; text = text }) refl))))))))
 
-text_is_kept : (text : List ℕ) (p : Polyhedron) → IsFileOf text p → p.text ≡ text
+pub text_is_kept : (text : List ℕ) (p : Polyhedron) → IsFileOf text p → p.text ≡ text
 text_is_kept text p h = (reading_keeps text).kept p h
 
 abbrev JobOrBad : List ℕ → Type 0

@@ -1,9 +1,13 @@
 -- What five lines and a file say of a job text.
-use Rattle.std.proofs.Common.{◌≡◌, ◌≢◌, ◌<◌, ◌^◌, ◌⊎◌, ℕ, List, [], ◌∷◌, ◌++◌, length, Some, Ok, Err, Result, refl, sym, ap, ◌∙◌, subst, arith}
-use Rattle.std.specs.Prelude.{decimal}
+use Rattle.std.proofs.Common.{◌≡◌, ◌≢◌, ◌<◌, ◌^◌, ◌⊎◌, ℕ, List, [], ◌∷◌, ◌++◌, length, Some, Ok, Err, Result, refl, sym, ap, ◌∙◌, inl, subst, arith}
+use Rattle.std.specs.Prelude.{codes, decimal}
 use Rattle.std.specs.Result.{IsErrOf}
 use Rattle.plain_text.specs.Digits.{capped, decimal_of}
-use Rattle.plain_text.proofs.Decimals.{text_of_decimal}
+use Rattle.std.proofs.lemmas.Option.{same_Some}
+use Rattle.plain_text.specs.Cuts.{Lacks}
+use Rattle.plain_text.proofs.CutLemmas.{one_line, lacks_append, lacks_tested}
+use Rattle.plain_text.proofs.Decimals.{decimal_of_decimal, text_of_decimal}
+use Rattle.plain_text.proofs.NumberLemmas.{digits_have_none}
 use Rattle.poly_reader.specs.declared.bad.BadFile.{BadFile}
 use Rattle.poly_reader.specs.Reading.{IsFirstFault, IsOfItsText}
 use Rattle.poly_model.specs.Systems.{Polyhedron}
@@ -11,8 +15,8 @@ use Rattle.job_text.specs.declared.job.Job.{Job}
 use Rattle.job_text.specs.declared.job.JobHead.{JobHead}
 use Rattle.job_text.specs.declared.stops.JobReadStop.{JobReadStop}
 use Rattle.job_text.specs.declared.stops.JobReadStop.TheVariants.{Bad, Memory}
-use Rattle.job_text.specs.Jobs.{five_lines, root_line, key_line, bases_line, depth_line, input_line, HasHeadText, IsJobText, IsBadText, IsBadInput, IsBadLine, BeginsWithLines, first_line, second_line, third_line, fourth_line, fifth_line, sixth_line}
-use Rattle.job_text.proofs.JobLineLemmas.{work_begins, root_begins, key_begins, bases_begin, depth_begins, IsMissing}
+use Rattle.job_text.specs.Jobs.{five_lines, root_line, key_line, bases_line, depth_line, input_line, sized, HasHeadText, IsJobText, IsBadText, IsBadInput, IsBadLine, BeginsWithLines, first_line, second_line, third_line, fourth_line, fifth_line, sixth_line}
+use Rattle.job_text.proofs.JobLineLemmas.{work_begins, root_begins, key_begins, bases_begin, depth_begins, IsMissing, same_behind, word_and_count_lack}
 
 -- ---- the place that is answered
 
@@ -81,17 +85,32 @@ pub other_size : (rest file : List ℕ) (said : ℕ) (s : SaysSize rest file sai
     → length file ≢ s.size
 other_size rest file said s lt differ e = differ (omega (arith, s.is_said, e, lt))
 
+pub sized_is : (rest file : List ℕ) (said : ℕ) → SaysSize rest file said → length file < 2 ^ 64 → length file ≡ said
+    → rest ≡ sized file
+sized_is rest file said s lt same =
+    let size : s.size ≡ length file = omega (arith, s.is_said, same, lt) in
+    let digits : s.digits ≡ decimal (length file) =
+    text_of_decimal s.digits s.size s.says (omega (arith, size, lt)) ∙ ap decimal size in
+    s.split ∙ ap (λ (l : List ℕ). input_line l ++ 10 ∷ file) digits
+
+-- where a file of its own size stands there, it is this one
+pub said_of_sized : (rest file : List ℕ) (said : ℕ) → SaysSize rest file said → (other : List ℕ) → length other < 2 ^ 64
+    → rest ≡ sized other → length file ≡ said
+said_of_sized rest file said s other lt is =
+    let word : Lacks 10 (codes "input ") = lacks_tested 10 (codes "input ") refl in
+    let cut = one_line (input_line s.digits) file (input_line (decimal (length other))) other
+    (lacks_append 10 (codes "input ") s.digits word (digits_have_none 10 s.size s.digits s.says (inl (omega arith))))
+    (word_and_count_lack (codes "input ") (length other) word lt) (sym s.split ∙ is) in
+    let digits : s.digits ≡ decimal (length other) = same_behind (codes "input ") s.digits (decimal (length other)) cut.0 in
+    let size : Some s.size ≡ Some (length other) =
+    sym s.says ∙ ap decimal_of digits ∙ decimal_of_decimal (length other) (omega (arith, lt)) in
+    omega (arith, s.is_said, same_Some s.size (length other) size, lt, ap (λ (l : List ℕ). length l) cut.1)
+
 pub whole_job : (text rest file : List ℕ) (said : ℕ) (head : JobHead) (p : Polyhedron) → HasHeadText head
     → text ≡ five_lines head rest → SaysSize rest file said → length file < 2 ^ 64 → length file ≡ said → p.text ≡ file
     → IsOfItsText p → IsJobText (record { head = head; poly = p }) text
-whole_job text rest file said head p h is s lt same file_is own =
-    let size : s.size ≡ length p.text = omega (arith, s.is_said, same, lt, ap (λ (l : List ℕ). length l) file_is) in
-    let digits : s.digits ≡ decimal (length p.text) = text_of_decimal s.digits s.size s.says (omega (arith, size, lt, ap (λ (l : List ℕ). length l) file_is)) ∙ ap decimal size in
-    record {
-      head = h;
-      file = own;
-      is_text =
-          is ∙ ap (λ (l : List ℕ). five_lines head l)
-          (s.split ∙ ap (λ (l : List ℕ). input_line l ++ 10 ∷ file) digits
-          ∙ ap (λ (l : List ℕ). input_line (decimal (length p.text)) ++ 10 ∷ l) (sym file_is));
-    }
+whole_job text rest file said head p h is s lt same file_is own = record {
+  head = h;
+  file = own;
+  is_text = is ∙ ap (λ (l : List ℕ). five_lines head l) (sized_is rest file said s lt same ∙ ap sized (sym file_is));
+}

@@ -1,8 +1,8 @@
 -- A job text is short: its six lines have at most 8192 bytes, and its file no more than a file may have.
-use Rattle.std.proofs.Common.{◌≡◌, ◌≤◌, ◌+◌, ◌*◌, ℕ, List, [], ◌∷◌, ◌++◌, length, refl, sym, ap, ◌∙◌, subst, arith, inl, inr, true, Result, Ok, Err, length-append}
-use Rattle.std.specs.Prelude.{codes, decimal, nat_lt}
+use Rattle.std.proofs.Common.{◌≡◌, ◌≤◌, ◌+◌, ◌*◌, ℕ, List, [], ◌∷◌, ◌++◌, length, sym, ap, ◌∙◌, subst, arith, inl, inr, Result, Ok, Err, length-append}
+use Rattle.std.specs.Prelude.{codes, decimal}
 use Rattle.std.specs.List.{AllByRecursion}
-use Rattle.std.proofs.lemmas.Bool.{lt-ltb, cases_lt}
+use Rattle.std.proofs.lemmas.Bool.{cases_lt}
 use Rattle.std.proofs.lemmas.Fmt.{length-decimal-le}
 use Rattle.poly_model.specs.declared.kind.WorkKind.{WorkKind}
 use Rattle.poly_model.specs.declared.kind.WorkKind.TheVariants.{Subsets, Subtrees}
@@ -10,9 +10,9 @@ use Rattle.poly_model.specs.Labels.{coordinate_index}
 use Rattle.poly_model.specs.LabelText.{label_text, labels_text, key_text}
 use Rattle.poly_model.specs.Systems.{Polyhedron}
 use Rattle.poly_reader.specs.declared.bad.BadFile.{BadFile}
-use Rattle.poly_reader.specs.declared.bad.BadKind.TheVariants.{TooLong}
 use Rattle.poly_reader.specs.Limits.{most_file_bytes}
-use Rattle.poly_reader.specs.Reading.{reading, IsFileOf}
+use Rattle.poly_reader.specs.Reading.{IsFileOf}
+use Rattle.poly_reader.proofs.LongTexts.{too_long}
 use Rattle.job_text.specs.declared.job.Job.{Job}
 use Rattle.job_text.specs.Jobs.{work_line, root_line, key_line, bases_line, depth_line, input_line, IsJobText}
 use Rattle.job_text.specs.KeyTexts.{IsKeyLabel, HasKeyText}
@@ -50,13 +50,6 @@ key_is_short key h =
 
 -- ---- the file
 
-too_long : BadFile
-too_long = record { kind = TooLong; line = 0 }
-
-reading_of_long : (text : List ℕ) → nat_lt most_file_bytes (length text) ≡ true → reading text ≡ Err too_long
-unfolding reading too_long
-reading_of_long text e = rw e refl
-
 -- a polyhedron was read
 abbrev pub IsTold : Result Polyhedron BadFile → Type 0
 IsTold (Ok p) = Unit {0}
@@ -64,7 +57,7 @@ IsTold (Err f) = ⊥
 
 pub file_is_short : (text : List ℕ) (p : Polyhedron) → IsFileOf text p → length text ≤ most_file_bytes
 file_is_short text p h = elim (cases_lt most_file_bytes (length text)) [
-  | inl lt ↦ absurd (subst IsTold (sym h ∙ reading_of_long text (lt-ltb most_file_bytes (length text) lt)) tt)
+  | inl lt ↦ absurd (subst IsTold (sym h ∙ too_long text lt) tt)
   | inr le ↦ le
 ]
 

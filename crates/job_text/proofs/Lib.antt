@@ -15,5 +15,6 @@ pub mod LengthLemmas
 pub mod JobOrBadLemmas
 pub mod JobLineLemmas
 pub mod JobTextLemmas
-pub mod TableLemmas
+pub mod RowTextLemmas
+pub mod FirstPayloadLemmas
 pub mod KnownTexts

@@ -5,7 +5,8 @@ use Rattle.std.specs.List.{AllByRecursion}
 use Rattle.poly_model.specs.LabelText.{key_text}
 use Rattle.work_core.specs.ReplyLines.{ReplyLine, line_text, lines_text, rows_in_lines, keys_in_lines}
 use Rattle.job_text.specs.KeyTexts.{HasKeyText}
-use Rattle.job_text.specs.Replies.{IsReplyLine, IsTailAt, EndsLines, IsWholeReply, IsReplyFront, IsNotWhole, reply_head, tail_text}
+use Rattle.job_text.specs.LineTexts.{IsReplyLine}
+use Rattle.job_text.specs.Replies.{IsTailAt, EndsLines, IsWholeReply, IsReplyFront, IsNotWhole, reply_head, tail_text}
 use Rattle.job_text.specs.declared.reply.Reply.{Reply}
 use Rattle.job_text.specs.declared.reply.Tail.{Tail}
 use Rattle.job_text.specs.Fits.{said_text}

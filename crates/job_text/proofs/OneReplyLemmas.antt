@@ -12,7 +12,8 @@ use Rattle.plain_text.proofs.CutLemmas.{one_cut}
 use Rattle.row_printer.specs.OverflowText.{overflow_text}
 use Rattle.work_core.specs.ReplyLines.{ReplyLine, row_line, job_line, line_text, lines_text, rows_in_lines, keys_in_lines}
 use Rattle.job_text.specs.Overflows.{HasOverflowText}
-use Rattle.job_text.specs.Replies.{IsReplyLine, IsTailAt, IsWholeReply, reply_head, tail_text, end_words}
+use Rattle.job_text.specs.LineTexts.{IsReplyLine}
+use Rattle.job_text.specs.Replies.{IsTailAt, IsWholeReply, reply_head, tail_text, end_words}
 use Rattle.job_text.specs.declared.keyword.Keyword.TheVariants.{Row, Job, End, Overflow, Memory}
 use Rattle.job_text.specs.declared.reply.Reply.{Reply}
 use Rattle.job_text.specs.declared.reply.Tail.{Tail}

@@ -1,16 +1,15 @@
 -- The lines of a reply, scanned one by one.
-use Rattle.std.proofs.Common.{◌≡◌, ◌≢◌, ◌<◌, ◌+◌, ◌^◌, ℕ, List, [], ◌∷◌, ◌++◌, length, refl, sym, ap, ap₂, ◌∙◌, subst, inl, inr, arith, append_assoc, append-nil, length-append, add-one}
+use Rattle.std.proofs.Common.{◌≡◌, ◌≢◌, ◌<◌, ◌+◌, ◌^◌, ℕ, List, [], ◌∷◌, ◌++◌, length, refl, sym, ap, ◌∙◌, subst, inl, inr, arith, append_assoc, append-nil, length-append}
 use Rattle.std.specs.List.{AllByRecursion}
-use Rattle.std.proofs.Math.Nat.{suc-mul}
 use Rattle.plain_text.specs.Cuts.{Lacks, CutsLine}
 use Rattle.plain_text.proofs.ReadLemmas.{line_is, no_line}
 use Rattle.poly_num.specs.Vectors.{Vector}
 use Rattle.work_core.specs.ReplyLines.{ReplyLine, row_line, job_line, line_text, lines_text, rows_in_lines, keys_in_lines}
-use Rattle.job_text.specs.Replies.{IsReplyLine, IsTailAt, tail_text}
+use Rattle.job_text.specs.LineTexts.{IsReplyLine}
+use Rattle.job_text.specs.Replies.{IsTailAt, tail_text}
 use Rattle.job_text.specs.declared.reply.Tail.{Tail}
 use Rattle.job_text.specs.Fits.{Said, MaySay, said_text}
 use Rattle.job_text.specs.Scans.{Scanned, StopsScanAt}
-use Rattle.job_text.proofs.TableLemmas.{length-table_rows, rows_more}
 use Rattle.job_text.proofs.ReplyLemmas.{line_is_said, tail_is_said, said_behind, said_lacks, said_size}
 
 lines_push : (lines : List ReplyLine) (l : ReplyLine) → lines_text (lines ++ l ∷ []) ≡ lines_text lines ++ line_text l
@@ -42,10 +41,10 @@ keys_push_job [] key = refl
 keys_push_job (row_line w ∷ lines) key = keys_push_job lines key
 keys_push_job (job_line other ∷ lines) key = ap (λ (l : List (List ℕ)). other ∷ l) (keys_push_job lines key)
 
-module _ (n : ℕ) (text rest : List ℕ) (rows : ℕ) (cells : Vector) (keys : List (List ℕ)) (place : ℕ)
-    (s : Scanned n text rest rows cells keys place) where
+module _ (n : ℕ) (text rest : List ℕ) (rows : ℕ) (keys : List (List ℕ)) (place : ℕ)
+    (s : Scanned n text rest rows keys place) where
   rows_are : length (rows_in_lines s.lines) ≡ rows
-  rows_are = ap (λ (l : List Vector). length l) (sym s.table) ∙ length-table_rows n rows cells
+  rows_are = sym s.rows_are
 
   keys_count : length (keys_in_lines s.lines) ≡ length keys
   keys_count = ap (λ (l : List (List ℕ)). length l) (sym s.keys_are)
@@ -132,28 +131,29 @@ module _ (n : ℕ) (text rest : List ℕ) (rows : ℕ) (cells : Vector) (keys : 
         length-append (lines_text s.lines) (line_text l),
       )
 
-      pub row_scanned : (v grown : Vector) → IsReplyLine n (row_line v) → line ≡ said_text (inl (row_line v)) → grown ≡ cells ++ v
-          → Scanned n text behind (rows + 1) grown keys (place + length line + 1)
-      row_scanned v grown fit is e =
-          let long = length-append cells v in
-          rw (add-one, e) (record {
-            lines = s.lines ++ row_line v ∷ [];
-            fit = fit_push n s.lines (row_line v) s.fit fit;
-            split = line_split (row_line v) is;
-            table = rows_more n rows cells v s.full fit.0 ∙ ap (λ (l : List Vector). l ++ v ∷ []) s.table ∙ sym (rows_push_row s.lines v);
-            full = long ∙ ap₂ (λ (a b : ℕ). a + b) s.full fit.0 ∙ sym (suc-mul rows n);
-            keys_are = s.keys_are ∙ sym (keys_push_row s.lines v);
-            size = line_size (row_line v) is;
-          })
+      pub row_scanned : (v : Vector) → IsReplyLine n (row_line v) → line ≡ said_text (inl (row_line v))
+          → Scanned n text behind (rows + 1) keys (place + length line + 1)
+      row_scanned v fit is = record {
+        lines = s.lines ++ row_line v ∷ [];
+        fit = fit_push n s.lines (row_line v) s.fit fit;
+        split = line_split (row_line v) is;
+        rows_are = omega (
+          arith,
+          s.rows_are,
+          ap (λ (l : List Vector). length l) (rows_push_row s.lines v),
+          length-append (rows_in_lines s.lines) (v ∷ []),
+        );
+        keys_are = s.keys_are ∙ sym (keys_push_row s.lines v);
+        size = line_size (row_line v) is;
+      }
 
       pub job_scanned : (key : List ℕ) (grown : List (List ℕ)) → IsReplyLine n (job_line key) → line ≡ said_text (inl (job_line key))
-          → grown ≡ keys ++ key ∷ [] → Scanned n text behind rows cells grown (place + length line + 1)
+          → grown ≡ keys ++ key ∷ [] → Scanned n text behind rows grown (place + length line + 1)
       job_scanned key grown fit is e = rw e (record {
         lines = s.lines ++ job_line key ∷ [];
         fit = fit_push n s.lines (job_line key) s.fit fit;
         split = line_split (job_line key) is;
-        table = s.table ∙ sym (rows_push_job s.lines key);
-        full = s.full;
+        rows_are = s.rows_are ∙ ap (λ (l : List Vector). length l) (sym (rows_push_job s.lines key));
         keys_are = ap (λ (l : List (List ℕ)). l ++ key ∷ []) s.keys_are ∙ sym (keys_push_job s.lines key);
         size = line_size (job_line key) is;
       })

@@ -13,7 +13,8 @@ use Rattle.job_text.specs.declared.reply.Tail.{Tail}
 use Rattle.job_text.specs.declared.reply.Tail.TheVariants as tails
 use Rattle.job_text.specs.Keywords.{keyword_text}
 use Rattle.row_printer.specs.OverflowText.{overflow_text}
-use Rattle.job_text.specs.Replies.{IsReplyLine, IsTailAt, end_words}
+use Rattle.job_text.specs.LineTexts.{IsReplyLine}
+use Rattle.job_text.specs.Replies.{IsTailAt, end_words}
 
 -- a line of a reply, or its last
 abbrev pub Said : Type 0

@@ -36,6 +36,10 @@ depth_line depth = codes "depth " ++ decimal depth
 abbrev pub input_line : List ℕ → List ℕ
 input_line digits = codes "input " ++ digits
 
+-- a file behind the line that says how many bytes it has
+abbrev pub sized : List ℕ → List ℕ
+sized file = input_line (decimal (length file)) ++ 10 ∷ file
+
 -- the first five lines, and a text behind them
 abbrev pub five_lines : JobHead → List ℕ → List ℕ
 five_lines head rest =
@@ -44,7 +48,7 @@ five_lines head rest =
 
 -- all six, and the file
 abbrev pub text_of_job : JobHead → List ℕ → List ℕ
-text_of_job head file = five_lines head (input_line (decimal (length file)) ++ 10 ∷ file)
+text_of_job head file = five_lines head (sized file)
 
 -- a head whose lines are read again
 pub record HasHeadText (head : JobHead) : Type 0 where

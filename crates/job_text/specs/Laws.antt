@@ -6,8 +6,10 @@ use Rattle.poly_model.specs.Labels.{IsRow}
 use Rattle.poly_model.specs.Limits.{most_columns}
 use Rattle.poly_model.specs.Overflows.{Passes}
 use Rattle.poly_model.specs.Systems.{Polyhedron, cone_of}
+use Rattle.work_core.specs.Searches.{Search}
 use Rattle.job_text.specs.declared.job.Job.{Job}
 use Rattle.job_text.specs.declared.reply.Reply.{Reply}
+use Rattle.job_text.specs.FirstPayloads.{IsFirstPayload}
 use Rattle.job_text.specs.Jobs.{IsJobText, IsBadText}
 use Rattle.job_text.specs.Limits.{most_job_bytes}
 use Rattle.job_text.specs.Overflows.{HasOverflowText}
@@ -16,7 +18,7 @@ use Rattle.job_text.specs.Replies.{IsWholeReply}
 -- where both texts are whole replies, nothing stands behind the first
 abbrev pub EndsWhole : ℕ → List ℕ → List ℕ → Type 0
 EndsWhole n text more =
-    length (text ++ more) < 2 ^ 64 → (a b : Reply) → IsWholeReply n a text → IsWholeReply n b (text ++ more) → more ≡ []
+    length text < 2 ^ 64 → (a b : Reply) → IsWholeReply n a text → IsWholeReply n b (text ++ more) → more ≡ []
 
 -- two whole replies of one text, for files with rows of n numbers, are the same
 abbrev pub IsOneReply : ℕ → List ℕ → Type 0
@@ -24,7 +26,11 @@ IsOneReply n text = length text < 2 ^ 64 → (a b : Reply) → IsWholeReply n a 
 
 -- two jobs of one text are the same
 abbrev pub IsOneJob : List ℕ → Type 0
-IsOneJob text = length text < 2 ^ 64 → (a b : Job) → IsJobText a text → IsJobText b text → a ≡ b
+IsOneJob text = (a b : Job) → IsJobText a text → IsJobText b text → a ≡ b
+
+-- two searches of one first payload are the same
+abbrev pub IsOneFirstPayload : List ℕ → Type 0
+IsOneFirstPayload payload = (s t : Search) → IsFirstPayload s payload → IsFirstPayload t payload → s ≡ t
 
 -- a text is a job, or is bad at a place: never both, and at one place only
 pub record IsJobOrBad (text : List ℕ) : Type 0 where

@@ -1,10 +1,12 @@
 pub mod Limits
 pub mod KeyTexts
 pub mod Jobs
-pub mod Tables
+pub mod RowTexts
 pub mod Overflows
+pub mod LineTexts
 pub mod Replies
 pub mod Rule
+pub mod FirstPayloads
 pub mod Keywords
 pub mod Fits
 pub mod Scans

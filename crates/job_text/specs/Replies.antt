@@ -1,17 +1,16 @@
 -- What a reply is, as a text: the texts that are written for it, and no others.
 use Rattle.std.specs.Prelude.{◌≡◌, ◌⊎◌, ℕ, ◌≤◌, ◌<◌, List, [], ◌∷◌, ◌++◌, length, codes, decimal}
 use Rattle.std.specs.List.{AllByRecursion}
-use Rattle.poly_num.specs.Vectors.{IsPrimitive}
-use Rattle.poly_num.specs.Numbers.{IsNum}
 use Rattle.poly_model.specs.declared.listed.Count.{Count}
 use Rattle.poly_model.specs.LabelText.{key_text}
 use Rattle.row_printer.specs.OverflowText.{overflow_text}
 use Rattle.work_core.specs.Splits.{most_bases}
-use Rattle.work_core.specs.ReplyLines.{ReplyLine, row_line, job_line, lines_text, rows_in_lines, keys_in_lines}
+use Rattle.work_core.specs.ReplyLines.{ReplyLine, lines_text, rows_in_lines, keys_in_lines}
 use Rattle.job_text.specs.declared.reply.Reply.{Reply}
 use Rattle.job_text.specs.declared.reply.Tail.{Tail}
 use Rattle.job_text.specs.declared.reply.Tail.TheVariants.{End, Overflow, Memory}
 use Rattle.job_text.specs.KeyTexts.{HasKeyText}
+use Rattle.job_text.specs.LineTexts.{IsReplyLine}
 use Rattle.job_text.specs.Overflows.{HasOverflowText}
 
 -- the first line
@@ -28,11 +27,6 @@ tail_text (End count) =
     codes "end " ++ (decimal count.rows ++ (codes " " ++ (decimal count.jobs ++ (codes " " ++ (decimal count.bases ++ 10 ∷ [])))))
 tail_text (Overflow o) = codes "overflow " ++ (overflow_text o ++ 10 ∷ [])
 tail_text Memory = codes "memory\n"
-
--- a line between the two, of a file with rows of n numbers
-abbrev pub IsReplyLine : ℕ → ReplyLine → Type 0
-IsReplyLine n (row_line v) = (length v ≡ n) × IsPrimitive v × AllByRecursion IsNum v
-IsReplyLine n (job_line key) = HasKeyText key
 
 -- the numbers of `end`, behind so many rows and keys
 pub record EndsAt (rows jobs : ℕ) (count : Count) : Type 0 where

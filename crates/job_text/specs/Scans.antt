@@ -1,21 +1,19 @@
 -- Where the lines of a reply behind its head end, or stop to fit.
-use Rattle.std.specs.Prelude.{◌≡◌, ◌≢◌, ◌⊎◌, ◌+◌, ◌*◌, ◌^◌, ◌<◌, ℕ, List, [], ◌∷◌, ◌++◌, length}
+use Rattle.std.specs.Prelude.{◌≡◌, ◌≢◌, ◌⊎◌, ◌+◌, ◌^◌, ◌<◌, ℕ, List, [], ◌∷◌, ◌++◌, length}
 use Rattle.std.specs.List.{AllByRecursion}
-use Rattle.poly_num.specs.Vectors.{Vector}
 use Rattle.work_core.specs.ReplyLines.{ReplyLine, lines_text, rows_in_lines, keys_in_lines}
 use Rattle.job_text.specs.declared.reply.Tail.{Tail}
 use Rattle.job_text.specs.declared.scan.Scan.{Scan}
-use Rattle.job_text.specs.Replies.{IsReplyLine, EndsLines, tail_text}
+use Rattle.job_text.specs.LineTexts.{IsReplyLine}
+use Rattle.job_text.specs.Replies.{EndsLines, tail_text}
 use Rattle.job_text.specs.Fits.{Said, MaySay, said_text}
-use Rattle.job_text.specs.Tables.{table_rows}
 
--- so far these lines fit, in front of this rest; the table and the keys have what they say
-pub record Scanned (n : ℕ) (text rest : List ℕ) (rows : ℕ) (cells : Vector) (keys : List (List ℕ)) (place : ℕ) : Type 0 where
+-- so far these lines fit, in front of this rest; so many rows and these keys are what they say
+pub record Scanned (n : ℕ) (text rest : List ℕ) (rows : ℕ) (keys : List (List ℕ)) (place : ℕ) : Type 0 where
   pub lines : List ReplyLine
   pub fit : AllByRecursion (IsReplyLine n) lines
   pub split : text ≡ lines_text lines ++ rest
-  pub table : table_rows n rows cells ≡ rows_in_lines lines
-  pub full : length cells ≡ rows * n
+  pub rows_are : rows ≡ length (rows_in_lines lines)
   pub keys_are : keys ≡ keys_in_lines lines
   -- how many bytes they have
   pub size : place ≡ length (lines_text lines)
@@ -25,8 +23,8 @@ pub record IsScanOf (n : ℕ) (text : List ℕ) (scan : Scan) : Type 0 where
   pub lines : List ReplyLine
   pub fit : AllByRecursion (IsReplyLine n) lines
   pub split : text ≡ lines_text lines ++ tail_text scan.tail
-  pub table : table_rows n scan.rows scan.cells.items ≡ rows_in_lines lines
-  pub full : length scan.cells.items ≡ scan.rows * n
+  pub front : scan.front.now ≡ lines_text lines
+  pub rows_are : scan.rows ≡ length (rows_in_lines lines)
   pub keys_are : scan.keys.items ≡ keys_in_lines lines
   pub ends : EndsLines lines scan.tail
 

@@ -6,7 +6,7 @@ ghost use Rattle.poly_num.specs.Vectors.{IsPrimitive};
 ghost use Rattle.poly_model.specs.ListingText.{entries_text};
 ghost use Rattle.plain_text.specs.Cuts.{GoesOnWith};
 ghost use Rattle.work_core.specs.ReplyLines.{row_line};
-ghost use Rattle.job_text.specs.Replies.{IsReplyLine};
+ghost use Rattle.job_text.specs.LineTexts.{IsReplyLine};
 
 use plain_text::{next_word, read_num};
 use poly_num::{Num, gcd};

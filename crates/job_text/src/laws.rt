@@ -1,7 +1,7 @@
 //! Laws of the texts: functions with an empty body.
 ghost use Rattle.std.specs.Prelude.{List, ℕ};
 ghost use Rattle.poly_model.specs.Systems.{Polyhedron};
-ghost use Rattle.job_text.specs.Laws.{EndsWhole, HasTextOfOverflows, IsJobOrBad, IsOneJob, IsOneReply, IsShortJob};
+ghost use Rattle.job_text.specs.Laws.{EndsWhole, HasTextOfOverflows, IsJobOrBad, IsOneFirstPayload, IsOneJob, IsOneReply, IsShortJob};
 
 /// No whole reply is a proper prefix of another: so a reply that ends in the middle is never taken for a shorter one.
 pub fn no_proper_prefix()
@@ -31,4 +31,9 @@ pub fn jobs_are_short()
 /// Each overflow of a polyhedron has a text that is read again.
 pub fn overflows_have_texts()
     ensures { (p : Polyhedron) → HasTextOfOverflows p }
+{}
+
+/// The first payload of a ledger is that of one search.
+pub fn one_first_payload()
+    ensures { (payload : List ℕ) → IsOneFirstPayload payload }
 {}

@@ -3,6 +3,7 @@
 
 mod ends;
 mod entries;
+mod first_payload;
 mod fit;
 mod head;
 mod job;
@@ -26,16 +27,18 @@ mod tests;
 mod words;
 mod writing;
 
+pub use first_payload::{FirstPayload, read_first_payload};
 pub use job::{Job, JobHead};
 pub use keys::read_key;
 pub use laws::{
-    job_or_bad, jobs_are_short, no_proper_prefix, one_job, one_reply, overflows_have_texts,
+    job_or_bad, jobs_are_short, no_proper_prefix, one_first_payload, one_job, one_reply,
+    overflows_have_texts,
 };
 pub use limits::MOST_JOB_BYTES;
 pub use reader::ReplyReader;
 pub use reading::read_job;
 pub use reply::{Reply, Tail};
-pub use rows::RowTable;
-pub use stops::{JobReadStop, ReplyStop};
+pub use rows::ReplyRows;
+pub use stops::{JobReadStop, PayloadStop, ReplyStop};
 pub use tail::write_tail;
 pub use writing::{write_job, write_reply_head};

@@ -1,10 +1,12 @@
 //! Replies that are read.
 ghost use Rattle.std.specs.Prelude.{◌≡◌, ◌<◌, ◌+◌, ◌^◌, ℕ, length, IfOk, IsErrOf};
 ghost use Rattle.job_text.specs.Replies.{IsWholeReply, IsNotWhole};
+ghost use Rattle.job_text.specs.declared.reply.Reply.{Reply as Whole};
+ghost use Rattle.job_text.specs.RowTexts.{AreWide};
 
 use crate::lines::key_behind;
 use crate::scan::scan_lines;
-use crate::{Reply, ReplyStop, RowTable};
+use crate::{PayloadStop, Reply, ReplyRows, ReplyStop};
 use poly_model::{Key, Keys};
 use poly_num::Num;
 use std::alloc::{AllocError, Global};
@@ -37,8 +39,14 @@ fn further(stop: ReplyStop, start: u64) -> ReplyStop
 
 impl ReplyReader {
     /// The reply of this key that a text is, whole, for a file with rows of n numbers.
-    pub fn read(alloc: Global, key: &Key, n: u32, text: &[u8]) -> Result<Reply, ReplyStop>
+    pub fn read<'a>(
+        alloc: Global,
+        key: &Key,
+        n: u32,
+        text: &'a [u8],
+    ) -> Result<Reply<'a>, ReplyStop>
         ensures ok { IfOk result (λ r. (r.key ≡ key.now) × IsWholeReply n r text.now) }
+        ensures wide { IfOk result (λ r. AreWide n r.rows) }
         ensures not_whole { (place : ℕ) → IsErrOf result (ReplyStop.NotWhole place) → IsNotWhole n key.now text.now place }
     {
         let (head, lines) = match key_behind(text, b"reply ") {
@@ -53,11 +61,28 @@ impl ReplyReader {
         match scan_lines(alloc, &mut row, lines) {
             Ok(scan) => Ok(Reply {
                 key: head,
-                rows: RowTable::from_cells(n as usize, scan.rows as usize, scan.cells),
+                rows: ReplyRows::of_lines(scan.front, scan.rows),
                 keys: Keys::from_vec(scan.keys),
                 tail: scan.tail,
             }),
             Err(stop) => Err(further(stop, start)),
+        }
+    }
+
+    /// The reply that a text is, whole, whatever its key, for a file with rows of n numbers. `Bad` where it is none.
+    pub fn read_any<'a>(alloc: Global, n: u32, text: &'a [u8]) -> Result<Reply<'a>, PayloadStop>
+        ensures ok { IfOk result (λ r. IsWholeReply n r text.now) }
+        ensures wide { IfOk result (λ r. AreWide n r.rows) }
+        ensures bad { IsErrOf result PayloadStop.Bad → (reply : Whole) → IsWholeReply n reply text.now → ⊥ }
+    {
+        let (key, _) = match key_behind(text, b"reply ") {
+            Some(found) => found,
+            None => return Err(PayloadStop::Bad),
+        };
+        match ReplyReader::read(alloc, &key, n, text) {
+            Ok(reply) => Ok(reply),
+            Err(ReplyStop::NotWhole { .. }) => Err(PayloadStop::Bad),
+            Err(ReplyStop::Memory) => Err(PayloadStop::Memory),
         }
     }
 }

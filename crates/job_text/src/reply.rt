@@ -1,5 +1,5 @@
 //! Replies.
-use crate::RowTable;
+use crate::ReplyRows;
 use poly_model::{Count, Key, Keys, Overflow};
 
 /// How a reply ends.
@@ -13,11 +13,12 @@ pub enum Tail {
     Memory,
 }
 
-/// What a worker answers to a job: the rows that it shows, the keys that it gives back, and how it ended.
+/// What a worker answers to a job: the rows that it shows, the keys that it gives back, and how it ended. The rows stay in
+/// the text that was read.
 #[derive(Drop)]
-pub struct Reply {
+pub struct Reply<'a> {
     pub key: Key,
-    pub rows: RowTable,
+    pub rows: ReplyRows<'a>,
     pub keys: Keys,
     pub tail: Tail,
 }

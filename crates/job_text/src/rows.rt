@@ -1,64 +1,83 @@
-//! The rows of a reply, in one table.
-ghost use Rattle.std.specs.Prelude.{◌≡◌, ◌<◌, ◌≤◌, ◌+◌, ◌*◌, [], length, take, drop, slice_index_or};
-ghost use Rattle.job_text.specs.Tables.{table_rows};
+//! The rows of a reply, which stay in its text.
+ghost use Rattle.std.specs.Prelude.{◌≡◌, ℕ, ◌∷◌, [], length, IfSome, IsNone, IsTrue, IsFalse};
+ghost use Rattle.job_text.specs.LineTexts.{AreReplyLines};
+ghost use Rattle.job_text.specs.RowTexts.{shown_rows, AreWide};
 
+use crate::fit::fit_line;
+use crate::said::Fit;
+use plain_text::split_line;
 use poly_num::Num;
 use std::marker::Model;
 
-/// Rows of one width, one after the other in one list of numbers. Contracts see the list of them.
+/// The rows of a reply that are left to read, in its text. Contracts see the list of them.
 #[derive(Drop)]
-pub struct RowTable {
-    width: usize,
-    count: usize,
-    cells: Vec<Num>,
+pub struct ReplyRows<'a> {
+    lines: &'a [u8],
+    count: u64,
 }
 
-impl Model for RowTable {
-    ghost use Rattle.std.specs.Prelude.{◌≡◌, ◌*◌, List, length};
+impl<'a> Model for ReplyRows<'a> {
+    ghost use Rattle.std.specs.Prelude.{◌≡◌, ℕ, List, length};
     ghost use Rattle.poly_num.specs.Vectors.{Vector};
-    ghost use Rattle.job_text.specs.Tables.{table_rows};
+    ghost use Rattle.job_text.specs.LineTexts.{AreReplyLines};
+    ghost use Rattle.job_text.specs.RowTexts.{shown_rows};
 
     ghost Value = { List Vector };
 
-    ghost view = { λ t. table_rows t.width t.count t.cells.items };
+    ghost view = { λ r. shown_rows r.lines.now };
 
-    ghost invariant = { λ t. length t.cells.items ≡ t.count * t.width };
+    ghost invariant = { λ r. (r.count ≡ length (shown_rows r.lines.now)) × ∥ ((n : ℕ) × AreReplyLines n r.lines.now) ∥₁ };
 }
 
-impl RowTable {
-    /// So many rows of one width, one after the other. Takes no memory.
-    pub fn from_cells(width: usize, count: usize, cells: Vec<Num>) -> RowTable
-        requires { length cells.items ≡ count * width }
-        ensures { result ≡ table_rows width count cells.items }
+impl<'a> ReplyRows<'a> {
+    // The rows that these lines show, so many.
+    pub(crate) fn of_lines(lines: &'a [u8], count: u64) -> ReplyRows<'a>
+        requires lines { ∥ ((n : ℕ) × AreReplyLines n lines.now) ∥₁ }
+        requires count { count ≡ length (shown_rows lines.now) }
+        ensures { result ≡ shown_rows lines.now }
     {
-        RowTable {
-            width,
-            count,
-            cells,
-        }
+        ReplyRows { lines, count }
     }
 
-    /// How many rows there are.
-    pub fn len(&self) -> usize
+    /// How many rows are left.
+    pub fn len(&self) -> u64
         ensures { result ≡ length self.now }
     {
         self.count
     }
 
-    /// Row i, counted from 0.
-    pub fn row(&self, i: usize) -> &[Num]
-        requires { i < length self.now }
-        ensures { result.now ≡ slice_index_or self.now i [] }
+    /// Reads the first row that is left into place, as many numbers as each has; false where none is left.
+    pub fn next(&mut self, row: &mut [Num]) -> bool
+        requires { AreWide (length row.old) self.old }
+        ensures size { length row.new ≡ length row.old }
+        ensures yes { IsTrue result → self.old ≡ row.new ∷ self.new }
+        ensures no { IsFalse result → (self.old ≡ []) × (self.new ≡ []) }
     {
-        row_at(&self.cells, self.width, i)
+        match first_row(self.lines, row) {
+            Some(rest) => {
+                self.lines = rest;
+                self.count -= 1;
+                true
+            }
+            None => false,
+        }
     }
 }
 
-// Row i, counted from 0, of cells that are n to a row.
-fn row_at(cells: &[Num], n: usize, i: usize) -> &[Num]
-    requires { (i + 1) * n ≤ length cells.now }
-    ensures { result.now ≡ take n (drop (i * n) cells.now) }
+// What stands behind the first line that shows a row, which is read into place.
+fn first_row<'a>(lines: &'a [u8], row: &mut [Num]) -> Option<&'a [u8]>
+    requires { ∥ AreReplyLines (length row.old) lines.now ∥₁ }
+    ensures size { length row.new ≡ length row.old }
+    ensures some { IfSome result (λ rest. (shown_rows lines.now ≡ row.new ∷ shown_rows rest.now)
+        × ∥ AreReplyLines (length row.old) rest.now ∥₁) }
+    ensures none { IsNone result → shown_rows lines.now ≡ [] }
 {
-    let start = i * n;
-    &cells[start..start + n]
+    let mut rest = lines;
+    'lines: loop {
+        let (line, behind) = split_line(rest)?;
+        rest = behind;
+        if let Fit::Row = fit_line(line, row, 0, 0) {
+            return Some(behind);
+        }
+    }
 }

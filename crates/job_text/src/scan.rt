@@ -10,21 +10,24 @@ use poly_model::Key;
 use poly_num::Num;
 use std::alloc::Global;
 
-/// What the lines of a reply say: its rows one after the other, how many they are, the keys, and its end.
+/// What the lines of a reply say: those before its last one, how many rows they show, the keys, and its end.
 #[derive(Drop)]
-pub(crate) struct Scan {
-    pub cells: Vec<Num>,
+pub(crate) struct Scan<'a> {
+    pub front: &'a [u8],
     pub rows: u64,
     pub keys: Vec<Key>,
     pub tail: Tail,
 }
 
-/// Reads the lines of a reply to its end, or to the first byte that is of no line that fits.
-pub(crate) fn scan_lines(alloc: Global, row: &mut [Num], text: &[u8]) -> Result<Scan, ReplyStop>
+/// Reads the lines of a reply to its end, or to the first byte that is of no line that fits; each row into the same place.
+pub(crate) fn scan_lines<'a>(
+    alloc: Global,
+    row: &mut [Num],
+    text: &'a [u8],
+) -> Result<Scan<'a>, ReplyStop>
     ensures ok { IfOk result (λ s. IsScanOf (length row.old) text.now s) }
     ensures stop { (place : ℕ) → IsErrOf result (ReplyStop.NotWhole place) → StopsScanAt (length row.old) text.now place }
 {
-    let mut cells = Vec::new(alloc);
     let mut keys = Vec::new(alloc);
     let mut rows = 0u64;
     let mut place = 0u64;
@@ -38,15 +41,12 @@ pub(crate) fn scan_lines(alloc: Global, row: &mut [Num], text: &[u8]) -> Result<
         let next = place + line.len() as u64 + 1;
         match fit {
             Fit::No => return Err(ReplyStop::NotWhole { place }),
-            Fit::Row => {
-                cells.extend_from_slice(row)?;
-                rows += 1;
-            }
+            Fit::Row => rows += 1,
             Fit::Job(key) => keys.push(key)?,
             Fit::Last(tail) => {
                 if behind.is_empty() {
                     return Ok(Scan {
-                        cells,
+                        front: &text[..place as usize],
                         rows,
                         keys,
                         tail,

@@ -20,6 +20,15 @@ pub enum ReplyStop {
     Memory,
 }
 
+/// Why a payload of a ledger was not read.
+#[derive(Clone, Copy, PartialEq, Eq, Debug)]
+pub enum PayloadStop {
+    /// It has not the form of such a payload.
+    Bad,
+    /// The memory was refused.
+    Memory,
+}
+
 impl From<AllocError> for ReplyStop {
     ghost use Rattle.job_text.specs.declared.stops.ReplyStop.TheVariants.{Memory};
     ghost use Rattle.std.specs.Prelude.{◌≡◌};

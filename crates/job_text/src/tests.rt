@@ -1,7 +1,7 @@
 //! A job and a reply that were written out by hand, and texts that are none.
 use crate::{
-    JobHead, JobReadStop, ReplyReader, ReplyStop, Tail, read_job, read_key, write_job,
-    write_reply_head, write_tail,
+    JobHead, JobReadStop, PayloadStop, Reply, ReplyReader, ReplyStop, Tail, read_first_payload,
+    read_job, read_key, write_job, write_reply_head, write_tail,
 };
 use poly_io::MemSink;
 use poly_model::{Count, Key, Label, Overflow, Phase, Place, Root, WorkKind};
@@ -14,6 +14,9 @@ const PLANE: &str = "H-representation\nbegin\n0 3 integer\nend\n";
 
 const JOB: &str =
     "lrs-job 1 subsets\nroot 0\nkey 0\nbases 1\ndepth 0\ninput 39\nH-representation\nbegin\n0 3 integer\nend\n";
+
+const FIRST: &str =
+    "lrs-ledger 1 subsets\nroot 0\ninput 39\nH-representation\nbegin\n0 3 integer\nend\n";
 
 // What makes a job a bad one, a piece of its text, what stands there instead, and the place.
 const BAD_JOBS: [(&str, &str, &str, u64); 15] = [
@@ -90,6 +93,41 @@ fn says_which_line_is_bad(rt: HostRuntime) -> Result<(), Fail> {
     Ok(())
 }
 
+// What makes a first payload, a piece of that of the plane by subsets, what stands there instead, and whether it is one then.
+const FIRST_PAYLOADS: [(&str, &str, &str, bool); 8] = [
+    ("as it is", "root 0", "root 0", true),
+    ("another work", "subsets", "subtrees", true),
+    ("another version", "lrs-ledger 1", "lrs-ledger 2", false),
+    ("a job", "lrs-ledger", "lrs-job", false),
+    ("a root of subsets", "root 0", "root 1 9", false),
+    ("a byte too few", "input 39", "input 40", false),
+    ("a leading zero", "input 39", "input 039", false),
+    ("no polyhedron", "begin", "began", false),
+];
+
+#[test]
+fn reads_first_payloads(rt: HostRuntime) -> Result<(), Fail> {
+    let alloc = rt.alloc();
+    for (name, old, new, is_one) in &FIRST_PAYLOADS {
+        let (before, after) = FIRST.split_once(*old).expect(&rt, "a piece of it");
+        let mut text = String::from_str(alloc, before)?;
+        text.push_str(new)?;
+        text.push_str(after)?;
+        match read_first_payload(alloc, text.as_bytes()) {
+            Ok(first) => {
+                assert!(rt; *is_one, "{}", name);
+                assert_eq!(rt; first.root, Root::new(Key::empty()));
+                assert_eq!(rt; first.poly.text(), PLANE.as_bytes());
+            }
+            Err(stop) => {
+                assert!(rt; !*is_one, "{}", name);
+                assert_eq!(rt; stop, PayloadStop::Bad);
+            }
+        }
+    }
+    Ok(())
+}
+
 #[test]
 fn keys(rt: HostRuntime) {
     let cases = [
@@ -148,6 +186,9 @@ fn writes_a_reply(rt: HostRuntime) {
 
 const REPLY: &str = "reply 0\nrow 1 0 0\njob 1 9\nend 1 1 1\n";
 
+// Two rows, with a key between them.
+const ROWS: &str = "reply 0\nrow 1 0 -12\njob 1 9\nrow 0 1 0\nend 2 1 3\n";
+
 // What makes a reply none, a piece of its text, what stands there instead, and how many bytes are lines that fit.
 const NO_REPLIES: [(&str, &str, &str, u64); 12] = [
     ("another key", "reply 0", "reply 1 9", 0),
@@ -191,13 +232,24 @@ fn reads_a_reply(rt: HostRuntime) {
     assert_eq!(rt; reply.tail, Tail::End(count));
     assert_eq!(rt; reply.rows.len(), 1);
     assert_eq!(rt;
-        reply.rows.row(0),
-        [Num::ONE, Num::ZERO, Num::ZERO].as_slice()
-    );
-    assert_eq!(rt;
         reply.keys.as_slice(),
         [Key::empty().with(Label::row(9))].as_slice()
     );
+}
+
+#[test]
+fn reads_rows_one_by_one(rt: HostRuntime) {
+    let reply = ReplyReader::read(rt.alloc(), &Key::empty(), 3, ROWS.as_bytes()).expect(
+        &rt, "a reply",
+    );
+    let Reply { mut rows, .. } = reply;
+    let mut row = [Num::ZERO; 3];
+    assert!(rt; rows.next(&mut row));
+    assert_eq!(rt; row.map(Num::get), [1, 0, -12]);
+    assert_eq!(rt; rows.len(), 1);
+    assert!(rt; rows.next(&mut row));
+    assert_eq!(rt; row.map(Num::get), [0, 1, 0]);
+    assert!(rt; !rows.next(&mut row));
 }
 
 #[test]

@@ -2,4 +2,4 @@ use Rattle.job_text.proofs.JobLaws.{one_job}
 use Rattle.job_text.proofs.laws.one_job.Goals as goal
 
 pub returns : goal.returns
-returns c text small a b u w = one_job a b text small u w
+returns c text a b u w = one_job a b text u w

@@ -1,9 +1,11 @@
-use Rattle.std.proofs.Common.{◌≡◌, ◌∙◌, ℕ, List, length, refl, sym, ap, subst, arith, rules, Result, Option, Err}
+use Rattle.std.proofs.Common.{◌≡◌, ◌∙◌, ◌++◌, ℕ, List, length, take, refl, sym, ap, subst, arith, rules, Result, Option, Err}
 use Rattle.std.specs.Result.{IsErrOf}
 use Rattle.std.proofs.lemmas.Bool.{eqb-true, eqb-false}
+use Rattle.std.proofs.Math.Seq.{take-append_seam}
 use Rattle.plain_text.specs.Texts.{IsReadOf}
 use Rattle.plain_text.proofs.ReadLemmas.{read_none, read_at}
 use Rattle.job_text.specs.Fits.{Said, MaySay, said_text}
+use Rattle.work_core.specs.ReplyLines.{lines_text}
 use Rattle.job_text.specs.Scans.{StopsScanAt}
 use Rattle.job_text.specs.declared.scan.Scan.{Scan}
 use Rattle.job_text.specs.declared.stops.ReplyStop.{ReplyStop}
@@ -32,13 +34,13 @@ pub returns-in-None-clause-stop : goal.returns-in-None-clause-stop
 returns-in-None-clause-stop c place e =
     let l = c.lines in
     stopped (length c.args.row.now) c.args.text.now l.place place
-    (no_line_left _ _ _ _ _ _ _ l.invariant.scanned (omega arith) (omega arith) c.in-None.ensures) e
+    (no_line_left _ _ _ _ _ _ l.invariant.scanned (omega arith) (omega arith) c.in-None.ensures) e
 
 pub returns-in-No-clause-stop : goal.returns-in-No-clause-stop
 returns-in-No-clause-stop c place e =
     let l = c.lines in
     stopped (length c.args.row.now) c.args.text.now l.place place
-    (no_fit _ _ _ _ _ _ _ l.invariant.scanned (omega arith) (omega arith) c.in-Some.found.0.now c.in-Some.found.1.now c.in-Some.ensures
+    (no_fit _ _ _ _ _ _ l.invariant.scanned (omega arith) (omega arith) c.in-Some.found.0.now c.in-Some.found.1.now c.in-Some.ensures
     (λ x may is. read_none refl (said_of (length c.args.row.now) (length l.row) l.rows (length l.keys.items) c.len.result l.invariant.size (search rules) c.in-No.ensures.fits) x may is)) e
 
 pub returns-in-Last-clause-stop : goal.returns-in-Last-clause-stop
@@ -46,7 +48,7 @@ returns-in-Last-clause-stop c place e =
     let l = c.lines in
     let k = read_at refl (said_of (length c.args.row.now) (length l.row) l.rows (length l.keys.items) c.len.result l.invariant.size (search rules) c.in-Last.ensures.fits) in
     stopped (length c.args.row.now) c.args.text.now _ place
-    (more_behind _ _ _ _ _ _ _ l.invariant.scanned (omega arith) (omega arith) c.in-Some.found.0.now c.in-Some.found.1.now c.in-Some.ensures
+    (more_behind _ _ _ _ _ _ l.invariant.scanned (omega arith) (omega arith) c.in-Some.found.0.now c.in-Some.found.1.now c.in-Some.ensures
     c.in-Last.tail k.0 k.1
     (λ none. eqb-false (length c.in-Some.found.1.now) 0 (sym c.is_empty.ensures ∙ c.if-is_empty.false) (ap (λ (t : List ℕ). length t) none))) e
 
@@ -60,22 +62,25 @@ returns-then-is_empty-clause-ok c =
     record {
       lines = s.lines;
       fit = s.fit;
-      split = tail_ends _ _ _ _ _ _ _ s (omega arith) (omega arith) c.in-Some.found.0.now c.in-Some.found.1.now c.in-Some.ensures c.in-Last.tail k.1 empty;
-      table = s.table;
-      full = s.full;
+      split = tail_ends _ _ _ _ _ _ s (omega arith) (omega arith) c.in-Some.found.0.now c.in-Some.found.1.now c.in-Some.ensures c.in-Last.tail k.1 empty;
+      front =
+          ap (λ (t : List ℕ). take l.place t) s.split ∙ ap (λ (k : ℕ). take k (lines_text s.lines ++ l.rest.now)) s.size
+          ∙ take-append_seam (lines_text s.lines) l.rest.now;
+      rows_are = s.rows_are;
       keys_are = s.keys_are;
-      ends = tail_may _ _ _ _ _ _ _ s (omega arith) (omega arith) c.in-Some.found.0.now c.in-Some.found.1.now c.in-Some.ensures c.in-Last.tail k.0;
+      ends = tail_may _ _ _ _ _ _ s (omega arith) (omega arith) c.in-Some.found.0.now c.in-Some.found.1.now c.in-Some.ensures c.in-Last.tail k.0;
     }
 
-pub lines-preserved-in_ok-extend_from_slice-in-Row : goal.lines-preserved-in_ok-extend_from_slice-in-Row
-lines-preserved-in_ok-extend_from_slice-in-Row c =
+pub lines-preserved-in-Row : goal.lines-preserved-in-Row
+lines-preserved-in-Row c =
     let l = c.lines in
     let k = read_at refl (said_of (length c.args.row.now) (length l.row) l.rows (length l.keys.items) c.len.result l.invariant.size (search rules) c.in-Row.ensures.fits) in
     record {
       scanned =
-          row_scanned _ _ _ _ _ _ _ l.invariant.scanned (omega arith) (omega arith) c.in-Some.found.0.now c.in-Some.found.1.now c.in-Some.ensures
-          c.fit_line-fit.new.row _ k.0 k.1 (search rules);
+          row_scanned _ _ _ _ _ _ l.invariant.scanned (omega arith) (omega arith) c.in-Some.found.0.now c.in-Some.found.1.now c.in-Some.ensures
+          c.fit_line-fit.new.row k.0 k.1;
       size = c.in-Row.ensures.size ∙ l.invariant.size;
+      few = omega (arith, l.invariant.few);
     }
 
 pub lines-preserved : goal.lines-preserved
@@ -84,7 +89,8 @@ lines-preserved c =
     let k = read_at refl (said_of (length c.args.row.now) (length l.row) l.rows (length l.keys.items) c.len.result l.invariant.size (search rules) c.in-Job.ensures.fits) in
     record {
       scanned =
-          job_scanned _ _ _ _ _ _ _ l.invariant.scanned (omega arith) (omega arith) c.in-Some.found.0.now c.in-Some.found.1.now c.in-Some.ensures
+          job_scanned _ _ _ _ _ _ l.invariant.scanned (omega arith) (omega arith) c.in-Some.found.0.now c.in-Some.found.1.now c.in-Some.ensures
           c.in-Job.key _ k.0 k.1 (search rules);
       size = c.in-Job.ensures.size ∙ l.invariant.size;
+      few = omega (arith, l.invariant.few);
     }

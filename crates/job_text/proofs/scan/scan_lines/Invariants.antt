@@ -1,11 +1,12 @@
-use Rattle.std.proofs.Common.{◌≡◌, length}
+use Rattle.std.proofs.Common.{◌≡◌, ◌≤◌, length}
 use Rattle.job_text.specs.Scans.{Scanned}
 use Rattle.job_text.proofs.scan.scan_lines.Given as goal
 
 abbrev pub invariant-lines : goal.invariant-lines
 invariant-lines l = record {
-  scanned : Scanned (length l.initial.row) l.text l.rest l.rows l.cells.items l.keys.items l.place;
+  scanned : Scanned (length l.initial.row) l.text l.rest l.rows l.keys.items l.place;
   size : length l.row ≡ length l.initial.row;
+  few : l.rows ≤ l.place;
 }
 
 abbrev pub decreases-lines : goal.decreases-lines

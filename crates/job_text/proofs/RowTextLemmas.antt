@@ -1,0 +1,225 @@
+-- The rows that a text shows are those of its lines, and the first of them is that of its first line that shows one.
+use Rattle.std.proofs.Common.{◌≡◌, ◌++◌, ℕ, ℤ, false, List, [], ◌∷◌, map, drop, Option, refl, sym, ap, ap₂, ◌∙◌, subst, inl, inr, arith, append-nil, unsigned_abs}
+use Rattle.std.specs.Prelude.{codes, ◌==◌}
+use Rattle.std.specs.Fmt.{signed_decimal}
+use Rattle.std.specs.List.{All, AllByRecursion, slice_split, filter}
+use Rattle.std.specs.Option.{option_map_or}
+use Rattle.std.proofs.lemmas.Bool.{ne_eqb}
+use Rattle.std.proofs.lemmas.List.Elements.{All-from_recursion}
+use Rattle.std.proofs.lemmas.List.Splits.{slice_split_none, slice_split_at}
+use Rattle.std.proofs.Math.Logic.{∥∥₁_elim}
+use Rattle.plain_text.specs.Cuts.{is_newline, is_space, Lacks, CutsLine}
+use Rattle.plain_text.specs.Digits.{decimal_of, is_negative, without_minus, signed}
+use Rattle.plain_text.proofs.CutLemmas.{lacks_tested}
+use Rattle.plain_text.proofs.ReadLemmas.{line_is, no_line, read_at, read_none}
+use Rattle.plain_text.proofs.NumberLemmas.{uncapped, reads_signed, is_signed, signed_decimal_tells, signed_is_num, signed_lacks}
+use Rattle.poly_num.specs.Numbers.{IsNum}
+use Rattle.poly_num.specs.Vectors.{Vector}
+use Rattle.poly_model.specs.ListingText.{entries_text, entry_text}
+use Rattle.work_core.specs.ReplyLines.{ReplyLine, row_line, job_line, line_text, lines_text, rows_in_lines}
+use Rattle.plain_text.specs.Texts.{IsReadOf}
+use Rattle.job_text.specs.Fits.{Said, MaySay, said_by, said_text}
+use Rattle.job_text.specs.declared.said.Fit.{Fit}
+use Rattle.job_text.specs.declared.said.Fit.TheVariants as fits
+use Rattle.job_text.specs.LineTexts.{AreReplyLines, IsReplyLine}
+use Rattle.job_text.specs.RowTexts.{decimal_number, entries_in, is_row_line, shown_rows, AreWide}
+use Rattle.job_text.specs.declared.reply.Tail.{Tail}
+use Rattle.job_text.specs.declared.reply.Tail.TheVariants as tails
+use Rattle.job_text.proofs.ReplyLemmas.{line_is_said, said_behind, line_lacks}
+
+-- ---- one row
+
+-- a number is read from its text
+number_is : (y : ℤ) → IsNum y → decimal_number (signed_decimal y) ≡ y
+number_is y h =
+    let word = signed_decimal y in
+    let reads = reads_signed word y h refl in
+    let size = uncapped (decimal_of (without_minus word)) (unsigned_abs y) reads.0 h in
+    let same : word ≡ signed_decimal (signed (is_negative word) (unsigned_abs y)) =
+    is_signed word (unsigned_abs y) reads.0 h reads.1 in
+    ap (λ (o : Option ℕ). signed (is_negative word) (option_map_or (λ (n : ℕ). n) o 0)) size
+    ∙ sym (signed_decimal_tells y _ h (signed_is_num (is_negative word) (unsigned_abs y) h) same)
+
+lacking : (byte : ℕ) (text : List ℕ) → Lacks byte text → All (λ b. (b == byte) ≡ false) text
+lacking byte text h = All-from_recursion (λ b. (b == byte) ≡ false) text (by text h)
+  where
+    by : (text : List ℕ) → Lacks byte text → AllByRecursion (λ b. (b == byte) ≡ false) text
+    by [] h = tt
+    by (b ∷ text) h = (ne_eqb b byte h.0, by text h.1)
+
+-- the words of a line
+words_are : (word : List ℕ) (v : Vector) → Lacks 32 word → AllByRecursion IsNum v →
+    slice_split is_space (word ++ entries_text v) ≡ word ∷ map signed_decimal v
+unfolding entries_text entry_text
+words_are word [] lacks h =
+    ap (slice_split is_space) (append-nil word) ∙ slice_split_none is_space word (lacking 32 word lacks)
+words_are word (y ∷ v) lacks h =
+    slice_split_at is_space word 32 (signed_decimal y ++ entries_text v) (lacking 32 word lacks) refl
+    ∙ ap (λ (l : List (List ℕ)). word ∷ l) (words_are (signed_decimal y) v (signed_lacks 32 y h.0 (omega arith)) h.1)
+
+numbers_are_read : (v : Vector) → AllByRecursion IsNum v → map decimal_number (map signed_decimal v) ≡ v
+numbers_are_read [] h = refl
+numbers_are_read (y ∷ v) h = ap₂ (λ (x : ℤ) (l : Vector). x ∷ l) (number_is y h.0) (numbers_are_read v h.1)
+
+numbers_are : (v : Vector) → AllByRecursion IsNum v → entries_in (codes "row" ++ entries_text v) ≡ v
+numbers_are v h =
+    ap (λ (l : List (List ℕ)). map decimal_number (drop 1 l)) (words_are (codes "row") v (lacks_tested 32 (codes "row") refl) h)
+    ∙ numbers_are_read v h
+
+-- ---- one line
+
+split_at_line : (line rest : List ℕ) → Lacks 10 line →
+    slice_split is_newline (line ++ 10 ∷ rest) ≡ line ∷ slice_split is_newline rest
+split_at_line line rest lacks = slice_split_at is_newline line 10 rest (lacking 10 line lacks) refl
+
+-- the rows of a text whose first line shows one
+pub row_first : (text line rest : List ℕ) (v : Vector) → CutsLine text line rest → AllByRecursion IsNum v →
+    line ≡ said_text (inl (row_line v)) → shown_rows text ≡ v ∷ shown_rows rest
+unfolding shown_rows
+row_first text line rest v cut nums is =
+    ap shown_rows cut.whole ∙ ap (λ (l : List (List ℕ)). map entries_in (filter is_row_line l)) (split_at_line line rest cut.lacks)
+    ∙ ap (λ (l : List ℕ). map entries_in (filter is_row_line (l ∷ slice_split is_newline rest))) is
+    ∙ ap (λ (w : Vector). w ∷ shown_rows rest) (numbers_are v nums)
+
+-- of one whose first line shows none
+no_row_first : (text line rest : List ℕ) → CutsLine text line rest → is_row_line line ≡ false → shown_rows text ≡ shown_rows rest
+unfolding shown_rows
+no_row_first text line rest cut none =
+    ap shown_rows cut.whole ∙ ap (λ (l : List (List ℕ)). map entries_in (filter is_row_line l)) (split_at_line line rest cut.lacks)
+    ∙ rw none refl
+
+pub key_first : (text line rest key : List ℕ) → CutsLine text line rest → line ≡ said_text (inl (job_line key)) →
+    shown_rows text ≡ shown_rows rest
+key_first text line rest key cut is = no_row_first text line rest cut (ap is_row_line is)
+
+pub tail_first : (text line rest : List ℕ) (tail : Tail) → CutsLine text line rest → line ≡ said_text (inr tail) →
+    shown_rows text ≡ shown_rows rest
+tail_first text line rest tail cut is = no_row_first text line rest cut (ap is_row_line is ∙ by tail)
+  where
+    by : (tail : Tail) → is_row_line (said_text (inr tail)) ≡ false
+    by (tails.End count) = refl
+    by (tails.Overflow o) = refl
+    by tails.Memory = refl
+
+-- ---- all lines
+
+-- the rows of the text of lines that fit
+no_rows : shown_rows [] ≡ []
+unfolding shown_rows
+no_rows = refl
+
+pub rows_are : (n : ℕ) (lines : List ReplyLine) → AllByRecursion (IsReplyLine n) lines → shown_rows (lines_text lines) ≡ rows_in_lines lines
+rows_are n [] h = no_rows
+rows_are n (l ∷ lines) h = by l h.0 ∙ more l (rows_are n lines h.1)
+  where
+    cut : (l : ReplyLine) → IsReplyLine n l → CutsLine (line_text l ++ lines_text lines) (said_text (inl l)) (lines_text lines)
+    cut l fit = record {
+      whole = said_behind (said_text (inl l)) (lines_text lines) (line_is_said l);
+      lacks = line_lacks n l fit;
+    }
+
+    next : ReplyLine → List Vector → List Vector
+    next (row_line v) rows = v ∷ rows
+    next (job_line key) rows = rows
+
+    by : (l : ReplyLine) → IsReplyLine n l → shown_rows (line_text l ++ lines_text lines) ≡ next l (shown_rows (lines_text lines))
+    by (row_line v) fit = row_first _ _ _ v (cut (row_line v) fit) fit.2 refl
+    by (job_line key) fit = key_first _ _ _ key (cut (job_line key) fit) refl
+
+    more : (l : ReplyLine) → shown_rows (lines_text lines) ≡ rows_in_lines lines →
+        next l (shown_rows (lines_text lines)) ≡ rows_in_lines (l ∷ lines)
+    more (row_line v) e = ap (λ (rows : List Vector). v ∷ rows) e
+    more (job_line key) e = e
+
+pub shown_lines : (n : ℕ) (text : List ℕ) (lines : List ReplyLine) → AllByRecursion (IsReplyLine n) lines →
+    text ≡ lines_text lines → ∥ ((m : ℕ) × AreReplyLines m text) ∥₁
+shown_lines n text lines fit is = ∣ (n, record { lines = lines; fit = fit; is_text = is }) ∣₁
+
+-- ---- lines that are left
+
+-- the first line, and those behind it
+record BeginsWith (n : ℕ) (line rest : List ℕ) : Type 0 where
+  pub first : ReplyLine
+  pub fit : IsReplyLine n first
+  pub is : line ≡ said_text (inl first)
+  pub more : AreReplyLines n rest
+
+begins_with : (n : ℕ) (text line rest : List ℕ) → CutsLine text line rest → AreReplyLines n text → BeginsWith n line rest
+begins_with n text line rest cut h = by h.lines h.fit h.is_text
+  where
+    by : (lines : List ReplyLine) → AllByRecursion (IsReplyLine n) lines → text ≡ lines_text lines → BeginsWith n line rest
+    by [] fit is = absurd (some line rest (sym cut.whole ∙ is))
+      where
+        some : (line rest : List ℕ) → line ++ 10 ∷ rest ≡ [] → ⊥
+        some [] rest e = cc
+        some (b ∷ line) rest e = cc
+    by (l ∷ lines) fit is =
+        let same = line_is (said_text (inl l)) (lines_text lines) cut (line_lacks n l fit.0)
+        (is ∙ said_behind (said_text (inl l)) (lines_text lines) (line_is_said l)) in
+        record { first = l; fit = fit.0; is = same.0; more = record { lines = lines; fit = fit.1; is_text = same.1 } }
+
+pub lines_behind : (n : ℕ) (text line rest : List ℕ) → CutsLine text line rest → AreReplyLines n text → AreReplyLines n rest
+lines_behind n text line rest cut h = (begins_with n text line rest cut h).more
+
+-- a line of a reply fits
+pub line_fits : (n : ℕ) (text line rest : List ℕ) → CutsLine text line rest → AreReplyLines n text →
+    ((s : Said) → MaySay n 0 0 s → line ≡ said_text s → ⊥) → ⊥
+line_fits n text line rest cut h none =
+    let b = begins_with n text line rest cut h in none (inl b.first) b.fit b.is
+
+-- a line of a reply that was read as none of a row shows none
+pub not_a_row : (n m : ℕ) (text line rest : List ℕ) (row : Vector) (fit : Fit) → CutsLine text line rest → ∥ AreReplyLines n text ∥₁ →
+    m ≡ n → (fit ≡ fits.Row → ⊥) → IsReadOf (MaySay m 0 0) said_text line (said_by row fit) → shown_rows text ≡ shown_rows rest
+not_a_row n m text line rest row fits.No cut left same never read =
+    absurd (∥∥₁_elim left (λ (x y : ⊥). absurd x) (λ (h : AreReplyLines n text). line_fits n text line rest cut h
+    (λ s may is. read_none refl read s (subst (λ (k : ℕ). MaySay k 0 0 s) (sym same) may) is)))
+not_a_row n m text line rest row fits.Row cut left same never read = absurd (never refl)
+not_a_row n m text line rest row (fits.Job key) cut left same never read =
+    key_first text line rest key cut (read_at refl read).1
+not_a_row n m text line rest row (fits.Last tail) cut left same never read =
+    tail_first text line rest tail cut (read_at refl read).1
+
+-- lines that have no LF are none
+none_left : (n : ℕ) (text : List ℕ) → Lacks 10 text → AreReplyLines n text → text ≡ []
+none_left n text lacks h = by h.lines h.fit h.is_text
+  where
+    by : (lines : List ReplyLine) → AllByRecursion (IsReplyLine n) lines → text ≡ lines_text lines → text ≡ []
+    by [] fit is = is
+    by (l ∷ lines) fit is =
+        absurd (no_line text (said_text (inl l)) (lines_text lines) lacks
+        (is ∙ said_behind (said_text (inl l)) (lines_text lines) (line_is_said l)))
+
+-- and show no row
+pub no_row_left : (n : ℕ) (text : List ℕ) → Lacks 10 text → ∥ AreReplyLines n text ∥₁ → shown_rows text ≡ []
+no_row_left n [] lacks h = no_rows
+no_row_left n (b ∷ text) lacks h = absurd (∥∥₁_elim h (λ (x y : ⊥). absurd x) (λ (k : AreReplyLines n (b ∷ text)). some (none_left n (b ∷ text) lacks k)))
+  where
+    some : b ∷ text ≡ [] → ⊥
+    some e = cc
+
+-- ---- another width
+
+rows_fit : (n : ℕ) (lines : List ReplyLine) → AllByRecursion (IsReplyLine n) lines → AreWide n (rows_in_lines lines)
+rows_fit n [] fit = tt
+rows_fit n (row_line v ∷ lines) fit = (fit.0.0, rows_fit n lines fit.1)
+rows_fit n (job_line key ∷ lines) fit = rows_fit n lines fit.1
+
+pub rows_are_wide : (n : ℕ) (rows : List Vector) (lines : List ReplyLine) → rows ≡ rows_in_lines lines →
+    AllByRecursion (IsReplyLine n) lines → AreWide n rows
+rows_are_wide n rows lines same fit = rw same (rows_fit n lines fit)
+
+-- where each row has m numbers, the lines fit rows of m numbers too
+refit : (n m : ℕ) (lines : List ReplyLine) → AreWide m (rows_in_lines lines) → AllByRecursion (IsReplyLine n) lines →
+    AllByRecursion (IsReplyLine m) lines
+refit n m [] wide fit = tt
+refit n m (row_line v ∷ lines) wide fit = ((wide.0, fit.0.1, fit.0.2), refit n m lines wide.1 fit.1)
+refit n m (job_line key ∷ lines) wide fit = (fit.0, refit n m lines wide fit.1)
+
+pub as_wide : (n m : ℕ) (text : List ℕ) → AreWide m (shown_rows text) → AreReplyLines n text → AreReplyLines m text
+as_wide n m text wide h =
+    let rows : shown_rows text ≡ rows_in_lines h.lines = ap shown_rows h.is_text ∙ rows_are n h.lines h.fit in
+    record {
+      lines = h.lines;
+      fit = refit n m h.lines (subst (AreWide m) rows wide) h.fit;
+      is_text = h.is_text;
+    }
