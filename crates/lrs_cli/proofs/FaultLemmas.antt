@@ -1,29 +1,20 @@
 -- What is told of a text: the polyhedron, or the first fault, of what was taken from a source is that of all that it
 -- had.
-use Rattle.std.proofs.Common.{◌≡◌, ◌++◌, ◌+◌, ◌⊎◌, inl, inr, true, ℕ, List, [], length, arith, refl, sym, ◌∙◌, Option, Some, None, Err, length-append, append-nil}
-use Rattle.std.specs.Prelude.{nat_lt}
-use Rattle.std.proofs.lemmas.Bool.{lt-ltb}
+use Rattle.std.proofs.Common.{◌≡◌, ◌++◌, ◌+◌, ◌⊎◌, inl, inr, ℕ, List, [], length, arith, refl, sym, ◌∙◌, Option, Some, None, Err, length-append, append-nil}
 use Rattle.poly_reader.specs.declared.bad.BadFile.{BadFile}
-use Rattle.poly_reader.specs.declared.bad.BadKind.TheVariants.{TooLong}
 use Rattle.poly_reader.specs.Limits.{most_file_bytes}
 use Rattle.poly_reader.specs.Reading.{reading, IsFileOf}
 use Rattle.poly_reader.specs.Taking.{FindsPolyhedron, FindsFault}
+use Rattle.poly_reader.proofs.LongTexts.{too_long}
 use Rattle.poly_model.specs.Systems.{Polyhedron}
 use Rattle.lrs_cli.specs.Answers.{WhereTold, Describes, IsBadFile}
-
-abbrev too_long : BadFile
-too_long = record { kind = TooLong; line = 0 }
-
-reading_of_long : (text : List ℕ) → nat_lt most_file_bytes (length text) ≡ true → reading text ≡ Err too_long
-unfolding reading
-reading_of_long text e = rw e refl
 
 -- more bytes behind a text that is too long change nothing
 fault_of_long : (text rest : List ℕ) (f : BadFile) → length text ≡ most_file_bytes + 1 → reading text ≡ Err f →
     reading (text ++ rest) ≡ Err f
 fault_of_long text rest f l e =
-    reading_of_long (text ++ rest) (lt-ltb _ _ (omega (arith, length-append text rest)))
-    ∙ sym (reading_of_long text (lt-ltb _ _ (omega arith)))
+    too_long (text ++ rest) (omega (arith, length-append text rest))
+    ∙ sym (too_long text (omega arith))
     ∙ e
 
 fault_of_all : (text rest : List ℕ) (f : BadFile) → (rest ≡ []) ⊎ (length text ≡ most_file_bytes + 1) →

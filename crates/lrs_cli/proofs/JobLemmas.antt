@@ -16,6 +16,7 @@ use Rattle.lrs_cli.specs.declared.status.Status.{Status}
 use Rattle.lrs_cli.specs.declared.status.Status.TheVariants.{Done, Usage, BadFile, BadJob, Infeasible, Overflow, ReadFault, WriteFault, OutOfMemory}
 use Rattle.lrs_cli.specs.Job.{OfFront, IsReplied, ComesOfJob, AnswersJob}
 use Rattle.lrs_cli.specs.Streams.{streams}
+use Rattle.lrs_cli.proofs.ThroughLemmas.{not_ok}
 
 -- ---- the front of what the source had
 abbrev most : ℕ
@@ -119,9 +120,6 @@ module _ (old told new : Option (List ℕ)) (parts : (text : List ℕ) → Appen
     begun never Usage h = absurd h
     begun never (BadFile fault) h = absurd h
     begun never Infeasible h = absurd h
-
-    not_ok : {E : Type 0} (e : E) → IsOk {T = Unit {0}} (Err e) → ⊥
-    not_ok e h = cc
 
     -- whatever the end
     through : (status answer : Status) {E : Type 0} (end : Result (Unit {0}) E) →

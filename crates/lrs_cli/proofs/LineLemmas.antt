@@ -20,6 +20,10 @@ use Rattle.lrs_cli.proofs.DemoLemmas.{answers_memory}
 pub none_taken : (left : Option (List ℕ)) (most : ℕ) → TakesAtMost left left most
 none_taken left most = record { taken = []; count = omega arith; bytes = Consumes-nil left }
 
+-- no file is longer than a job may be
+pub taken_of_file : (old new : Option (List ℕ)) → TakesAtMost old new (most_file_bytes + 1) → TakesAtMost old new (most_job_bytes + 1)
+taken_of_file old new t = record { taken = t.taken; count = omega (arith, t.count); bytes = t.bytes }
+
 module _ (before : Streams) (Unread Unwritten : Type 0) (unread : Unread) (unwritten : Unwritten) where
   -- want of memory before anything was read or written
   convert_memory : AnswersConvert before before Unwritten OutOfMemory
@@ -53,6 +57,7 @@ module _ (before : Streams) (Unread Unwritten : Type 0) (unread : Unread) (unwri
 
   pub words_memory : (words : List (List ℕ)) → Answers words before before Unread Unwritten OutOfMemory
   words_memory words = record {
+    taken = none_taken before.left (most_job_bytes + 1);
     usage = λ e. absurd (cc);
     accepted = λ u m. absurd (m refl);
     unasked = λ n. (unread, unwritten);
@@ -61,6 +66,7 @@ module _ (before : Streams) (Unread Unwritten : Type 0) (unread : Unread) (unwri
 
   pub words_usage : (words : List (List ℕ)) → ¬ (IsAccepted words) → Answers words before before Unread Unwritten Usage
   words_usage words none = record {
+    taken = none_taken before.left (most_job_bytes + 1);
     usage = λ e. none;
     accepted = λ u m. absurd (u refl);
     unasked = λ n. (unread, unwritten);
@@ -69,9 +75,10 @@ module _ (before : Streams) (Unread Unwritten : Type 0) (unread : Unread) (unwri
 
 -- the line that the words ask for was answered
 pub words_line : (words : List (List ℕ)) (line : Line) → AskFor words line → (before after : Streams) (Unread Unwritten : Type 0)
-    (answer : Status) → (answer ≡ Usage → ⊥) → AnswersLine line before after Unread Unwritten answer →
-    Answers words before after Unread Unwritten answer
-words_line words line asked before after Unread Unwritten answer never answers = record {
+    (answer : Status) → (answer ≡ Usage → ⊥) → TakesAtMost before.left after.left (most_job_bytes + 1) →
+    AnswersLine line before after Unread Unwritten answer → Answers words before after Unread Unwritten answer
+words_line words line asked before after Unread Unwritten answer never taken answers = record {
+  taken = taken;
   usage = λ e. absurd (never e);
   accepted = λ u m. (line, asked);
   unasked = λ n. absurd (n (line, asked));

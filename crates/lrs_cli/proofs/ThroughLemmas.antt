@@ -142,7 +142,7 @@ rose_since before mid U OutOfMemory c h r = rose_after before.write_faults mid.w
 rose_since before mid U Usage c h r = rose_after before.write_faults mid.write_faults c (h.writes (λ e. cc)) r
 rose_since before mid U ReadFault c h r = rose_after before.write_faults mid.write_faults c (h.writes (λ e. cc)) r
 
-not_ok : {E : Type 0} (e : E) → IsOk {T = Unit {0}} (Err e) → ⊥
+pub not_ok : {E : Type 0} (e : E) → IsOk {T = Unit {0}} (Err e) → ⊥
 not_ok e h = cc
 
 -- whatever the end

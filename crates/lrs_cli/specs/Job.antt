@@ -26,7 +26,8 @@ ComesOfJob before after Unwritten (Done rows lines) =
     (lines ≡ 0) × IsAtEnd after.left × OfFront before.left (IsReplied before.written after.written rows)
 -- the text is no job, or its root or its key is none of its work; this line of it is the first that is wrong
 ComesOfJob before after Unwritten (BadJob place) = Unwritten × OfFront before.left (λ text. IsBadJob text place)
--- a product passes, of a pivot that the job cannot do without; a whole reply that says so was written
+-- a product passes, by subtrees of a pivot that the job cannot do without, by subsets of any in the cone; a whole reply that
+-- says so was written
 ComesOfJob before after Unwritten (Overflow o) =
     OfFront before.left (Replies before.written after.written (Overflowed o))
 -- nothing was written, or a whole reply that says so

@@ -28,6 +28,8 @@ AnswersLine (Demo kind n) before after Unread Unwritten answer =
 -- The answer to some words. `Unread` says that the input is as it was.
 pub record Answers (words : List (List ℕ)) (before after : Streams) (Unread Unwritten : Type 0)
     (answer : Status) : Type 0 where
+  -- whatever the words are, at most one byte more than a job may have was taken; no file is longer
+  pub taken : TakesAtMost before.left after.left (most_job_bytes + 1)
   -- usage: the words are no accepted line. Then nothing was read or written. Only want of memory hides it
   pub usage : answer ≡ Usage → ¬ (IsAccepted words)
   pub accepted : ¬ (answer ≡ Usage) → ¬ (answer ≡ OutOfMemory) → IsAccepted words

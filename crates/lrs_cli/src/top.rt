@@ -1,6 +1,8 @@
 //! All that the program does, over any source and sink.
-ghost use Rattle.std.specs.Prelude.{◌≡◌, map};
+ghost use Rattle.std.specs.Prelude.{◌≡◌, ◌+◌, map};
 ghost use Rattle.command_line.specs.Laws.{IsInRange};
+ghost use Rattle.job_text.specs.Limits.{most_job_bytes};
+ghost use Rattle.poly_io.specs.Taken.{TakesAtMost};
 ghost use Rattle.lrs_cli.specs.Lrs.{Answers, AnswersLine};
 ghost use Rattle.lrs_cli.specs.Streams.{streams};
 
@@ -32,6 +34,7 @@ pub fn lrs<I: Source, O: Sink>(alloc: Global, words: &[&str], input: &mut I, out
 fn answer_line<I: Source, O: Sink>(alloc: Global, line: Line, input: &mut I, out: O) -> (Status, O)
     requires range { IsInRange line }
     ensures line { result.0 ≡ Status.Usage → ⊥ }
+    ensures taken { TakesAtMost (I.left input.old) (I.left input.new) (most_job_bytes + 1) }
     ensures answers { AnswersLine line
         (streams (I.left input.old) (I.faults input.old) (O.written out) (O.faults out))
         (streams (I.left input.new) (I.faults input.new) (O.written result.1) (O.faults result.1))

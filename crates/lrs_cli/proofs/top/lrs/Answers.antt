@@ -10,4 +10,4 @@ answer_line-requires g c =
 pub returns-in-Ok : goal.returns-in-Ok
 returns-in-Ok g c =
     words_line (map (λ (w : Bor (List ℕ)). w.now) c.args.words.now) c.in-Ok.line c.in-Ok.ensures.line _ _ _ _ _
-    c.answer_line.ensures.line c.answer_line.ensures.answers
+    c.answer_line.ensures.line c.answer_line.ensures.taken c.answer_line.ensures.answers
