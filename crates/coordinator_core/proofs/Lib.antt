@@ -1,0 +1,5 @@
+pub mod KeyCounts
+pub mod AttemptLemmas
+pub mod SoundLemmas
+pub mod KeptLemmas
+pub mod KnownRuns

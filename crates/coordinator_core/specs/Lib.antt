@@ -1,0 +1,4 @@
+pub mod Machine
+pub mod Events
+pub mod Traces
+pub mod Places
