@@ -1,0 +1,175 @@
+-- The laws of a call and of calls one after the other.
+use Rattle.std.proofs.Common.{arith, ℕ, List, ◌≡◌, inl, inr, ◌-◌, ◌<◌, ◌^◌, true, false, [], ◌∷◌, ◌++◌, refl, sym, ap, ◌∙◌, subst, length, append_assoc, Some}
+use Rattle.std.specs.List.{Contains}
+use Rattle.poly_model.specs.declared.kind.WorkKind.{WorkKind}
+use Rattle.poly_model.specs.declared.kind.WorkKind.TheVariants.{Subsets, Subtrees}
+use Rattle.work_core.specs.Searches.{Search, meaning_of}
+use Rattle.search_laws.proofs.OnceLists.{one_key_or_not}
+use Rattle.job_text.specs.KeyTexts.{HasKeyText}
+use Rattle.job_text.specs.FirstPayloads.{IsRootText}
+use Rattle.job_text.specs.declared.reply.Reply.{Reply}
+use Rattle.job_text.specs.declared.reply.Tail.{Tail}
+use Rattle.job_text.specs.declared.reply.Tail.TheVariants.{End, Overflow, Memory}
+use Rattle.run_state.specs.KeyLists.{KnownKeys, are_new, holds}
+use Rattle.run_state.specs.Payloads.{AreReplies, AreShort, FitsIn, IsLedgerText, SaysEnd, first_keys, keys_after, keys_of}
+use Rattle.run_state.specs.Runs.{Run, first_run, run_of}
+use Rattle.run_state.specs.Legal.{AreLegal, IsLegal}
+use Rattle.run_state.proofs.FollowLemmas.{ledger-join, run-join, run-keys, run-search}
+use Rattle.run_state.proofs.KeyListLemmas.{holds_not, same_keys}
+use Rattle.run_state.proofs.LegalLaws.{honest_keys_are_new}
+use Rattle.run_state.proofs.MeaningLemmas.{one_ledger}
+use Rattle.coordinator_core.specs.declared.event.Event.TheVariants.{Answer, Lost}
+use Rattle.coordinator_core.specs.declared.verdict.Verdict.{Verdict}
+use Rattle.coordinator_core.specs.declared.verdict.Verdict.TheVariants.{Accepted, Stray, Loss, Ends}
+use Rattle.coordinator_core.specs.Machine.{Attempt, State, after, by_tail, judged, sent_at, verdict_at}
+use Rattle.coordinator_core.specs.Traces.{Step, hands, collects, stepped, accepted}
+use Rattle.coordinator_core.proofs.AttemptLemmas.{keys_out-has, sent_at_place}
+use Rattle.coordinator_core.proofs.KeyCounts.{WaitsOnce, times, times-here, times-there, once-next, times_of, member_of}
+use Rattle.coordinator_core.proofs.SoundLemmas.{Sound, sound-start}
+use Rattle.workers_io.specs.History.{Happening, started, refused, replied, broken}
+use Rattle.coordinator_laws.specs.Courses.{AreToldAs, Course, IsCourse, accepted_texts, kept_text, payloads_added, replies_after, start_in}
+use Rattle.coordinator_laws.specs.Laws.{EventsKeepLegal, EventsKeepText, HonestIsAccepted, TracesTellTheRun}
+use Rattle.coordinator_laws.specs.Restarts.{FrontsAreLegal, IsLeft, RestartsKeepLegal}
+use Rattle.coordinator_laws.proofs.LedgerLemmas.{all-append, all-front, front_is_legal, legal-join}
+use Rattle.coordinator_laws.proofs.FollowLemmas.{runs-follow, sounds-follow, texts-follow}
+use Rattle.coordinator_laws.proofs.HonestLemmas.{HasJobTexts, knows-start, legal-follow}
+
+-- ---- where a call begins
+once-after : (n : ℕ) (keys : KnownKeys) (payloads : List (List ℕ)) (replies : List Reply) → ((k : List ℕ) → WaitsOnce keys.waiting keys.done k) →
+    AreReplies n keys payloads replies → (k : List ℕ) → WaitsOnce (keys_of keys replies).waiting (keys_of keys replies).done k
+once-after n keys [] [] h a = h
+once-after n keys [] (r ∷ replies) h a = absurd a
+once-after n keys (p ∷ payloads) [] h a = absurd a
+once-after n keys (p ∷ payloads) (r ∷ replies) h a =
+    once-after n (keys_after keys r) payloads replies
+    (once-next keys.waiting keys.done r.key r.keys h (times_of keys.waiting r.key a.0.fits.waits) a.0.fits.new_keys) a.1
+
+once-first : (s : Search) (k : List ℕ) → WaitsOnce (first_keys s).waiting (first_keys s).done k
+once-first s k = elim (one_key_or_not k (meaning_of s).first_key) [
+  | inl q ↦ (omega (arith, times-here k (meaning_of s).first_key [] q), λ w. refl)
+  | inr m ↦ (omega (arith, times-there k (meaning_of s).first_key [] m), λ w. refl)
+]
+
+pub sound_at_start : (c : Course) (payloads : List (List ℕ)) → IsLedgerText c.search c.replies payloads → Sound (start_in c)
+sound_at_start c payloads t =
+    sound-start c.options (run_of (first_run c.search) c.replies)
+    (subst (λ (keys : KnownKeys). (k : List ℕ) → WaitsOnce keys.waiting keys.done k) (sym (run-keys (first_run c.search) c.replies))
+    (once-after c.search.polyhedron.n (first_keys c.search) t.others c.replies (once-first c.search) t.are_replies))
+
+root_has_text : (work : WorkKind) (root : List ℕ) → IsRootText work root → HasKeyText root
+root_has_text Subsets root e = subst HasKeyText (sym e) (record { is_key = record { room = omega arith; ascending = tt }; labels = tt })
+root_has_text Subtrees root h = h
+
+has_texts : (s : Search) (replies : List Reply) (payloads : List (List ℕ)) → IsLedgerText s replies payloads → HasJobTexts s
+has_texts s replies payloads t = record { root = root_has_text s.work s.root t.is_first.root; file = t.is_first.file }
+
+same_search : (c : Course) → (start_in c).run.search ≡ c.search
+same_search c = run-search (first_run c.search) c.replies
+
+-- ---- one call
+are-replies : (c : Course) (payloads : List (List ℕ)) → IsCourse c → IsLedgerText c.search c.replies payloads →
+    AreReplies c.search.polyhedron.n (keys_of (first_keys c.search) c.replies) (payloads_added c) (accepted (start_in c) c.steps)
+are-replies c payloads h t =
+    subst (λ (keys : KnownKeys). AreReplies c.search.polyhedron.n keys (payloads_added c) (accepted (start_in c) c.steps)) (run-keys (first_run c.search) c.replies)
+    (texts-follow c.search (start_in c) c.last c.steps c.happenings (same_search c) (sound_at_start c payloads t) h.trace h.told_as)
+
+pub events_keep_text : EventsKeepText
+events_keep_text c payloads h t =
+    ledger-join c.search c.replies (accepted (start_in c) c.steps) payloads (payloads_added c) t (are-replies c payloads h t)
+
+pub events_keep_legal : EventsKeepLegal
+events_keep_legal c payloads starts o h legal honest =
+    let texts = has_texts c.search c.replies payloads legal.is_text in
+    legal-join c.search c.replies (accepted (start_in c) c.steps) payloads (payloads_added c) legal (are-replies c payloads h legal.is_text)
+    (legal-follow c.search texts starts (start_in c) c.last c.steps c.happenings
+    (knows-start c.search texts starts (start_in c) o (same_search c) refl) h.trace h.told_as honest)
+
+pub traces_tell_the_run : TracesTellTheRun
+traces_tell_the_run c m =
+    runs-follow (start_in c) c.last c.steps m ∙ sym (run-join (first_run c.search) c.replies (accepted (start_in c) c.steps))
+
+-- ---- no clash
+tail-taken : (keys : KnownKeys) (r : Reply) (t : Tail) → SaysEnd t → are_new (keys.waiting ++ keys.done) r.keys ≡ true → by_tail keys r t ≡ Accepted
+tail-taken keys r (End count) i e = rw e refl
+tail-taken keys r (Overflow o) i e = absurd i
+tail-taken keys r Memory i e = absurd i
+
+taken-if : (run : Run) (r : Reply) (a : Attempt) → r.key ≡ a.key → a.is_out ≡ true → holds run.keys.done r.key ≡ false → SaysEnd r.tail →
+    are_new (run.keys.waiting ++ run.keys.done) r.keys ≡ true → verdict_at run r (Some a) ≡ Accepted
+taken-if run r a key out fresh ends new = rw (same_keys r.key a.key key) (rw out (rw fresh (tail-taken run.keys r r.tail ends new)))
+
+-- the job of an attempt that is out waits, and is not done
+not-done : (s : State) (attempt : ℕ) (a : Attempt) → Sound s → sent_at s attempt ≡ Some a → a.is_out ≡ true →
+    (0 < times a.key s.run.keys.waiting) × (times a.key s.run.keys.done ≡ 0)
+not-done s attempt a h there out =
+    let here = keys_out-has s.sent (attempt - 1) a (sent_at_place s attempt a there).1 out in
+    let waits : 0 < times a.key s.run.keys.waiting = omega (arith, here, h.placed a.key) in
+    (waits, (h.once a.key).1 waits)
+
+pub honest_is_accepted : HonestIsAccepted
+honest_is_accepted c payloads starts o h legal honest attempt a r there out key ends splits =
+    let all = events_keep_legal c payloads starts o h legal honest in
+    let run : c.last.run ≡ run_of (first_run c.search) (replies_after c) = traces_tell_the_run c h.trace in
+    let keys : c.last.run.keys ≡ keys_of (first_keys c.search) (replies_after c) =
+    ap (λ (z : Run). z.keys) run ∙ run-keys (first_run c.search) (replies_after c) in
+    let sound = sounds-follow (start_in c) c.last c.steps (sound_at_start c payloads legal.is_text) h.trace in
+    let placed = not-done c.last attempt a sound there out in
+    let waits : 0 < times r.key c.last.run.keys.waiting = subst (λ (q : List ℕ). 0 < times q c.last.run.keys.waiting) (sym key) placed.0 in
+    let none : times r.key c.last.run.keys.done ≡ 0 = subst (λ (q : List ℕ). times q c.last.run.keys.done ≡ 0) (sym key) placed.1 in
+    let fits : FitsIn c.last.run.keys r = subst (λ (z : KnownKeys). FitsIn z r) (sym keys)
+    (honest_keys_are_new c.search (replies_after c) (payloads ++ payloads_added c) r all
+    (subst (λ (z : KnownKeys). Contains z.waiting r.key) keys (member_of c.last.run.keys.waiting r.key waits)) splits) in
+    let fresh : holds c.last.run.keys.done r.key ≡ false =
+    holds_not c.last.run.keys.done r.key (λ d. absurd (omega (arith, times_of c.last.run.keys.done r.key d, none))) in
+    rw there (taken-if c.last.run r a key out fresh ends fits.new_keys)
+
+-- ---- calls one after the other
+pub fronts_are_legal : FrontsAreLegal
+fronts_are_legal = front_is_legal
+
+some-records : (s : Search) (replies : List Reply) (records front : List (List ℕ)) → IsLedgerText s replies records → 0 < length (records ++ front)
+some-records s replies records front t = subst (λ (l : List (List ℕ)). 0 < length (l ++ front)) (sym t.split) (omega arith)
+
+abbrev IsShort : List ℕ → Type 0
+IsShort payload = length payload < 2 ^ 64
+
+kept-short : (v : Verdict) (b : ℕ) (bytes : List ℕ) (texts : List (List ℕ)) → IsShort bytes → AreShort texts → AreShort (kept_text v (replied b bytes) ++ texts)
+kept-short Accepted b bytes texts short more = (short, more)
+kept-short Stray b bytes texts short more = more
+kept-short Loss b bytes texts short more = more
+kept-short (Ends o) b bytes texts short more = more
+
+-- what is told of an accepted reply are bytes of a machine
+short-texts : (s : State) (steps : List Step) (hs : List Happening) → AreToldAs s steps hs → AreShort (accepted_texts s steps hs)
+short-texts s [] hs k = tt
+short-texts s (step ∷ steps) [] k = tt
+short-texts s (hands a key budget began ∷ steps) (x ∷ hs) k = short-texts (stepped s (hands a key budget began)) steps hs k.1
+short-texts s (collects (Answer a r) ∷ steps) (replied b bytes ∷ hs) k =
+    kept-short (judged s a r) b bytes (accepted_texts (after s (Answer a r)) steps hs) k.0.1.short (short-texts (after s (Answer a r)) steps hs k.1)
+short-texts s (collects (Answer a r) ∷ steps) (broken b ∷ hs) k = let never : Answer a r ≡ Lost b = k.0 in absurd cc
+short-texts s (collects (Answer a r) ∷ steps) (started b text ∷ hs) k = absurd k.0
+short-texts s (collects (Answer a r) ∷ steps) (refused b text ∷ hs) k = absurd k.0
+short-texts s (collects (Lost a) ∷ steps) (x ∷ hs) k = short-texts (after s (Lost a)) steps hs k.1
+
+-- what one stopped call leaves
+left-legal : (before after : List (List ℕ)) → AreShort before → IsLegal before → IsLeft before after → IsLegal after × AreShort after
+left-legal before after short (s, replies, h) l =
+    let c = l.course in
+    let same = one_ledger before short s c.search replies c.replies h.is_text l.are_records in
+    let h1 : AreLegal c.search replies before = subst (λ (z : Search). AreLegal z replies before) same.0 h in
+    let h2 : AreLegal c.search c.replies before = subst (λ (rs : List Reply). AreLegal c.search rs before) same.1 h1 in
+    let all = events_keep_legal c before l.starts l.in_range l.goes h2 l.honest in
+    let texts : (before ++ payloads_added c) ≡ (before ++ l.front) ++ l.rest =
+    ap (λ (x : List (List ℕ)). before ++ x) l.split ∙ sym (append_assoc before l.front l.rest) in
+    let legal : IsLegal ((before ++ l.front) ++ l.rest) =
+    (c.search, replies_after c, subst (AreLegal c.search (replies_after c)) texts all) in
+    let added : AreShort (l.front ++ l.rest) = subst AreShort l.split (short-texts (start_in c) c.steps c.happenings l.goes.told_as) in (
+      subst IsLegal (sym l.left) (front_is_legal (before ++ l.front) l.rest (some-records s replies before l.front h.is_text) legal),
+      subst AreShort (sym l.left) (all-append IsShort before l.front short (all-front IsShort l.front l.rest added)),
+    )
+
+pub restarts_keep_legal : RestartsKeepLegal
+restarts_keep_legal before [] short h a = h
+restarts_keep_legal before (after ∷ afters) short h a =
+    let next = left-legal before after short h a.0 in
+    restarts_keep_legal after afters next.1 next.0 a.1

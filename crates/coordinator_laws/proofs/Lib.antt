@@ -1,0 +1,5 @@
+pub mod LedgerLemmas
+pub mod FollowLemmas
+pub mod HonestLemmas
+pub mod CourseLaws
+pub mod EndLemmas

@@ -1,0 +1,4 @@
+pub mod Courses
+pub mod Laws
+pub mod Restarts
+pub mod Ends
