@@ -22,36 +22,36 @@ use Rattle.run_state.proofs.PlacedElements.{member-at}
 use Rattle.run_state.proofs.PlaceLemmas.{key_at-seam}
 use Rattle.coordinator_core.specs.declared.options.Options.{Options}
 use Rattle.coordinator_core.specs.declared.sent.Sent.{Sent}
-use Rattle.coordinator_core.specs.Machine.{AreOptions, Attempt, State, after_loss, handed, keys_out, sent_at, taken_at}
-use Rattle.coordinator_core.specs.Places.{IsDueAt, IsKept, IsSound, attempt_at, attempts_at, gone, keys_at, place_in, state_of}
+use Rattle.coordinator_core.specs.Machine.{AreOptions, Attempt, State, after_loss, handed, keys_out, sent_at, recorded_at}
+use Rattle.coordinator_core.specs.Places.{IsDueAt, IsKept, IsSound, attempt_at, attempts_at, gone, keys_at, sent_numbered, state_of}
 use Rattle.coordinator_core.proofs.SoundLemmas.{Sound, clash_is_old, due_accepted, sound_by_counts, sound_by_members, sound-handed, sound-lost, sound-taken}
 use Rattle.coordinator_core.proofs.AttemptLemmas.{length-keys_out-ended, length-keys_out-push}
 
 -- ---- the attempt of a number
 pub sent-view : (options : Options) (run : Run) (queue : List ℕ) (sent : List Sent) (losses strays attempt : ℕ) →
-    sent_at (state_of options run queue sent losses strays) attempt ≡ option_map (attempt_at run.came) (place_in sent attempt)
+    sent_at (state_of options run queue sent losses strays) attempt ≡ option_map (attempt_at run.came) (sent_numbered sent attempt)
 sent-view options run queue sent losses strays attempt = elim (cases_Bool (nat_lt 0 attempt)) [
   | inl y ↦ rw y (slice_get-map (attempt_at run.came) sent (attempt - 1))
   | inr n ↦ rw n refl
 ]
 
 pub sent-some : (options : Options) (run : Run) (queue : List ℕ) (sent : List Sent) (losses strays attempt : ℕ) (s : Sent) →
-    place_in sent attempt ≡ Some s → sent_at (state_of options run queue sent losses strays) attempt ≡ Some (attempt_at run.came s)
+    sent_numbered sent attempt ≡ Some s → sent_at (state_of options run queue sent losses strays) attempt ≡ Some (attempt_at run.came s)
 sent-some options run queue sent losses strays attempt s e =
     sent-view options run queue sent losses strays attempt ∙ ap (option_map (attempt_at run.came)) e
 
 pub sent-none : (options : Options) (run : Run) (queue : List ℕ) (sent : List Sent) (losses strays attempt : ℕ) →
-    place_in sent attempt ≡ None → sent_at (state_of options run queue sent losses strays) attempt ≡ None
+    sent_numbered sent attempt ≡ None → sent_at (state_of options run queue sent losses strays) attempt ≡ None
 sent-none options run queue sent losses strays attempt e =
     sent-view options run queue sent losses strays attempt ∙ ap (option_map (attempt_at run.came)) e
 
-pub place-member : (sent : List Sent) (attempt : ℕ) (s : Sent) → place_in sent attempt ≡ Some s → Contains sent s
+pub place-member : (sent : List Sent) (attempt : ℕ) (s : Sent) → sent_numbered sent attempt ≡ Some s → Contains sent s
 place-member sent attempt s e = elim (cases_Bool (nat_lt 0 attempt)) [
   | inl y ↦ member-at sent (attempt - 1) s (rw y at e)
   | inr n ↦ let q : None ≡ Some s = rw n at e in absurd (cc)
 ]
 
-pub place-at : (sent : List Sent) (attempt : ℕ) (s : Sent) → place_in sent attempt ≡ Some s → slice_get sent (attempt - 1) ≡ Some s
+pub place-at : (sent : List Sent) (attempt : ℕ) (s : Sent) → sent_numbered sent attempt ≡ Some s → slice_get sent (attempt - 1) ≡ Some s
 place-at sent attempt s e = elim (cases_Bool (nat_lt 0 attempt)) [
   | inl y ↦ rw y at e
   | inr n ↦ let q : None ≡ Some s = rw n at e in absurd (cc)
@@ -124,7 +124,7 @@ fewer came sent i s e y =
     (slice_get-map (attempt_at came) sent i ∙ ap (option_map (attempt_at came)) e) y
 
 pub some-out : (options : Options) (run : Run) (queue : List ℕ) (sent : List Sent) (out capacity attempt : ℕ) (s : Sent) →
-    IsKept options run queue sent out capacity → place_in sent attempt ≡ Some s → s.is_out ≡ true → 1 ≤ out
+    IsKept options run queue sent out capacity → sent_numbered sent attempt ≡ Some s → s.is_out ≡ true → 1 ≤ out
 some-out options run queue sent out capacity attempt s k e y =
     omega (arith, k.count, fewer run.came sent (attempt - 1) s (place-at sent attempt s e) y)
 
@@ -136,12 +136,12 @@ set-member (y ∷ xs) (suc i) v x c = ⊎_elim
     (λ (d : Contains (slice_set xs i v) x). ⊎_elim (λ (a : Contains xs x). inl (Contains-later x y xs a)) (λ (b : v ≡ x). inr b) (set-member xs i v x d))
     (Contains-cons_cases x y (slice_set xs i v) c)
 
-pub lost-none : (options : Options) (run : Run) (queue : List ℕ) (sent : List Sent) (losses strays attempt : ℕ) → place_in sent attempt ≡ None →
+pub lost-none : (options : Options) (run : Run) (queue : List ℕ) (sent : List Sent) (losses strays attempt : ℕ) → sent_numbered sent attempt ≡ None →
     SameState (state_of options run queue sent (counted losses 1) strays) (after_loss (state_of options run queue sent losses strays) attempt)
 lost-none options run queue sent losses strays attempt e = rw (sent-none options run queue sent losses strays attempt e) refl
 
 pub lost-idle : (options : Options) (run : Run) (queue : List ℕ) (sent : List Sent) (losses strays attempt : ℕ) (s : Sent) →
-    place_in sent attempt ≡ Some s → s.is_out ≡ false →
+    sent_numbered sent attempt ≡ Some s → s.is_out ≡ false →
     SameState (state_of options run queue sent (counted losses 1) strays) (after_loss (state_of options run queue sent losses strays) attempt)
 lost-idle options run queue sent losses strays attempt s e n =
     let there = sent-some options run queue sent losses strays attempt s e in
@@ -149,7 +149,7 @@ lost-idle options run queue sent losses strays attempt s e n =
 
 pub lost-out : (options : Options) (run : Run) (queue : List ℕ) (sent : List Sent) (losses strays attempt : ℕ) (s : Sent)
     (queue1 : List ℕ) (sent1 : List Sent) →
-    place_in sent attempt ≡ Some s → s.is_out ≡ true → queue1 ≡ queue ++ s.place ∷ [] → sent1 ≡ slice_set sent (attempt - 1) (gone s) →
+    sent_numbered sent attempt ≡ Some s → s.is_out ≡ true → queue1 ≡ queue ++ s.place ∷ [] → sent1 ≡ slice_set sent (attempt - 1) (gone s) →
     SameState (state_of options run queue1 sent1 (counted losses 1) strays) (after_loss (state_of options run queue sent losses strays) attempt)
 lost-out options run queue sent losses strays attempt s queue1 sent1 e y q l =
     let there = sent-some options run queue sent losses strays attempt s e in
@@ -160,7 +160,7 @@ lost-out options run queue sent losses strays attempt s queue1 sent1 e y q l =
     rw there (rw y (rw keys (rw table refl)))
 
 sound-one_lost : (options : Options) (run : Run) (queue : List ℕ) (sent : List Sent) (attempt : ℕ) (s : Sent) (queue1 : List ℕ) (sent1 : List Sent) →
-    place_in sent attempt ≡ Some s → s.is_out ≡ true → queue1 ≡ queue ++ s.place ∷ [] → sent1 ≡ slice_set sent (attempt - 1) (gone s) →
+    sent_numbered sent attempt ≡ Some s → s.is_out ≡ true → queue1 ≡ queue ++ s.place ∷ [] → sent1 ≡ slice_set sent (attempt - 1) (gone s) →
     SoundAt run queue sent → SoundAt run queue1 sent1
 sound-one_lost options run queue sent attempt s queue1 sent1 e y q l sound =
     let old = state_of options run queue sent 0 0 in
@@ -170,7 +170,7 @@ sound-one_lost options run queue sent attempt s queue1 sent1 e y q l sound =
 
 pub kept-ended : (options : Options) (run : Run) (queue : List ℕ) (sent : List Sent) (out capacity attempt : ℕ) (s : Sent)
     (queue1 : List ℕ) (sent1 : List Sent) (capacity1 : ℕ) →
-    IsKept options run queue sent out capacity → place_in sent attempt ≡ Some s → s.is_out ≡ true →
+    IsKept options run queue sent out capacity → sent_numbered sent attempt ≡ Some s → s.is_out ≡ true →
     queue1 ≡ queue ++ s.place ∷ [] → sent1 ≡ slice_set sent (attempt - 1) (gone s) → length sent1 + (options.workers - out + 1) ≤ capacity1 →
     IsKept options run queue1 sent1 (out - 1) capacity1
 kept-ended options run queue sent out capacity attempt s queue1 sent1 capacity1 k e y q l room =
@@ -244,7 +244,7 @@ attempts-grown came keys (s ∷ sent) h =
 
 -- the attempts, of which one is out no more
 handed-still : (came : List (List ℕ)) (sent : List Sent) (attempt : ℕ) (s : Sent) (sent1 : List Sent) →
-    ((t : Sent) → Contains sent t → t.place < length came) → place_in sent attempt ≡ Some s →
+    ((t : Sent) → Contains sent t → t.place < length came) → sent_numbered sent attempt ≡ Some s →
     sent1 ≡ slice_set sent (attempt - 1) (gone s) → (t : Sent) → Contains sent1 t → t.place < length came
 handed-still came sent attempt s sent1 handed e l t c =
     let here : s.place < length came = handed s (member-at sent (attempt - 1) s (place-at sent attempt s e)) in
@@ -253,10 +253,10 @@ handed-still came sent attempt s sent1 handed e l t c =
 
 pub taken-view : (options : Options) (run : Run) (queue : List ℕ) (sent : List Sent) (losses strays attempt out capacity : ℕ) (r : Reply) (s : Sent)
     (run1 : Run) (queue1 : List ℕ) (sent1 : List Sent) →
-    IsKept options run queue sent out capacity → place_in sent attempt ≡ Some s → run1 ≡ run_after run r →
+    IsKept options run queue sent out capacity → sent_numbered sent attempt ≡ Some s → run1 ≡ run_after run r →
     queue1 ≡ queue ++ range_with_len (length run.came) (length r.keys) → sent1 ≡ slice_set sent (attempt - 1) (gone s) →
     SameState (state_of options run1 queue1 sent1 losses strays)
-    (taken_at (state_of options run queue sent losses strays) attempt r (sent_at (state_of options run queue sent losses strays) attempt))
+    (recorded_at (state_of options run queue sent losses strays) attempt r (sent_at (state_of options run queue sent losses strays) attempt))
 taken-view options run queue sent losses strays attempt out capacity r s run1 queue1 sent1 k e g q l =
     let came = run.came in
     let there = sent-some options run queue sent losses strays attempt s e in
@@ -273,7 +273,7 @@ taken-view options run queue sent losses strays attempt out capacity r s run1 qu
 
 sound-one_taken : (options : Options) (run : Run) (queue : List ℕ) (sent : List Sent) (out capacity attempt : ℕ) (r : Reply) (s : Sent)
     (run1 : Run) (queue1 : List ℕ) (sent1 : List Sent) →
-    IsKept options run queue sent out capacity → place_in sent attempt ≡ Some s → run1 ≡ run_after run r →
+    IsKept options run queue sent out capacity → sent_numbered sent attempt ≡ Some s → run1 ≡ run_after run r →
     queue1 ≡ queue ++ range_with_len (length run.came) (length r.keys) → sent1 ≡ slice_set sent (attempt - 1) (gone s) →
     IsDueAt (state_of options run queue sent 0 0) attempt r → are_new (run.keys.waiting ++ run.keys.done) r.keys ≡ true → SoundAt run1 queue1 sent1
 sound-one_taken options run queue sent out capacity attempt r s run1 queue1 sent1 k e g q l due new =
@@ -284,7 +284,7 @@ sound-one_taken options run queue sent out capacity attempt r s run1 queue1 sent
 
 pub kept-taken : (options : Options) (run : Run) (queue : List ℕ) (sent : List Sent) (out capacity attempt : ℕ) (r : Reply) (s : Sent)
     (run1 : Run) (queue1 : List ℕ) (sent1 : List Sent) (capacity1 : ℕ) →
-    IsKept options run queue sent out capacity → place_in sent attempt ≡ Some s → s.is_out ≡ true → run1 ≡ run_after run r →
+    IsKept options run queue sent out capacity → sent_numbered sent attempt ≡ Some s → s.is_out ≡ true → run1 ≡ run_after run r →
     queue1 ≡ queue ++ range_with_len (length run.came) (length r.keys) → sent1 ≡ slice_set sent (attempt - 1) (gone s) →
     length sent1 + (options.workers - out + 1) ≤ capacity1 →
     IsDueAt (state_of options run queue sent 0 0) attempt r → are_new (run.keys.waiting ++ run.keys.done) r.keys ≡ true →
@@ -338,7 +338,7 @@ due_still options run queue sent losses strays attempt r d = record { which = d.
 
 -- what is known of an attempt whose reply is due
 pub due-means : (options : Options) (run : Run) (queue : List ℕ) (sent : List Sent) (losses strays attempt : ℕ) (r : Reply) (s : Sent) →
-    place_in sent attempt ≡ Some s → IsDueAt (state_of options run queue sent losses strays) attempt r →
+    sent_numbered sent attempt ≡ Some s → IsDueAt (state_of options run queue sent losses strays) attempt r →
     (r.key ≡ key_at run.came s.place) × (s.is_out ≡ true)
 due-means options run queue sent losses strays attempt r s e d =
     let both : Some d.which ≡ Some (attempt_at run.came s) = sym d.is_sent ∙ sent-some options run queue sent losses strays attempt s e in

@@ -19,8 +19,8 @@ use Rattle.coordinator_core.specs.declared.event.Event.TheVariants.{Answer, Lost
 use Rattle.coordinator_core.specs.declared.options.Options.{Options}
 use Rattle.coordinator_core.specs.declared.verdict.Verdict.{Verdict}
 use Rattle.coordinator_core.specs.declared.verdict.Verdict.TheVariants.{Accepted, Stray, Loss, Ends}
-use Rattle.coordinator_core.specs.Machine.{Attempt, State, after, budget_of, by_tail, by_verdict, hand_or_wait, handed, judged, keys_out, after_loss, lost_at, next_action, sent_at, start_of, taken_at, verdict_at, verdict_for, wait_or_finish}
-use Rattle.coordinator_core.specs.Places.{IsDue, IsDueAt, IsSound}
+use Rattle.coordinator_core.specs.Machine.{Attempt, State, after, budget_of, by_tail, by_verdict, hand_or_wait, handed, judged, keys_out, after_loss, lost_at, next_action, sent_at, start_of, recorded_at, verdict_at, verdict_for, wait_or_finish}
+use Rattle.coordinator_core.specs.Places.{IsDueReply, IsDueAt, IsSound}
 use Rattle.coordinator_core.proofs.AttemptLemmas.{keys_out-ended, keys_out-has, keys_out-push, sent_at_place}
 
 -- the keys of the queue and those that are out are those that wait; each waits once at most, and none that waits is done
@@ -164,7 +164,7 @@ waits-accepted s a r p h =
     let here = keys_out-has s.sent (a - 1) t (sent_at_place s a t p.there).1 p.out in
     subst (λ (k : List ℕ). 0 < times k s.run.keys.waiting) (sym p.key) (omega (arith, here, h.placed t.key))
 
-sound-taken-at : (s : State) (a : ℕ) (r : Reply) (t : Attempt) → slice_get s.sent (a - 1) ≡ Some t → IsAccepted s r (Some t) → 0 < times r.key s.run.keys.waiting → Sound s → Sound (taken_at s a r (Some t))
+sound-taken-at : (s : State) (a : ℕ) (r : Reply) (t : Attempt) → slice_get s.sent (a - 1) ≡ Some t → IsAccepted s r (Some t) → 0 < times r.key s.run.keys.waiting → Sound s → Sound (recorded_at s a r (Some t))
 sound-taken-at s a r t e p w h =
     let same : p.attempt ≡ t = let q : Some p.attempt ≡ Some t = sym p.there in cc in
     let key : r.key ≡ t.key = p.key ∙ ap (λ (u : Attempt). u.key) same in
@@ -184,7 +184,7 @@ sound-taken-at s a r t e p w h =
       once = once-next waiting s.run.keys.done r.key r.keys h.once w p.new_keys;
     }
 
-pub sound-taken : (s : State) (a : ℕ) (r : Reply) → IsAccepted s r (sent_at s a) → Sound s → Sound (taken_at s a r (sent_at s a))
+pub sound-taken : (s : State) (a : ℕ) (r : Reply) → IsAccepted s r (sent_at s a) → Sound s → Sound (recorded_at s a r (sent_at s a))
 sound-taken s a r p h =
     let t = p.attempt in
     let w = waits-accepted s a r p h in
@@ -219,7 +219,7 @@ by_tail-end keys r (End count) h = refl
 by_tail-end keys r (Overflow o) h = absurd h
 by_tail-end keys r Memory h = absurd h
 
-pub due_verdict : (run : Run) (r : Reply) (a : Attempt) → IsDue run r a →
+pub due_verdict : (run : Run) (r : Reply) (a : Attempt) → IsDueReply run r a →
     verdict_for run r a ≡ (if are_new (run.keys.waiting ++ run.keys.done) r.keys then Accepted else Loss)
 due_verdict run r a d = rw (same_keys r.key a.key d.key) (rw d.is_out (rw d.not_done (by_tail-end run.keys r r.tail d.ends)))
 

@@ -143,29 +143,29 @@ verdict_of s (Lost attempt) = Loss
 abbrev pub back : Attempt → Attempt
 back a = record { key = a.key; budget = a.budget; is_out = false }
 
-abbrev pub ended : List Attempt → ℕ → Attempt → List Attempt
-ended sent attempt a = slice_set sent (attempt - 1) (back a)
+abbrev pub attempts_ended : List Attempt → ℕ → Attempt → List Attempt
+attempts_ended sent attempt a = slice_set sent (attempt - 1) (back a)
 
 -- a loss is counted, and of an attempt that is out the key goes to the end of the queue
 abbrev pub lost_at : State → ℕ → Option Attempt → State
 lost_at s attempt None = record s { losses = counted s.losses 1 }
 lost_at s attempt (Some a) =
     if a.is_out
-    then record s { losses = counted s.losses 1; queue = s.queue ++ a.key ∷ []; sent = ended s.sent attempt a }
+    then record s { losses = counted s.losses 1; queue = s.queue ++ a.key ∷ []; sent = attempts_ended s.sent attempt a }
     else record s { losses = counted s.losses 1 }
 
 abbrev pub after_loss : State → ℕ → State
 after_loss s attempt = lost_at s attempt (sent_at s attempt)
 
 -- an accepted reply is recorded, its keys go to the end of the queue, and the attempt is out no more
-abbrev pub taken_at : State → ℕ → Reply → Option Attempt → State
-taken_at s attempt r None = s
-taken_at s attempt r (Some a) =
-    record s { run = run_after s.run r; queue = s.queue ++ r.keys; sent = ended s.sent attempt a }
+abbrev pub recorded_at : State → ℕ → Reply → Option Attempt → State
+recorded_at s attempt r None = s
+recorded_at s attempt r (Some a) =
+    record s { run = run_after s.run r; queue = s.queue ++ r.keys; sent = attempts_ended s.sent attempt a }
 
 -- a stray changes its own count alone
 abbrev pub by_verdict : State → Event → Verdict → State
-by_verdict s (Answer attempt r) Accepted = taken_at s attempt r (sent_at s attempt)
+by_verdict s (Answer attempt r) Accepted = recorded_at s attempt r (sent_at s attempt)
 by_verdict s (Answer attempt r) Stray = record s { strays = counted s.strays 1 }
 by_verdict s (Answer attempt r) Loss = after_loss s attempt
 by_verdict s (Answer attempt r) (Ends o) = s

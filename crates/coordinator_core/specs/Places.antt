@@ -49,8 +49,8 @@ pub record IsKept (options : Options) (run : Run) (queue : List ℕ) (sent : Lis
   pub room : length sent + (options.workers - out) ≤ capacity
 
 -- the attempt of a number, from 1
-abbrev pub place_in : List Sent → ℕ → Option Sent
-place_in sent attempt = if nat_lt 0 attempt then slice_get sent (attempt - 1) else None
+abbrev pub sent_numbered : List Sent → ℕ → Option Sent
+sent_numbered sent attempt = if nat_lt 0 attempt then slice_get sent (attempt - 1) else None
 
 -- the attempt, out no more
 abbrev pub gone : Sent → Sent
@@ -59,7 +59,7 @@ gone s = record { place = s.place; budget = s.budget; is_out = false }
 -- ---- what is seen of a reply without the keys that it gives back
 
 -- it is of the job of this attempt, which is out and not done, and it ends in `end`
-pub record IsDue (run : Run) (r : Reply) (a : Attempt) : Type 0 where
+pub record IsDueReply (run : Run) (r : Reply) (a : Attempt) : Type 0 where
   pub key : r.key ≡ a.key
   pub is_out : a.is_out ≡ true
   pub not_done : holds run.keys.done r.key ≡ false
@@ -69,9 +69,9 @@ pub record IsDue (run : Run) (r : Reply) (a : Attempt) : Type 0 where
 pub record IsDueAt (s : State) (attempt : ℕ) (r : Reply) : Type 0 where
   pub which : Attempt
   pub is_sent : sent_at s attempt ≡ Some which
-  pub due : IsDue s.run r which
+  pub due : IsDueReply s.run r which
 
 -- what becomes of it is this, whatever those keys are
-pub record IsSettled (run : Run) (r : Reply) (a : Option Attempt) (verdict : Verdict) : Type 0 where
+pub record IsSettledReply (run : Run) (r : Reply) (a : Option Attempt) (verdict : Verdict) : Type 0 where
   pub is : verdict ≡ verdict_at run r a
   pub refused : verdict ≢ Accepted

@@ -2,7 +2,7 @@
 ghost use Rattle.std.specs.Prelude.{◌≡◌, ◌<◌, ◌&&◌, not, length, slice_get, Some, IfSome, IsNone};
 ghost use Rattle.run_state.specs.KeyLists.{holds};
 ghost use Rattle.run_state.specs.KeyLists.{key_at};
-ghost use Rattle.coordinator_core.specs.Places.{IsDue, IsSettled, attempt_at, place_in};
+ghost use Rattle.coordinator_core.specs.Places.{IsDueReply, IsSettledReply, attempt_at, sent_numbered};
 
 use crate::Verdict;
 use crate::sent::Sent;
@@ -19,7 +19,7 @@ pub(crate) fn first_of(queue: &VecDeque<usize>) -> Option<usize>
 
 // The attempt of a number.
 pub(crate) fn attempt_at(sent: &[Sent], attempt: u64) -> Option<Sent>
-    ensures { result ≡ place_in sent.now attempt }
+    ensures { result ≡ sent_numbered sent.now attempt }
 {
     if attempt == 0 {
         return None;
@@ -39,8 +39,8 @@ fn is_waited_for(run: &RunState, sent: &Sent) -> bool
 // ends in `end`.
 pub(crate) fn first_look(run: &RunState, sent: &Sent, reply: &Reply) -> Option<Verdict>
     requires { sent.now.place < length run.now.came }
-    ensures some { IfSome result (IsSettled run.now reply.now (Some (attempt_at run.now.came sent.now))) }
-    ensures none { IsNone result → IsDue run.now reply.now (attempt_at run.now.came sent.now) }
+    ensures some { IfSome result (IsSettledReply run.now reply.now (Some (attempt_at run.now.came sent.now))) }
+    ensures none { IsNone result → IsDueReply run.now reply.now (attempt_at run.now.came sent.now) }
 {
     let key = run.key_at(sent.place);
     if !reply.key.is_same(&key) {

@@ -3,8 +3,8 @@ ghost use Rattle.std.specs.Prelude.{◌≡◌, ℕ, if◌then◌else◌, ◌++�
 ghost use Rattle.row_printer.specs.Rows.{counted};
 ghost use Rattle.run_state.specs.KeyLists.{are_new};
 ghost use Rattle.coordinator_core.specs.Events.{IsEventOf};
-ghost use Rattle.coordinator_core.specs.Machine.{AreOptions, IsOut, acted, after, after_loss, attempt_of, by_verdict, job_of, judged, next_action, sent_at, start_of, taken_at, verdict_of};
-ghost use Rattle.coordinator_core.specs.Places.{IsDueAt, IsSettled};
+ghost use Rattle.coordinator_core.specs.Machine.{AreOptions, IsOut, acted, after, after_loss, attempt_of, by_verdict, job_of, judged, next_action, sent_at, start_of, recorded_at, verdict_of};
+ghost use Rattle.coordinator_core.specs.Places.{IsDueAt, IsSettledReply};
 
 use crate::looks::{attempt_at, first_look, first_of};
 use crate::moves::{add_places, end_attempt, hand_back, make_room};
@@ -173,7 +173,7 @@ impl Core {
 
     // What becomes of a reply, where that is seen without the keys that it gives back.
     fn look(&self, attempt: u64, reply: &Reply) -> Option<Verdict>
-        ensures some { IfSome result (IsSettled self.now.run reply.now (sent_at self.now attempt)) }
+        ensures some { IfSome result (IsSettledReply self.now.run reply.now (sent_at self.now attempt)) }
         ensures none { IsNone result → IsDueAt self.now attempt reply.now }
     {
         match attempt_at(&self.sent, attempt) {
@@ -238,7 +238,7 @@ impl Core {
         ensures new { IfOk result (λ b. b
             ≡ are_new (self.old.run.keys.waiting ++ self.old.run.keys.done) reply.now.keys) }
         ensures state { IfOk result (λ b. self.new
-            ≡ (if b then taken_at self.old attempt reply.now (sent_at self.old attempt) else self.old)) }
+            ≡ (if b then recorded_at self.old attempt reply.now (sent_at self.old attempt) else self.old)) }
         ensures unchanged { OnErr result (self.new ≡ self.old) }
     {
         let Some(sent) = attempt_at(&self.sent, attempt) else {

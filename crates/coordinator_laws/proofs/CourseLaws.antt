@@ -1,12 +1,8 @@
 -- The laws of a call and of calls one after the other.
 use Rattle.std.proofs.Common.{arith, ℕ, List, ◌≡◌, inl, inr, ◌-◌, ◌<◌, ◌^◌, true, false, [], ◌∷◌, ◌++◌, refl, sym, ap, ◌∙◌, subst, length, append_assoc, Some}
 use Rattle.std.specs.List.{Contains}
-use Rattle.poly_model.specs.declared.kind.WorkKind.{WorkKind}
-use Rattle.poly_model.specs.declared.kind.WorkKind.TheVariants.{Subsets, Subtrees}
 use Rattle.work_core.specs.Searches.{Search, meaning_of}
 use Rattle.search_laws.proofs.OnceLists.{one_key_or_not}
-use Rattle.job_text.specs.KeyTexts.{HasKeyText}
-use Rattle.job_text.specs.FirstPayloads.{IsRootText}
 use Rattle.job_text.specs.declared.reply.Reply.{Reply}
 use Rattle.job_text.specs.declared.reply.Tail.{Tail}
 use Rattle.job_text.specs.declared.reply.Tail.TheVariants.{End, Overflow, Memory}
@@ -29,8 +25,10 @@ use Rattle.coordinator_core.proofs.SoundLemmas.{Sound, sound-start}
 use Rattle.workers_io.specs.History.{Happening, started, refused, replied, broken}
 use Rattle.coordinator_laws.specs.Courses.{AreToldAs, Course, IsCourse, accepted_texts, kept_text, payloads_added, replies_after, start_in}
 use Rattle.coordinator_laws.specs.Laws.{EventsKeepLegal, EventsKeepText, HonestIsAccepted, TracesTellTheRun}
-use Rattle.coordinator_laws.specs.Restarts.{FrontsAreLegal, IsLeft, RestartsKeepLegal}
-use Rattle.coordinator_laws.proofs.LedgerLemmas.{all-append, all-front, front_is_legal, legal-join}
+use Rattle.coordinator_laws.specs.Restarts.{FrontsAreLegal, MayLeave, RestartsKeepLegal}
+use Rattle.linear_laws.proofs.AllLemmas.{all_both, all_left}
+use Rattle.job_text.proofs.FirstPayloadLemmas.{root_text}
+use Rattle.coordinator_laws.proofs.LedgerLemmas.{front_is_legal, legal-join}
 use Rattle.coordinator_laws.proofs.FollowLemmas.{runs-follow, sounds-follow, texts-follow}
 use Rattle.coordinator_laws.proofs.HonestLemmas.{HasJobTexts, knows-start, legal-follow}
 
@@ -56,12 +54,8 @@ sound_at_start c payloads t =
     (subst (λ (keys : KnownKeys). (k : List ℕ) → WaitsOnce keys.waiting keys.done k) (sym (run-keys (first_run c.search) c.replies))
     (once-after c.search.polyhedron.n (first_keys c.search) t.others c.replies (once-first c.search) t.are_replies))
 
-root_has_text : (work : WorkKind) (root : List ℕ) → IsRootText work root → HasKeyText root
-root_has_text Subsets root e = subst HasKeyText (sym e) (record { is_key = record { room = omega arith; ascending = tt }; labels = tt })
-root_has_text Subtrees root h = h
-
 has_texts : (s : Search) (replies : List Reply) (payloads : List (List ℕ)) → IsLedgerText s replies payloads → HasJobTexts s
-has_texts s replies payloads t = record { root = root_has_text s.work s.root t.is_first.root; file = t.is_first.file }
+has_texts s replies payloads t = record { root = root_text s.work s.root t.is_first.root; file = t.is_first.file }
 
 same_search : (c : Course) → (start_in c).run.search ≡ c.search
 same_search c = run-search (first_run c.search) c.replies
@@ -152,7 +146,7 @@ short-texts s (collects (Answer a r) ∷ steps) (refused b text ∷ hs) k = absu
 short-texts s (collects (Lost a) ∷ steps) (x ∷ hs) k = short-texts (after s (Lost a)) steps hs k.1
 
 -- what one stopped call leaves
-left-legal : (before after : List (List ℕ)) → AreShort before → IsLegal before → IsLeft before after → IsLegal after × AreShort after
+left-legal : (before after : List (List ℕ)) → AreShort before → IsLegal before → MayLeave before after → IsLegal after × AreShort after
 left-legal before after short (s, replies, h) l =
     let c = l.course in
     let same = one_ledger before short s c.search replies c.replies h.is_text l.are_records in
@@ -165,7 +159,7 @@ left-legal before after short (s, replies, h) l =
     (c.search, replies_after c, subst (AreLegal c.search (replies_after c)) texts all) in
     let added : AreShort (l.front ++ l.rest) = subst AreShort l.split (short-texts (start_in c) c.steps c.happenings l.goes.told_as) in (
       subst IsLegal (sym l.left) (front_is_legal (before ++ l.front) l.rest (some-records s replies before l.front h.is_text) legal),
-      subst AreShort (sym l.left) (all-append IsShort before l.front short (all-front IsShort l.front l.rest added)),
+      subst AreShort (sym l.left) (all_both IsShort before l.front short (all_left IsShort l.front l.rest added)),
     )
 
 pub restarts_keep_legal : RestartsKeepLegal

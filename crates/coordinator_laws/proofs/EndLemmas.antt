@@ -14,13 +14,13 @@ use Rattle.coordinator_core.specs.declared.event.Event.TheVariants.{Answer, Lost
 use Rattle.coordinator_core.specs.declared.verdict.Verdict.{Verdict}
 use Rattle.coordinator_core.specs.declared.verdict.Verdict.TheVariants.{Accepted, Stray, Loss, Ends}
 use Rattle.coordinator_core.specs.Events.{IsReplyTo}
-use Rattle.coordinator_core.specs.Machine.{AreOptions, Attempt, State, budget_of, by_verdict, hand_or_wait, handed, judged, keys_out, lost_at, next_action, sent_at, taken_at, wait_or_finish}
+use Rattle.coordinator_core.specs.Machine.{AreOptions, Attempt, State, budget_of, by_verdict, hand_or_wait, handed, judged, keys_out, lost_at, next_action, sent_at, recorded_at, wait_or_finish}
 use Rattle.coordinator_core.specs.Traces.{GoesOn, Step, hands, collects, stepped, Trace}
 use Rattle.coordinator_core.proofs.KeyCounts.{times, times-here}
 use Rattle.coordinator_core.proofs.SoundLemmas.{hand-means}
 use Rattle.workers_io.specs.History.{Happening, started, refused, replied, broken}
 use Rattle.coordinator_laws.specs.Courses.{AreToldAs, accepted_texts, kept_text, start_in, text_in}
-use Rattle.coordinator_laws.specs.Ends.{CoursesEnd, NoneWaitsAtFinish, StepsLower, bytes_in, left_in}
+use Rattle.coordinator_laws.specs.Ends.{CoursesEnd, NoneWaitsAtFinish, StepsLower, bytes_in, left_to_do}
 use Rattle.coordinator_laws.proofs.CourseLaws.{sound_at_start}
 use Rattle.coordinator_laws.proofs.FollowLemmas.{sounds-follow}
 
@@ -35,7 +35,7 @@ goes-on s action e other = elim (cases_Bool (nat_lt s.options.lost (s.losses + s
 
 -- ---- a loss
 lowered-loss : (s : State) (a : ℕ) (o : Option Attempt) → s.losses + s.strays ≤ s.options.lost → s.options.lost ≤ 1000000 →
-    1 + left_in (lost_at s a o) ≤ left_in s
+    1 + left_to_do (lost_at s a o) ≤ left_to_do s
 lowered-loss s a None few most = omega arith
 lowered-loss s a (Some t) few most = elim (cases_Bool t.is_out) [
   | inl y ↦ rw y (omega (arith, few, most, length-append s.queue (t.key ∷ [])))
@@ -44,12 +44,12 @@ lowered-loss s a (Some t) few most = elim (cases_Bool t.is_out) [
 
 -- a hand, whether its start succeeds or not
 lowered-hand : (s : State) (a : ℕ) (key : List ℕ) (budget : Budget) (began : Bool) (rest : List (List ℕ)) → s.queue ≡ key ∷ rest →
-    s.losses + s.strays ≤ s.options.lost → s.options.lost ≤ 1000000 → 1 + left_in (stepped s (hands a key budget began)) ≤ left_in s
+    s.losses + s.strays ≤ s.options.lost → s.options.lost ≤ 1000000 → 1 + left_to_do (stepped s (hands a key budget began)) ≤ left_to_do s
 lowered-hand s a key budget true rest q few most = rw q (omega arith)
 lowered-hand s a key budget false rest q few most =
     let u = handed s key budget in
     let lost = lowered-loss u a (sent_at u a) few most in
-    let shorter : left_in u ≤ left_in s = rw q (omega arith) in
+    let shorter : left_to_do u ≤ left_to_do s = rw q (omega arith) in
     omega (arith, lost, shorter)
 
 -- ---- a reply has more bytes than keys
@@ -68,13 +68,13 @@ more-bytes n r bytes w =
     some-head : (key : List ℕ) → 0 < length (reply_head key)
     some-head key = omega arith
 
-lowered-taken : (s : State) (a : ℕ) (r : Reply) (o : Option Attempt) (size : ℕ) → length r.keys < size → 1 + left_in (taken_at s a r o) ≤ left_in s + size
+lowered-taken : (s : State) (a : ℕ) (r : Reply) (o : Option Attempt) (size : ℕ) → length r.keys < size → 1 + left_to_do (recorded_at s a r o) ≤ left_to_do s + size
 lowered-taken s a r None size more = omega (arith, more)
 lowered-taken s a r (Some t) size more = omega (arith, more, length-append s.queue r.keys)
 
 lowered-verdict : (s : State) (a b : ℕ) (bytes : List ℕ) (r : Reply) (v : Verdict) → GoesOn v → IsReplyTo s a bytes r →
     s.losses + s.strays ≤ s.options.lost → s.options.lost ≤ 1000000 →
-    1 + left_in (by_verdict s (Answer a r) v) ≤ left_in s + bytes_in (kept_text v (replied b bytes))
+    1 + left_to_do (by_verdict s (Answer a r) v) ≤ left_to_do s + bytes_in (kept_text v (replied b bytes))
 lowered-verdict s a b bytes r Accepted goes is few most =
     let more = more-bytes s.run.search.polyhedron.n r bytes is.whole in
     omega (arith, lowered-taken s a r (sent_at s a) (length bytes) more)
@@ -104,7 +104,7 @@ same-options-lost : (s : State) (a : ℕ) (o : Option Attempt) → (lost_at s a 
 same-options-lost s a None = refl
 same-options-lost s a (Some t) = elim (cases_Bool t.is_out) [ inl y ↦ rw y refl | inr n ↦ rw n refl ]
 
-same-options-taken : (s : State) (a : ℕ) (r : Reply) (o : Option Attempt) → (taken_at s a r o).options ≡ s.options
+same-options-taken : (s : State) (a : ℕ) (r : Reply) (o : Option Attempt) → (recorded_at s a r o).options ≡ s.options
 same-options-taken s a r None = refl
 same-options-taken s a r (Some t) = refl
 
@@ -121,8 +121,8 @@ same-options s (collects (Answer a r)) = same-options-verdict s a r (judged s a 
 same-options s (collects (Lost a)) = same-options-lost s a (sent_at s a)
 
 steps-end : (s t : State) (steps : List Step) (hs : List Happening) → AreOptions s.options → Trace s steps t → AreToldAs s steps hs →
-    length steps + left_in t ≤ left_in s + bytes_in (accepted_texts s steps hs)
-steps-end s t [] hs o m k = subst (λ (z : State). 0 + left_in z ≤ left_in s + 0) (sym m) (omega arith)
+    length steps + left_to_do t ≤ left_to_do s + bytes_in (accepted_texts s steps hs)
+steps-end s t [] hs o m k = subst (λ (z : State). 0 + left_to_do z ≤ left_to_do s + 0) (sym m) (omega arith)
 steps-end s t (step ∷ steps) [] o m k = absurd k
 steps-end s t (step ∷ steps) (h ∷ hs) o m k =
     let u = stepped s step in

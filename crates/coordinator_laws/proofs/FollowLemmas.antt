@@ -13,7 +13,7 @@ use Rattle.coordinator_core.specs.declared.event.Event.{Event}
 use Rattle.coordinator_core.specs.declared.event.Event.TheVariants.{Answer, Lost}
 use Rattle.coordinator_core.specs.declared.verdict.Verdict.{Verdict}
 use Rattle.coordinator_core.specs.declared.verdict.Verdict.TheVariants.{Accepted, Stray, Loss, Ends}
-use Rattle.coordinator_core.specs.Machine.{Attempt, State, after, by_verdict, handed, judged, lost_at, sent_at, taken_at}
+use Rattle.coordinator_core.specs.Machine.{Attempt, State, after, by_verdict, handed, judged, lost_at, sent_at, recorded_at}
 use Rattle.coordinator_core.specs.Events.{IsReplyTo}
 use Rattle.coordinator_core.specs.Traces.{Step, hands, collects, stepped, Trace, accepted, kept_reply}
 use Rattle.coordinator_core.proofs.SoundLemmas.{IsAccepted, Sound, accepted-means, hand-means, sound-after, sound-handed, sound-lost, waits-accepted}
@@ -28,7 +28,7 @@ pub run-handed : (s : State) (a : ℕ) (key : List ℕ) (budget : Budget) (began
 run-handed s a key budget true = refl
 run-handed s a key budget false = run-lost (handed s key budget) a (sent_at (handed s key budget) a)
 
-run-taken : (s : State) (a : ℕ) (r : Reply) (p : IsAccepted s r (sent_at s a)) → (taken_at s a r (sent_at s a)).run ≡ run_after s.run r
+run-taken : (s : State) (a : ℕ) (r : Reply) (p : IsAccepted s r (sent_at s a)) → (recorded_at s a r (sent_at s a)).run ≡ run_after s.run r
 run-taken s a r p = rw p.there refl
 
 pub run-verdict : (s : State) (a : ℕ) (r : Reply) (v : Verdict) → judged s a r ≡ v → (by_verdict s (Answer a r) v).run ≡ run_of s.run (kept_reply (Answer a r) v)

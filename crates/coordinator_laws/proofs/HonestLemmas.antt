@@ -20,16 +20,16 @@ use Rattle.job_text.proofs.OneReplyLemmas.{one_reply}
 use Rattle.job_text.specs.Rule.{IsReplyFor, Obeys}
 use Rattle.run_state.specs.Payloads.{SaysEnd}
 use Rattle.run_state.specs.Legal.{IsLegalReply}
-use Rattle.workers_io.specs.History.{Happening, Starts, started, refused, replied, broken, IsAllowed, IsHonest, last_text}
+use Rattle.workers_io.specs.History.{Happening, StartedTexts, started, refused, replied, broken, IsAllowed, IsHonest, last_text}
 use Rattle.coordinator_core.specs.declared.event.Event.TheVariants.{Answer, Lost}
 use Rattle.coordinator_core.specs.declared.verdict.Verdict.{Verdict}
 use Rattle.coordinator_core.specs.declared.verdict.Verdict.TheVariants.{Accepted, Stray, Loss, Ends}
-use Rattle.coordinator_core.specs.Machine.{AreOptions, Attempt, State, after, back, budget_of, by_verdict, handed, judged, lost_at, sent_at, taken_at}
+use Rattle.coordinator_core.specs.Machine.{AreOptions, Attempt, State, after, back, budget_of, by_verdict, handed, judged, lost_at, sent_at, recorded_at}
 use Rattle.coordinator_core.specs.Events.{IsReplyTo}
 use Rattle.coordinator_core.specs.Traces.{Step, hands, collects, stepped, Trace, accepted, kept_reply}
 use Rattle.coordinator_core.proofs.AttemptLemmas.{get-push, get-set, sent_at_place}
 use Rattle.coordinator_core.proofs.SoundLemmas.{IsAccepted, IsHand, accepted-means, hand-means}
-use Rattle.coordinator_laws.specs.Courses.{AreToldAs, head_of, text_for}
+use Rattle.coordinator_laws.specs.Courses.{AreToldAs, job_head_of, text_for}
 
 -- a search whose jobs have texts
 pub record HasJobTexts (search : Search) : Type 0 where
@@ -47,10 +47,10 @@ module _ (search : Search) (texts : HasJobTexts search) where
   Text t = text_for search t.key t.budget
 
   -- the last start of each attempt is the one that the machine knows
-  pub record Agrees (starts : Starts) (sent : List Attempt) : Type 0 where
+  pub record Agrees (starts : StartedTexts) (sent : List Attempt) : Type 0 where
     pub same : (i : ℕ) (t : Attempt) → slice_get sent i ≡ Some t → (last_text (i + 1) starts ≡ Some (Text t)) × IsBudget t.budget
 
-  pub record Knows (starts : Starts) (s : State) : Type 0 where
+  pub record Knows (starts : StartedTexts) (s : State) : Type 0 where
     pub options : AreOptions s.options
     pub search_is : s.run.search ≡ search
     pub agrees : Agrees starts s.sent
@@ -62,7 +62,7 @@ module _ (search : Search) (texts : HasJobTexts search) where
     depth = elim (cases_Bool (nat_lt (length s.queue) (s.options.lmin * s.options.workers))) [ inl y ↦ rw y o.depth.1 | inr n ↦ rw n (omega arith) ];
   }
 
-  agrees-handed : (starts : Starts) (s : State) (a : ℕ) (key : List ℕ) (budget : Budget) → a ≡ length s.sent + 1 → IsBudget budget → Agrees starts s.sent →
+  agrees-handed : (starts : StartedTexts) (s : State) (a : ℕ) (key : List ℕ) (budget : Budget) → a ≡ length s.sent + 1 → IsBudget budget → Agrees starts s.sent →
       Agrees ((a, text_for search key budget) ∷ starts) (handed s key budget).sent
   agrees-handed starts s a key budget number b g = record {
     same = λ i t e. elim (get-push s.sent (record { key = key; budget = budget; is_out = true }) i t e) [
@@ -73,7 +73,7 @@ module _ (search : Search) (texts : HasJobTexts search) where
     ];
   }
 
-  agrees-ended : (starts : Starts) (sent : List Attempt) (i : ℕ) (t : Attempt) → slice_get sent i ≡ Some t → Agrees starts sent → Agrees starts (slice_set sent i (back t))
+  agrees-ended : (starts : StartedTexts) (sent : List Attempt) (i : ℕ) (t : Attempt) → slice_get sent i ≡ Some t → Agrees starts sent → Agrees starts (slice_set sent i (back t))
   agrees-ended starts sent i t there g = record {
     same = λ j u e. elim (get-set sent i (back t) j u e) [
       | inl p ↦ g.same j u p
@@ -85,14 +85,14 @@ module _ (search : Search) (texts : HasJobTexts search) where
     ];
   }
 
-  knows-lost : (starts : Starts) (s : State) (a : ℕ) (o : Option Attempt) → sent_at s a ≡ o → Knows starts s → Knows starts (lost_at s a o)
+  knows-lost : (starts : StartedTexts) (s : State) (a : ℕ) (o : Option Attempt) → sent_at s a ≡ o → Knows starts s → Knows starts (lost_at s a o)
   knows-lost starts s a None e k = record { options = k.options; search_is = k.search_is; agrees = k.agrees }
   knows-lost starts s a (Some t) e k = elim (cases_Bool t.is_out) [
     | inl y ↦ rw y (record { options = k.options; search_is = k.search_is; agrees = agrees-ended starts s.sent (a - 1) t (sent_at_place s a t e).1 k.agrees })
     | inr n ↦ rw n (record { options = k.options; search_is = k.search_is; agrees = k.agrees })
   ]
 
-  knows-handed : (starts : Starts) (s : State) (a : ℕ) (key : List ℕ) (budget : Budget) → IsHand s a key budget → Knows starts s →
+  knows-handed : (starts : StartedTexts) (s : State) (a : ℕ) (key : List ℕ) (budget : Budget) → IsHand s a key budget → Knows starts s →
       Knows ((a, text_for search key budget) ∷ starts) (handed s key budget)
   knows-handed starts s a key budget p k = record {
     options = k.options;
@@ -100,18 +100,18 @@ module _ (search : Search) (texts : HasJobTexts search) where
     agrees = agrees-handed starts s a key budget p.number (subst IsBudget (sym p.budgeted) (in_range s k.options)) k.agrees;
   }
 
-  knows-hands : (starts : Starts) (s : State) (a : ℕ) (key : List ℕ) (budget : Budget) (began : Bool) → IsHand s a key budget → Knows starts s →
+  knows-hands : (starts : StartedTexts) (s : State) (a : ℕ) (key : List ℕ) (budget : Budget) (began : Bool) → IsHand s a key budget → Knows starts s →
       Knows ((a, text_for search key budget) ∷ starts) (stepped s (hands a key budget began))
   knows-hands starts s a key budget true p k = knows-handed starts s a key budget p k
   knows-hands starts s a key budget false p k =
       let u = handed s key budget in
       knows-lost ((a, text_for search key budget) ∷ starts) u a (sent_at u a) refl (knows-handed starts s a key budget p k)
 
-  knows-taken : (starts : Starts) (s : State) (a : ℕ) (r : Reply) (o : Option Attempt) → sent_at s a ≡ o → Knows starts s → Knows starts (taken_at s a r o)
+  knows-taken : (starts : StartedTexts) (s : State) (a : ℕ) (r : Reply) (o : Option Attempt) → sent_at s a ≡ o → Knows starts s → Knows starts (recorded_at s a r o)
   knows-taken starts s a r None e k = k
   knows-taken starts s a r (Some t) e k = record { options = k.options; search_is = k.search_is; agrees = agrees-ended starts s.sent (a - 1) t (sent_at_place s a t e).1 k.agrees }
 
-  knows-verdict : (starts : Starts) (s : State) (a : ℕ) (r : Reply) (v : Verdict) → Knows starts s → Knows starts (by_verdict s (Answer a r) v)
+  knows-verdict : (starts : StartedTexts) (s : State) (a : ℕ) (r : Reply) (v : Verdict) → Knows starts s → Knows starts (by_verdict s (Answer a r) v)
   knows-verdict starts s a r Accepted k = knows-taken starts s a r (sent_at s a) refl k
   knows-verdict starts s a r Stray k = record { options = k.options; search_is = k.search_is; agrees = k.agrees }
   knows-verdict starts s a r Loss k = knows-lost starts s a (sent_at s a) refl k
@@ -119,7 +119,7 @@ module _ (search : Search) (texts : HasJobTexts search) where
 
   -- ---- what an honest reply is
   abbrev pub job_for : Attempt → Job
-  job_for t = record { head = head_of search t.key t.budget; poly = search.polyhedron }
+  job_for t = record { head = job_head_of search t.key t.budget; poly = search.polyhedron }
 
   told-reply : (t : Attempt) (bytes reply : List ℕ) (r : Reply) → IsBudget t.budget → r.key ≡ t.key → length bytes < 2 ^ 64 →
       IsWholeReply search.polyhedron.n r bytes → SaysEnd r.tail → IsReplyFor (Text t) reply → (rest : List ℕ) → reply ≡ bytes ++ rest →
@@ -139,7 +139,7 @@ module _ (search : Search) (texts : HasJobTexts search) where
       subst (λ (q : Reply). Obeys search t.key t.budget q.rows q.keys q.tail) one is.rule in
       subst (λ (k : List ℕ). Splits (meaning_of search) k r.rows r.keys) (sym key) (obeys-end search t.key t.budget r.rows r.keys r.tail ends rule)
 
-  honest-splits : (starts : Starts) (s : State) (a : ℕ) (bytes : List ℕ) (r : Reply) → Knows starts s → IsReplyTo s a bytes r →
+  honest-splits : (starts : StartedTexts) (s : State) (a : ℕ) (bytes : List ℕ) (r : Reply) → Knows starts s → IsReplyTo s a bytes r →
       IsAccepted s r (sent_at s a) → IsAllowed IsReplyFor (last_text a starts) bytes → IsLegalReply search r
   honest-splits starts s a bytes r k is p h =
       let t = p.attempt in
@@ -151,7 +151,7 @@ module _ (search : Search) (texts : HasJobTexts search) where
       let whole : IsWholeReply search.polyhedron.n r bytes = subst (λ (z : Search). IsWholeReply z.polyhedron.n r bytes) k.search_is is.whole in
       told-reply t bytes told.0 r known.1 p.key is.short whole p.ends told.1 told.2 told.3
 
-  legal-verdict : (starts : Starts) (s : State) (a : ℕ) (bytes : List ℕ) (r : Reply) (v : Verdict) (replies : List Reply) → judged s a r ≡ v → Knows starts s →
+  legal-verdict : (starts : StartedTexts) (s : State) (a : ℕ) (bytes : List ℕ) (r : Reply) (v : Verdict) (replies : List Reply) → judged s a r ≡ v → Knows starts s →
       IsReplyTo s a bytes r → IsAllowed IsReplyFor (last_text a starts) bytes → AllByRecursion (IsLegalReply search) replies →
       AllByRecursion (IsLegalReply search) (kept_reply (Answer a r) v ++ replies)
   legal-verdict starts s a bytes r Accepted replies e k is h l =
@@ -160,11 +160,11 @@ module _ (search : Search) (texts : HasJobTexts search) where
   legal-verdict starts s a bytes r Loss replies e k is h l = l
   legal-verdict starts s a bytes r (Ends o) replies e k is h l = l
 
-  abbrev pub Honestly : Starts → List Happening → Type 0
+  abbrev pub Honestly : StartedTexts → List Happening → Type 0
   Honestly starts hs = IsHonest IsReplyFor starts hs
 
   -- the replies that a trace accepts are legal
-  pub legal-follow : (starts : Starts) (s t : State) (steps : List Step) (hs : List Happening) → Knows starts s → Trace s steps t → AreToldAs s steps hs →
+  pub legal-follow : (starts : StartedTexts) (s t : State) (steps : List Step) (hs : List Happening) → Knows starts s → Trace s steps t → AreToldAs s steps hs →
       Honestly starts hs → AllByRecursion (IsLegalReply search) (accepted s steps)
   legal-follow starts s t [] hs k m told h = tt
   legal-follow starts s t (step ∷ steps) [] k m told h = absurd told
@@ -196,5 +196,5 @@ module _ (search : Search) (texts : HasJobTexts search) where
   legal-follow starts s t (collects (Lost a) ∷ steps) (refused b text ∷ hs) k m told h = absurd told.0
 
   -- where a call begins nothing was sent
-  pub knows-start : (starts : Starts) (s : State) → AreOptions s.options → s.run.search ≡ search → s.sent ≡ [] → Knows starts s
+  pub knows-start : (starts : StartedTexts) (s : State) → AreOptions s.options → s.run.search ≡ search → s.sent ≡ [] → Knows starts s
   knows-start starts s o same none = record { options = o; search_is = same; agrees = record { same = λ i t e. let q : None ≡ Some t = subst (λ (l : List Attempt). slice_get l i ≡ Some t) none e in absurd (cc) } }

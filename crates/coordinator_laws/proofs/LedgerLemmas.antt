@@ -1,20 +1,13 @@
 -- Ledger texts that go on, and their fronts.
 use Rattle.std.proofs.Common.{◌≡◌, ℕ, ◌<◌, List, [], ◌∷◌, ◌++◌, sym, ap, subst, length, arith}
 use Rattle.std.specs.List.{AllByRecursion}
+use Rattle.linear_laws.proofs.AllLemmas.{all_both}
 use Rattle.job_text.specs.declared.reply.Reply.{Reply}
 use Rattle.work_core.specs.Searches.{Search}
 use Rattle.run_state.specs.Payloads.{AreReplies, first_keys, keys_after, keys_of}
 use Rattle.run_state.specs.KeyLists.{KnownKeys}
 use Rattle.run_state.specs.Legal.{AreLegal, IsLegal, IsLegalReply}
 use Rattle.run_state.proofs.FollowLemmas.{ledger-join}
-
-pub all-append : {X : Type 0} (P : X → Type 0) (xs ys : List X) → AllByRecursion P xs → AllByRecursion P ys → AllByRecursion P (xs ++ ys)
-all-append P [] ys h k = k
-all-append P (x ∷ xs) ys h k = (h.0, all-append P xs ys h.1 k)
-
-pub all-front : {X : Type 0} (P : X → Type 0) (xs ys : List X) → AllByRecursion P (xs ++ ys) → AllByRecursion P xs
-all-front P [] ys h = tt
-all-front P (x ∷ xs) ys h = (h.0, all-front P xs ys h.1)
 
 pub legal-join : (s : Search) (replies others : List Reply) (payloads more : List (List ℕ)) → AreLegal s replies payloads →
     AreReplies s.polyhedron.n (keys_of (first_keys s) replies) more others → AllByRecursion (IsLegalReply s) others →
@@ -23,7 +16,7 @@ legal-join s replies others payloads more h a l = record {
   is_text = ledger-join s replies others payloads more h.is_text a;
   feasible = h.feasible;
   root = h.root;
-  legal = all-append (IsLegalReply s) replies others h.legal l;
+  legal = all_both (IsLegalReply s) replies others h.legal l;
 }
 
 -- ---- fronts

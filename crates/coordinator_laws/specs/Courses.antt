@@ -17,12 +17,12 @@ use Rattle.coordinator_core.specs.Events.{IsEventOf}
 use Rattle.coordinator_core.specs.Traces.{Step, hands, collects, stepped, Trace, accepted}
 
 -- what the job of a key with a budget asks for
-abbrev pub head_of : Search → List ℕ → Budget → JobHead
-head_of s key budget = record { work = s.work; root = record { key = s.root }; key = key; budget = budget }
+abbrev pub job_head_of : Search → List ℕ → Budget → JobHead
+job_head_of s key budget = record { work = s.work; root = record { key = s.root }; key = key; budget = budget }
 
 -- the text that is given to its attempt
 abbrev pub text_for : Search → List ℕ → Budget → List ℕ
-text_for s key budget = text_of_job (head_of s key budget) s.polyhedron.text
+text_for s key budget = text_of_job (job_head_of s key budget) s.polyhedron.text
 
 -- ---- what is told of a step
 

@@ -8,8 +8,8 @@ use Rattle.coordinator_core.specs.Traces.{Step, MayStep, stepped}
 use Rattle.coordinator_laws.specs.Courses.{Course, IsCourse, IsToldAs, payloads_added, start_in, text_in}
 
 -- what is left to do in a state: losses and strays that may still come, twice, and the keys of the queue
-abbrev pub left_in : State → ℕ
-left_in s = 2 * (s.options.lost + 1 - (s.losses + s.strays)) + length s.queue
+abbrev pub left_to_do : State → ℕ
+left_to_do s = 2 * (s.options.lost + 1 - (s.losses + s.strays)) + length s.queue
 
 -- how many bytes they have
 abbrev pub bytes_in : List (List ℕ) → ℕ
@@ -19,13 +19,13 @@ bytes_in payloads = sum_by length payloads
 abbrev pub StepsLower : Type 0
 StepsLower =
     (s : State) (step : Step) (h : Happening) → AreOptions s.options → MayStep s step → IsToldAs s step h →
-    1 + left_in (stepped s step) ≤ left_in s + bytes_in (text_in s step h)
+    1 + left_to_do (stepped s step) ≤ left_to_do s + bytes_in (text_in s step h)
 
 -- so a call has no more steps than were left to do where it began, and bytes came to the records
 abbrev pub CoursesEnd : Type 0
 CoursesEnd =
     (c : Course) → AreOptions c.options → IsCourse c →
-    length c.steps + left_in c.last ≤ left_in (start_in c) + bytes_in (payloads_added c)
+    length c.steps + left_to_do c.last ≤ left_to_do (start_in c) + bytes_in (payloads_added c)
 
 abbrev pub NoneWaitsAtFinish : Type 0
 NoneWaitsAtFinish =

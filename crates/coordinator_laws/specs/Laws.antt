@@ -5,7 +5,7 @@ use Rattle.job_text.specs.Rule.{IsReplyFor}
 use Rattle.run_state.specs.Payloads.{IsLedgerText, SaysEnd}
 use Rattle.run_state.specs.Runs.{first_run, run_of}
 use Rattle.run_state.specs.Legal.{AreLegal, IsLegalReply}
-use Rattle.workers_io.specs.History.{IsHonest, Starts}
+use Rattle.workers_io.specs.History.{IsHonest, StartedTexts}
 use Rattle.coordinator_core.specs.declared.verdict.Verdict.TheVariants.{Accepted}
 use Rattle.coordinator_core.specs.Machine.{AreOptions, Attempt, judged, sent_at}
 use Rattle.coordinator_core.specs.Traces.{Trace}
@@ -25,7 +25,7 @@ TracesTellTheRun =
 -- whatever was started before, legal records stay legal where what the workers gave is honest
 abbrev pub EventsKeepLegal : Type 0
 EventsKeepLegal =
-    (c : Course) (payloads : List (List ℕ)) (starts : Starts) → AreOptions c.options → IsCourse c →
+    (c : Course) (payloads : List (List ℕ)) (starts : StartedTexts) → AreOptions c.options → IsCourse c →
     AreLegal c.search c.replies payloads → IsHonest IsReplyFor starts c.happenings →
     AreLegal c.search (replies_after c) (payloads ++ payloads_added c)
 
@@ -33,7 +33,7 @@ EventsKeepLegal =
 -- workers cause no clash
 abbrev pub HonestIsAccepted : Type 0
 HonestIsAccepted =
-    (c : Course) (payloads : List (List ℕ)) (starts : Starts) → AreOptions c.options → IsCourse c →
+    (c : Course) (payloads : List (List ℕ)) (starts : StartedTexts) → AreOptions c.options → IsCourse c →
     AreLegal c.search c.replies payloads → IsHonest IsReplyFor starts c.happenings →
     (attempt : ℕ) (a : Attempt) (r : Reply) → sent_at c.last attempt ≡ Some a → a.is_out ≡ true → r.key ≡ a.key →
     SaysEnd r.tail → IsLegalReply c.search r → judged c.last attempt r ≡ Accepted

@@ -3,7 +3,7 @@ use Rattle.std.specs.Prelude.{◌≡◌, ◌<◌, ℕ, List, [], ◌∷◌, ◌+
 use Rattle.job_text.specs.Rule.{IsReplyFor}
 use Rattle.run_state.specs.Payloads.{AreShort, IsLedgerText}
 use Rattle.run_state.specs.Legal.{IsLegal}
-use Rattle.workers_io.specs.History.{IsHonest, Starts}
+use Rattle.workers_io.specs.History.{IsHonest, StartedTexts}
 use Rattle.coordinator_core.specs.Machine.{AreOptions}
 use Rattle.coordinator_laws.specs.Courses.{Course, IsCourse, payloads_added}
 
@@ -12,12 +12,12 @@ abbrev pub FrontsAreLegal : Type 0
 FrontsAreLegal = (front rest : List (List ℕ)) → 0 < length front → IsLegal (front ++ rest) → IsLegal front
 
 -- what a call under honest workers may leave that goes on from records: these, and a front of what it accepted
-pub record IsLeft (before after : List (List ℕ)) : Type 0 where
+pub record MayLeave (before after : List (List ℕ)) : Type 0 where
   pub course : Course
   pub in_range : AreOptions course.options
   pub are_records : IsLedgerText course.search course.replies before
   pub goes : IsCourse course
-  pub starts : Starts
+  pub starts : StartedTexts
   pub honest : IsHonest IsReplyFor starts course.happenings
   pub front : List (List ℕ)
   pub rest : List (List ℕ)
@@ -25,9 +25,9 @@ pub record IsLeft (before after : List (List ℕ)) : Type 0 where
   pub left : after ≡ before ++ front
 
 -- calls one after the other, each begun on what the one before has left
-abbrev pub AreLeft : List (List ℕ) → List (List (List ℕ)) → Type 0
-AreLeft before [] = Unit {0}
-AreLeft before (after ∷ afters) = IsLeft before after × AreLeft after afters
+abbrev pub MayLeaveInTurn : List (List ℕ) → List (List (List ℕ)) → Type 0
+MayLeaveInTurn before [] = Unit {0}
+MayLeaveInTurn before (after ∷ afters) = MayLeave before after × MayLeaveInTurn after afters
 
 -- what the last of them has left
 abbrev pub left_last : List (List ℕ) → List (List (List ℕ)) → List (List ℕ)
@@ -38,4 +38,4 @@ left_last before (after ∷ afters) = left_last after afters
 abbrev pub RestartsKeepLegal : Type 0
 RestartsKeepLegal =
     (before : List (List ℕ)) (afters : List (List (List ℕ))) → AreShort before → IsLegal before →
-    AreLeft before afters → IsLegal (left_last before afters)
+    MayLeaveInTurn before afters → IsLegal (left_last before afters)

@@ -6,9 +6,9 @@ use Rattle.workers_io.specs.declared.collected.Collected.TheVariants.{Reply, Bro
 use Rattle.workers_io.specs.History.{Happening, replied, broken}
 
 -- the attempt that it names
-abbrev pub attempt_of : Collected → ℕ
-attempt_of (Reply attempt bytes) = attempt
-attempt_of (Broken attempt) = attempt
+abbrev pub collected_attempt : Collected → ℕ
+collected_attempt (Reply attempt bytes) = attempt
+collected_attempt (Broken attempt) = attempt
 
 -- what is told of it
 abbrev pub happening_of : Collected → Happening

@@ -19,11 +19,11 @@ Tells None (Some all) more = ⊥
 Tells (Some before) (Some all) more = all ≡ before ++ more
 
 -- the starts, whether they succeeded or not, each with the attempt's number and the text: the last one stands first
-abbrev pub Starts : Type 0
-Starts = List (ℕ × List ℕ)
+abbrev pub StartedTexts : Type 0
+StartedTexts = List (ℕ × List ℕ)
 
 -- the text of the last start with this number
-abbrev pub last_text : ℕ → Starts → Option (List ℕ)
+abbrev pub last_text : ℕ → StartedTexts → Option (List ℕ)
 last_text attempt [] = None
 last_text attempt (s ∷ starts) = if attempt == s.0 then Some s.1 else last_text attempt starts
 
@@ -33,7 +33,7 @@ IsAllowed allows None bytes = ⊥
 IsAllowed allows (Some text) bytes = (reply : List ℕ) × allows text reply × (rest : List ℕ) × (reply ≡ bytes ++ rest)
 
 -- after these starts, each reply begins one that the text of the last start with its number allows
-abbrev pub IsHonest : (List ℕ → List ℕ → Type 0) → Starts → List Happening → Type 0
+abbrev pub IsHonest : (List ℕ → List ℕ → Type 0) → StartedTexts → List Happening → Type 0
 IsHonest allows starts [] = Unit {0}
 IsHonest allows starts (started a text ∷ more) = IsHonest allows ((a, text) ∷ starts) more
 IsHonest allows starts (refused a text ∷ more) = IsHonest allows ((a, text) ∷ starts) more

@@ -2,7 +2,7 @@
 ghost use Rattle.std.specs.Prelude.{◌≡◌, ◌<◌, ◌≤◌, ◌++◌, ◌∷◌, [], List, ℕ, Option, Some, length, IfOk, OnOk, OnErr};
 ghost use Rattle.poly_io.specs.Causes.{HasCause, Rose};
 ghost use Rattle.workers_io.specs.History.{Happening, IsHonest, Tells, refused, started};
-ghost use Rattle.workers_io.specs.Collects.{IsBroken, attempt_of, happening_of, out_after};
+ghost use Rattle.workers_io.specs.Collects.{IsBroken, collected_attempt, happening_of, out_after};
 
 use crate::Collected;
 use poly_io::Failed;
@@ -26,7 +26,7 @@ pub trait Workers {
     /// How often a start or an attempt has failed. Past 2^64 - 1 failures the count may stand still.
     ghost faults: { Self → ℕ };
 
-    /// Starts an attempt on a text.
+    /// StartedTexts an attempt on a text.
     fn start(&mut self, attempt: u64, text: &[u8]) -> Result<(), Failed>
         ensures out { OnOk result (out self.new ≡ out self.old ++ attempt ∷ []) }
         ensures not_out { OnErr result (out self.new ≡ out self.old) }
@@ -40,7 +40,7 @@ pub trait Workers {
     /// collected.
     fn collect(&mut self) -> Result<Collected, AllocError>
         requires { 0 < length (out self.old) }
-        ensures out { IfOk result (λ c. out self.new ≡ out_after (out self.old) (attempt_of c)) }
+        ensures out { IfOk result (λ c. out self.new ≡ out_after (out self.old) (collected_attempt c)) }
         ensures told { IfOk result (λ c. Tells (history self.old) (history self.new) (happening_of c ∷ [])) }
         ensures broken { IfOk result (λ c. IsBroken c → Rose (faults self.old) (faults self.new)) }
         ensures still_out { OnErr result (out self.new ≡ out self.old) }

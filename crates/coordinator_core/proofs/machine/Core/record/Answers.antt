@@ -6,9 +6,9 @@ use Rattle.std.proofs.Math.ListN.{length-set}
 use Rattle.run_state.specs.KeyLists.{are_new}
 use Rattle.run_state.specs.Runs.{Run}
 use Rattle.run_state.proofs.KeyListLemmas.{not_held}
-use Rattle.coordinator_core.specs.Machine.{State, sent_at, taken_at}
+use Rattle.coordinator_core.specs.Machine.{State, sent_at, recorded_at}
 use Rattle.coordinator_core.specs.declared.sent.Sent.{Sent}
-use Rattle.coordinator_core.specs.Places.{IsDueAt, IsKept, gone, place_in, state_of}
+use Rattle.coordinator_core.specs.Places.{IsDueAt, IsKept, gone, sent_numbered, state_of}
 use Rattle.coordinator_core.proofs.SoundLemmas.{due_waits, sound_by_counts}
 use Rattle.coordinator_core.proofs.KeptLemmas.{SameState, due-means, due_still, kept-same, kept-taken, place-at, place-member, refused-clash, refused-done, refused-stranger, some-out, taken-view}
 use Rattle.coordinator_core.proofs.machine.Core.record.Goals as goal
@@ -21,14 +21,14 @@ invariant_of-self c =
 
 pub key_at-key-requires : goal.key_at-key-requires
 key_at-key-requires c =
-    let at : place_in c.self.inside.sent.items c.args.attempt ≡ Some c.in-Some.sent =
-    subst (λ (l : List Sent). place_in l c.args.attempt ≡ Some c.in-Some.sent) c.deref.ensures.value (sym c.attempt_at.ensures ∙ c.in-Some.is) in
+    let at : sent_numbered c.self.inside.sent.items c.args.attempt ≡ Some c.in-Some.sent =
+    subst (λ (l : List Sent). sent_numbered l c.args.attempt ≡ Some c.in-Some.sent) c.deref.ensures.value (sym c.attempt_at.ensures ∙ c.in-Some.is) in
     c.self.invariant.handed c.in-Some.sent (place-member c.self.inside.sent.items c.args.attempt c.in-Some.sent at)
 
 pub accept-requires : goal.accept-requires
 accept-requires c =
-    let at : place_in c.self.inside.sent.items c.args.attempt ≡ Some c.in-Some.sent =
-    subst (λ (l : List Sent). place_in l c.args.attempt ≡ Some c.in-Some.sent) c.deref.ensures.value (sym c.attempt_at.ensures ∙ c.in-Some.is) in
+    let at : sent_numbered c.self.inside.sent.items c.args.attempt ≡ Some c.in-Some.sent =
+    subst (λ (l : List Sent). sent_numbered l c.args.attempt ≡ Some c.in-Some.sent) c.deref.ensures.value (sym c.attempt_at.ensures ∙ c.in-Some.is) in
     let due = subst (λ (z : State). IsDueAt z c.args.attempt c.args.reply.now) (sym c.self.view_is) c.requires in
     record {
       job = (due-means c.self.inside.options c.self.inside.run c.self.inside.queue.items c.self.inside.sent.items c.self.inside.losses c.self.inside.strays c.args.attempt c.args.reply.now c.in-Some.sent at due).0
@@ -59,8 +59,8 @@ returns-in-Err-Clash-clause-new c =
 
 pub unreachable-requires-in-Err-Done : goal.unreachable-requires-in-Err-Done
 unreachable-requires-in-Err-Done c =
-    let at : place_in c.self.inside.sent.items c.args.attempt ≡ Some c.in-Some.sent =
-    subst (λ (l : List Sent). place_in l c.args.attempt ≡ Some c.in-Some.sent) c.deref.ensures.value (sym c.attempt_at.ensures ∙ c.in-Some.is) in
+    let at : sent_numbered c.self.inside.sent.items c.args.attempt ≡ Some c.in-Some.sent =
+    subst (λ (l : List Sent). sent_numbered l c.args.attempt ≡ Some c.in-Some.sent) c.deref.ensures.value (sym c.attempt_at.ensures ∙ c.in-Some.is) in
     let due = subst (λ (z : State). IsDueAt z c.args.attempt c.args.reply.now) (sym c.self.view_is) c.requires in
     let job : c.args.reply.now.key ≡ c.key_at-key.result =
     (due-means c.self.inside.options c.self.inside.run c.self.inside.queue.items c.self.inside.sent.items c.self.inside.losses c.self.inside.strays c.args.attempt c.args.reply.now c.in-Some.sent at due).0
@@ -71,8 +71,8 @@ unreachable-requires-in-Err-Done c =
 
 pub unreachable-requires-in-Err-Stranger : goal.unreachable-requires-in-Err-Stranger
 unreachable-requires-in-Err-Stranger c =
-    let at : place_in c.self.inside.sent.items c.args.attempt ≡ Some c.in-Some.sent =
-    subst (λ (l : List Sent). place_in l c.args.attempt ≡ Some c.in-Some.sent) c.deref.ensures.value (sym c.attempt_at.ensures ∙ c.in-Some.is) in
+    let at : sent_numbered c.self.inside.sent.items c.args.attempt ≡ Some c.in-Some.sent =
+    subst (λ (l : List Sent). sent_numbered l c.args.attempt ≡ Some c.in-Some.sent) c.deref.ensures.value (sym c.attempt_at.ensures ∙ c.in-Some.is) in
     let due = subst (λ (z : State). IsDueAt z c.args.attempt c.args.reply.now) (sym c.self.view_is) c.requires in
     let s = state_of c.self.inside.options c.self.inside.run c.self.inside.queue.items c.self.inside.sent.items c.self.inside.losses c.self.inside.strays in
     let job : c.args.reply.now.key ≡ c.key_at-key.result =
@@ -85,15 +85,15 @@ unreachable-requires-in-Err-Stranger c =
 
 pub end_attempt-requires : goal.end_attempt-requires
 end_attempt-requires c =
-    let at : place_in c.self.inside.sent.items c.args.attempt ≡ Some c.in-Some.sent =
-    subst (λ (l : List Sent). place_in l c.args.attempt ≡ Some c.in-Some.sent) c.deref.ensures.value (sym c.attempt_at.ensures ∙ c.in-Some.is) in
+    let at : sent_numbered c.self.inside.sent.items c.args.attempt ≡ Some c.in-Some.sent =
+    subst (λ (l : List Sent). sent_numbered l c.args.attempt ≡ Some c.in-Some.sent) c.deref.ensures.value (sym c.attempt_at.ensures ∙ c.in-Some.is) in
     subst (λ (l : List Sent). c.args.attempt - 1 < length l) (sym c.make_room.ensures.sent)
     (slice_get_within c.self.inside.sent.items (c.args.attempt - 1) c.in-Some.sent (place-at c.self.inside.sent.items c.args.attempt c.in-Some.sent at))
 
 pub overflow_sub-self : goal.overflow_sub-self
 overflow_sub-self c =
-    let at : place_in c.self.inside.sent.items c.args.attempt ≡ Some c.in-Some.sent =
-    subst (λ (l : List Sent). place_in l c.args.attempt ≡ Some c.in-Some.sent) c.deref.ensures.value (sym c.attempt_at.ensures ∙ c.in-Some.is) in
+    let at : sent_numbered c.self.inside.sent.items c.args.attempt ≡ Some c.in-Some.sent =
+    subst (λ (l : List Sent). sent_numbered l c.args.attempt ≡ Some c.in-Some.sent) c.deref.ensures.value (sym c.attempt_at.ensures ∙ c.in-Some.is) in
     let due = subst (λ (z : State). IsDueAt z c.args.attempt c.args.reply.now) (sym c.self.view_is) c.requires in
     some-out c.self.inside.options c.self.inside.run c.self.inside.queue.items c.self.inside.sent.items c.self.inside.out (vec_capacity c.self.inside.sent) c.args.attempt c.in-Some.sent c.self.invariant at
     (due-means c.self.inside.options c.self.inside.run c.self.inside.queue.items c.self.inside.sent.items c.self.inside.losses c.self.inside.strays c.args.attempt c.args.reply.now c.in-Some.sent at due).1
@@ -102,8 +102,8 @@ pub invariant_of-self-2 : goal.invariant_of-self-2
 invariant_of-self-2 c =
     let came = c.self.inside.run.came in
     let keys = c.args.reply.now.keys in
-    let at : place_in c.self.inside.sent.items c.args.attempt ≡ Some c.in-Some.sent =
-    subst (λ (l : List Sent). place_in l c.args.attempt ≡ Some c.in-Some.sent) c.deref.ensures.value (sym c.attempt_at.ensures ∙ c.in-Some.is) in
+    let at : sent_numbered c.self.inside.sent.items c.args.attempt ≡ Some c.in-Some.sent =
+    subst (λ (l : List Sent). sent_numbered l c.args.attempt ≡ Some c.in-Some.sent) c.deref.ensures.value (sym c.attempt_at.ensures ∙ c.in-Some.is) in
     let due = subst (λ (z : State). IsDueAt z c.args.attempt c.args.reply.now) (sym c.self.view_is) c.requires in
     let out = (due-means c.self.inside.options c.self.inside.run c.self.inside.queue.items c.self.inside.sent.items c.self.inside.losses c.self.inside.strays c.args.attempt c.args.reply.now c.in-Some.sent at due).1 in
     let grown : c.accept.new.self.came ≡ came ++ keys = ap (λ (z : Run). z.came) c.in-Ok.ensures.taken in
@@ -129,8 +129,8 @@ pub returns-clause-state : goal.returns-clause-state
 returns-clause-state c =
     let came = c.self.inside.run.came in
     let keys = c.args.reply.now.keys in
-    let at : place_in c.self.inside.sent.items c.args.attempt ≡ Some c.in-Some.sent =
-    subst (λ (l : List Sent). place_in l c.args.attempt ≡ Some c.in-Some.sent) c.deref.ensures.value (sym c.attempt_at.ensures ∙ c.in-Some.is) in
+    let at : sent_numbered c.self.inside.sent.items c.args.attempt ≡ Some c.in-Some.sent =
+    subst (λ (l : List Sent). sent_numbered l c.args.attempt ≡ Some c.in-Some.sent) c.deref.ensures.value (sym c.attempt_at.ensures ∙ c.in-Some.is) in
     let grown : c.accept.new.self.came ≡ came ++ keys = ap (λ (z : Run). z.came) c.in-Ok.ensures.taken in
     let n : c.len-end.result - c.len-first.result ≡ length keys =
     omega (arith, c.len-end.ensures.len, ap length grown, length-append came keys, c.len-first.ensures.len) in
@@ -141,7 +141,7 @@ returns-clause-state c =
     let sent : c.end_attempt.new.sent.items ≡ slice_set c.self.inside.sent.items (c.args.attempt - 1) (gone c.in-Some.sent) =
     c.end_attempt.ensures.sent ∙ ap (λ (l : List Sent). slice_set l (c.args.attempt - 1) (gone c.in-Some.sent)) c.make_room.ensures.sent in
     subst (λ (z : State). SameState (state_of c.self.inside.options c.accept.new.self c.add_places.new.queue.items c.end_attempt.new.sent.items c.self.inside.losses c.self.inside.strays)
-    (taken_at z c.args.attempt c.args.reply.now (sent_at z c.args.attempt))) c.self.view_is
+    (recorded_at z c.args.attempt c.args.reply.now (sent_at z c.args.attempt))) c.self.view_is
     (taken-view c.self.inside.options c.self.inside.run c.self.inside.queue.items c.self.inside.sent.items c.self.inside.losses c.self.inside.strays c.args.attempt c.self.inside.out (vec_capacity c.self.inside.sent)
     c.args.reply.now c.in-Some.sent c.accept.new.self c.add_places.new.queue.items c.end_attempt.new.sent.items c.self.invariant at
     c.in-Ok.ensures.taken queue sent)
