@@ -26,7 +26,7 @@ pub trait Workers {
     /// How often a start or an attempt has failed. Past 2^64 - 1 failures the count may stand still.
     ghost faults: { Self → ℕ };
 
-    /// StartedTexts an attempt on a text.
+    /// Starts an attempt on a text.
     fn start(&mut self, attempt: u64, text: &[u8]) -> Result<(), Failed>
         ensures out { OnOk result (out self.new ≡ out self.old ++ attempt ∷ []) }
         ensures not_out { OnErr result (out self.new ≡ out self.old) }
