@@ -1,8 +1,6 @@
 -- No whole reply is a proper prefix of another.
 use Rattle.std.proofs.Common.{◌≡◌, ◌<◌, ◌≤◌, ◌+◌, ◌^◌, ℕ, List, [], ◌∷◌, ◌++◌, length, get_or, refl, sym, ap, ◌∙◌, inl, inr, arith, append_assoc, append-nil, length-append}
-use Rattle.std.specs.List.{AllByRecursion}
 use Rattle.work_core.specs.ReplyLines.{ReplyLine, row_line, job_line, line_text, lines_text, rows_in_lines, keys_in_lines}
-use Rattle.job_text.specs.LineTexts.{IsReplyLine}
 use Rattle.job_text.specs.Replies.{IsWholeReply, reply_head, tail_text}
 use Rattle.job_text.specs.declared.reply.Reply.{Reply}
 use Rattle.job_text.specs.declared.reply.Tail.{Tail}

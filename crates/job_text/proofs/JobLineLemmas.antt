@@ -36,14 +36,16 @@ pub prints_same : {O T E : Type 0} {sink : Sink O} {old new : O} {result : Resul
     → Prints sink old new result a → Prints sink old new result b
 prints_same {sink = sink} {old = old} {new = new} {result = result} e h = subst (λ (t : List ℕ). Prints sink old new result t) e h
 
-line_joined : (line rest : List ℕ) → (line ++ 10 ∷ []) ++ rest ≡ line ++ 10 ∷ rest
+pub line_joined : (line rest : List ℕ) → (line ++ 10 ∷ []) ++ rest ≡ line ++ 10 ∷ rest
 line_joined line rest = append_assoc line (10 ∷ []) rest
 
-pub lines_joined : (a b c d e f file : List ℕ)
-    → (a ++ 10 ∷ []) ++ ((b ++ 10 ∷ []) ++ ((c ++ 10 ∷ []) ++ ((d ++ 10 ∷ []) ++ ((e ++ 10 ∷ []) ++ ((f ++ 10 ∷ []) ++ file)))))
-    ≡ a ++ 10 ∷ (b ++ 10 ∷ (c ++ 10 ∷ (d ++ 10 ∷ (e ++ 10 ∷ (f ++ 10 ∷ file)))))
-lines_joined a b c d e f file =
-    rw (line_joined f file, line_joined e, line_joined d, line_joined c, line_joined b, line_joined a) refl
+pub two_lines_joined : (a b rest : List ℕ) → (a ++ 10 ∷ []) ++ ((b ++ 10 ∷ []) ++ rest) ≡ a ++ 10 ∷ (b ++ 10 ∷ rest)
+two_lines_joined a b rest = rw (line_joined b rest, line_joined a) refl
+
+pub lines_joined : (a b c d e rest : List ℕ)
+    → (a ++ 10 ∷ []) ++ ((b ++ 10 ∷ []) ++ ((c ++ 10 ∷ []) ++ ((d ++ 10 ∷ []) ++ ((e ++ 10 ∷ []) ++ rest))))
+    ≡ a ++ 10 ∷ (b ++ 10 ∷ (c ++ 10 ∷ (d ++ 10 ∷ (e ++ 10 ∷ rest))))
+lines_joined a b c d e rest = rw (line_joined e rest, line_joined d, line_joined c, line_joined b, line_joined a) refl
 
 -- ---- lines in front of a text
 

@@ -17,4 +17,8 @@ pub mod JobLineLemmas
 pub mod JobTextLemmas
 pub mod RowTextLemmas
 pub mod FirstPayloadLemmas
+pub mod TriedTexts
+pub mod FirstPayloadsTried
+pub mod LinesTried
+pub mod RepliesTried
 pub mod KnownTexts

@@ -1,30 +1,25 @@
 -- The rows that a text shows are those of its lines, and the first of them is that of its first line that shows one.
-use Rattle.std.proofs.Common.{◌≡◌, ◌++◌, ℕ, ℤ, false, List, [], ◌∷◌, map, drop, Option, refl, sym, ap, ap₂, ◌∙◌, subst, inl, inr, arith, append-nil, unsigned_abs}
+use Rattle.std.proofs.Common.{◌≡◌, ◌++◌, ℕ, ℤ, true, false, List, [], ◌∷◌, map, drop, length, Option, refl, sym, ap, ap₂, ◌∙◌, subst, inl, inr, arith, append-nil, unsigned_abs}
 use Rattle.std.specs.Prelude.{codes, ◌==◌}
 use Rattle.std.specs.Fmt.{signed_decimal}
 use Rattle.std.specs.List.{All, AllByRecursion, slice_split, filter}
 use Rattle.std.specs.Option.{option_map_or}
-use Rattle.std.proofs.lemmas.Bool.{ne_eqb}
+use Rattle.std.proofs.lemmas.Bool.{cases_Bool, ne_eqb}
 use Rattle.std.proofs.lemmas.List.Elements.{All-from_recursion}
 use Rattle.std.proofs.lemmas.List.Splits.{slice_split_none, slice_split_at}
 use Rattle.std.proofs.Math.Logic.{∥∥₁_elim}
 use Rattle.plain_text.specs.Cuts.{is_newline, is_space, Lacks, CutsLine}
 use Rattle.plain_text.specs.Digits.{decimal_of, is_negative, without_minus, signed}
 use Rattle.plain_text.proofs.CutLemmas.{lacks_tested}
-use Rattle.plain_text.proofs.ReadLemmas.{line_is, no_line, read_at, read_none}
+use Rattle.plain_text.proofs.ReadLemmas.{line_is, no_line}
 use Rattle.plain_text.proofs.NumberLemmas.{uncapped, reads_signed, is_signed, signed_decimal_tells, signed_is_num, signed_lacks}
 use Rattle.poly_num.specs.Numbers.{IsNum}
 use Rattle.poly_num.specs.Vectors.{Vector}
 use Rattle.poly_model.specs.ListingText.{entries_text, entry_text}
 use Rattle.work_core.specs.ReplyLines.{ReplyLine, row_line, job_line, line_text, lines_text, rows_in_lines}
-use Rattle.plain_text.specs.Texts.{IsReadOf}
-use Rattle.job_text.specs.Fits.{Said, MaySay, said_by, said_text}
-use Rattle.job_text.specs.declared.said.Fit.{Fit}
-use Rattle.job_text.specs.declared.said.Fit.TheVariants as fits
+use Rattle.job_text.specs.Fits.{said_text}
 use Rattle.job_text.specs.LineTexts.{AreReplyLines, IsReplyLine}
 use Rattle.job_text.specs.RowTexts.{decimal_number, entries_in, is_row_line, shown_rows, AreWide}
-use Rattle.job_text.specs.declared.reply.Tail.{Tail}
-use Rattle.job_text.specs.declared.reply.Tail.TheVariants as tails
 use Rattle.job_text.proofs.ReplyLemmas.{line_is_said, said_behind, line_lacks}
 
 -- ---- one row
@@ -92,15 +87,6 @@ pub key_first : (text line rest key : List ℕ) → CutsLine text line rest → 
     shown_rows text ≡ shown_rows rest
 key_first text line rest key cut is = no_row_first text line rest cut (ap is_row_line is)
 
-pub tail_first : (text line rest : List ℕ) (tail : Tail) → CutsLine text line rest → line ≡ said_text (inr tail) →
-    shown_rows text ≡ shown_rows rest
-tail_first text line rest tail cut is = no_row_first text line rest cut (ap is_row_line is ∙ by tail)
-  where
-    by : (tail : Tail) → is_row_line (said_text (inr tail)) ≡ false
-    by (tails.End count) = refl
-    by (tails.Overflow o) = refl
-    by tails.Memory = refl
-
 -- ---- all lines
 
 -- the rows of the text of lines that fit
@@ -161,23 +147,18 @@ begins_with n text line rest cut h = by h.lines h.fit h.is_text
 pub lines_behind : (n : ℕ) (text line rest : List ℕ) → CutsLine text line rest → AreReplyLines n text → AreReplyLines n rest
 lines_behind n text line rest cut h = (begins_with n text line rest cut h).more
 
--- a line of a reply fits
-pub line_fits : (n : ℕ) (text line rest : List ℕ) → CutsLine text line rest → AreReplyLines n text →
-    ((s : Said) → MaySay n 0 0 s → line ≡ said_text s → ⊥) → ⊥
-line_fits n text line rest cut h none =
-    let b = begins_with n text line rest cut h in none (inl b.first) b.fit b.is
-
--- a line of a reply that was read as none of a row shows none
-pub not_a_row : (n m : ℕ) (text line rest : List ℕ) (row : Vector) (fit : Fit) → CutsLine text line rest → ∥ AreReplyLines n text ∥₁ →
-    m ≡ n → (fit ≡ fits.Row → ⊥) → IsReadOf (MaySay m 0 0) said_text line (said_by row fit) → shown_rows text ≡ shown_rows rest
-not_a_row n m text line rest row fits.No cut left same never read =
-    absurd (∥∥₁_elim left (λ (x y : ⊥). absurd x) (λ (h : AreReplyLines n text). line_fits n text line rest cut h
-    (λ s may is. read_none refl read s (subst (λ (k : ℕ). MaySay k 0 0 s) (sym same) may) is)))
-not_a_row n m text line rest row fits.Row cut left same never read = absurd (never refl)
-not_a_row n m text line rest row (fits.Job key) cut left same never read =
-    key_first text line rest key cut (read_at refl read).1
-not_a_row n m text line rest row (fits.Last tail) cut left same never read =
-    tail_first text line rest tail cut (read_at refl read).1
+-- a line that has not the form of a row shows none
+pub not_a_row : (n : ℕ) (text line rest : List ℕ) → CutsLine text line rest → ∥ AreReplyLines n text ∥₁ →
+    ((v : Vector) → length v ≡ n → AllByRecursion IsNum v → line ≡ said_text (inl (row_line v)) → ⊥) → shown_rows text ≡ shown_rows rest
+not_a_row n text line rest cut left none = elim (cases_Bool (is_row_line line)) [
+  | inl yes_row ↦ absurd (∥∥₁_elim left (λ (x y : ⊥). absurd x) (λ (h : AreReplyLines n text).
+      let b = begins_with n text line rest cut h in never yes_row b.first b.fit b.is))
+  | inr no_row ↦ no_row_first text line rest cut no_row
+]
+  where
+    never : is_row_line line ≡ true → (l : ReplyLine) → IsReplyLine n l → line ≡ said_text (inl l) → ⊥
+    never shows (row_line v) fit is = none v fit.0 fit.2 is
+    never shows (job_line key) fit is = let no : true ≡ false = sym shows ∙ ap is_row_line is in absurd cc
 
 -- lines that have no LF are none
 none_left : (n : ℕ) (text : List ℕ) → Lacks 10 text → AreReplyLines n text → text ≡ []

@@ -11,8 +11,9 @@ ghost use Rattle.job_text.specs.LineTexts.{IsReplyLine};
 use plain_text::{next_word, read_num};
 use poly_num::{Num, gcd};
 
-// As many numbers as the row has, each behind one blank, and nothing behind them.
-fn read_entries(row: &mut [Num], text: &[u8]) -> bool
+/// Whether as many numbers as the row has stand there, each behind one blank, and nothing behind them. Then the row has
+/// them; else it may have anything.
+pub(crate) fn read_entries(row: &mut [Num], text: &[u8]) -> bool
     requires { GoesOnWith 32 text.now }
     ensures size { length row.new ≡ length row.old }
     ensures yes { IsTrue result → AllByRecursion IsNum row.new × (text.now ≡ entries_text row.new) }

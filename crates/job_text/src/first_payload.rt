@@ -7,7 +7,7 @@ ghost use Rattle.job_text.specs.Jobs.{sized};
 ghost use Rattle.job_text.specs.KeyTexts.{HasKeyText};
 
 use crate::PayloadStop;
-use crate::lines::{key_behind, size_behind};
+use crate::lines::{has_size, key_behind, size_behind};
 use plain_text::{is_text, split_line};
 use poly_model::{Key, Poly, Root, WorkKind};
 use poly_reader::{ParseStop, poly_of};
@@ -53,14 +53,6 @@ fn is_root_of(work: WorkKind, root: &Key) -> bool
     }
 }
 
-// How many bytes there are.
-fn size_of(bytes: &[u8]) -> u128
-    ensures value { result ≡ length bytes.now }
-    ensures range { length bytes.now < 2 ^ 64 }
-{
-    bytes.len() as u128
-}
-
 // The file behind the line that says how many bytes it has.
 fn file_behind(text: &[u8]) -> Option<&[u8]>
     ensures some { IfSome result (λ file. text.now ≡ sized file.now) }
@@ -68,7 +60,7 @@ fn file_behind(text: &[u8]) -> Option<&[u8]>
     ensures none { IsNone result → (file : List ℕ) → length file < 2 ^ 64 → text.now ≡ sized file → ⊥ }
 {
     let (size, file) = size_behind(text)?;
-    if size_of(file) == size {
+    if has_size(file, size) {
         Some(file)
     } else {
         None

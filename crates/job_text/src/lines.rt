@@ -1,5 +1,5 @@
 //! The lines of a job text, each read with what stands behind it.
-ghost use Rattle.std.specs.Prelude.{◌≡◌, ◌≤◌, ◌++◌, ◌∷◌, ℕ, List, Some, IfSome, IsNone, decimal, codes, ⊤};
+ghost use Rattle.std.specs.Prelude.{◌≡◌, ◌≤◌, ◌<◌, ◌^◌, ◌++◌, ◌∷◌, ℕ, List, length, Some, IfSome, IsNone, IsTrue, IsFalse, decimal, codes, ⊤};
 ghost use Rattle.plain_text.specs.Digits.{capped, decimal_of};
 ghost use Rattle.plain_text.specs.Cuts.{Lacks};
 ghost use Rattle.plain_text.specs.Texts.{IsLineReadOf, IsReadOf};
@@ -76,4 +76,13 @@ pub(crate) fn size_behind(text: &[u8]) -> Option<(u128, &[u8])>
     let digits = strip_front(line, b"input ")?;
     let size = read_decimal(digits)?;
     Some((size, rest))
+}
+
+/// Whether there are so many bytes.
+pub(crate) fn has_size(bytes: &[u8], size: u128) -> bool
+    ensures yes { IsTrue result → length bytes.now ≡ size }
+    ensures no { IsFalse result → length bytes.now ≡ size → ⊥ }
+    ensures small { length bytes.now < 2 ^ 64 }
+{
+    bytes.len() as u128 == size
 }

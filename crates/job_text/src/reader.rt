@@ -47,6 +47,7 @@ impl ReplyReader {
     ) -> Result<Reply<'a>, ReplyStop>
         ensures ok { IfOk result (λ r. (r.key ≡ key.now) × IsWholeReply n r text.now) }
         ensures wide { IfOk result (λ r. AreWide n r.rows) }
+        ensures one { IfOk result (λ r. (other : Whole) → IsWholeReply n other text.now → other ≡ r) }
         ensures not_whole { (place : ℕ) → IsErrOf result (ReplyStop.NotWhole place) → IsNotWhole n key.now text.now place }
     {
         let (head, lines) = match key_behind(text, b"reply ") {
@@ -73,6 +74,7 @@ impl ReplyReader {
     pub fn read_any<'a>(alloc: Global, n: u32, text: &'a [u8]) -> Result<Reply<'a>, PayloadStop>
         ensures ok { IfOk result (λ r. IsWholeReply n r text.now) }
         ensures wide { IfOk result (λ r. AreWide n r.rows) }
+        ensures one { IfOk result (λ r. (other : Whole) → IsWholeReply n other text.now → other ≡ r) }
         ensures bad { IsErrOf result PayloadStop.Bad → (reply : Whole) → IsWholeReply n reply text.now → ⊥ }
     {
         let (key, _) = match key_behind(text, b"reply ") {

@@ -1,20 +1,12 @@
 //! Job texts that are read.
-ghost use Rattle.std.specs.Prelude.{◌≡◌, ◌<◌, ◌^◌, ℕ, length, IfOk, IsErrOf};
+ghost use Rattle.std.specs.Prelude.{◌≡◌, ℕ, IfOk, IsErrOf};
 ghost use Rattle.job_text.specs.Jobs.{IsBadText, IsJobText};
 
 use crate::head::head_behind;
-use crate::lines::size_behind;
+use crate::lines::{has_size, size_behind};
 use crate::{Job, JobReadStop};
 use poly_reader::{ParseStop, poly_of};
 use std::alloc::Global;
-
-// How many bytes there are.
-fn size_of(bytes: &[u8]) -> u64
-    ensures value { result ≡ length bytes.now }
-    ensures range { length bytes.now < 2 ^ 64 }
-{
-    bytes.len() as u64
-}
 
 /// The job of a text. Whether the root and the key are ones of the work is not judged.
 pub fn read_job(alloc: Global, text: &[u8]) -> Result<Job, JobReadStop>
@@ -29,8 +21,7 @@ pub fn read_job(alloc: Global, text: &[u8]) -> Result<Job, JobReadStop>
         Some(found) => found,
         None => return Err(JobReadStop::Bad { place: 6 }),
     };
-    let bytes = size_of(file);
-    if bytes as u128 != size {
+    if !has_size(file, size) {
         return Err(JobReadStop::Bad { place: 7 });
     }
     match poly_of(alloc, file) {

@@ -1,11 +1,13 @@
 //! The rows of a reply, which stay in its text.
-ghost use Rattle.std.specs.Prelude.{◌≡◌, ℕ, ◌∷◌, [], length, IfSome, IsNone, IsTrue, IsFalse};
+ghost use Rattle.std.specs.Prelude.{◌≡◌, ℕ, ℤ, List, ◌∷◌, ◌++◌, [], length, codes, IfSome, IsNone, IsTrue, IsFalse};
+ghost use Rattle.std.specs.List.{AllByRecursion};
+ghost use Rattle.poly_num.specs.Numbers.{IsNum};
+ghost use Rattle.poly_model.specs.ListingText.{entries_text};
 ghost use Rattle.job_text.specs.LineTexts.{AreReplyLines};
 ghost use Rattle.job_text.specs.RowTexts.{shown_rows, AreWide};
 
-use crate::fit::fit_line;
-use crate::said::Fit;
-use plain_text::split_line;
+use crate::entries::read_entries;
+use plain_text::{is_text, split_line, split_word};
 use poly_num::Num;
 use std::marker::Model;
 
@@ -76,8 +78,23 @@ fn first_row<'a>(lines: &'a [u8], row: &mut [Num]) -> Option<&'a [u8]>
     'lines: loop {
         let (line, behind) = split_line(rest)?;
         rest = behind;
-        if let Fit::Row = fit_line(line, row, 0, 0) {
+        if read_row_line(line, row) {
             return Some(behind);
         }
     }
+}
+
+// Whether the line has the form of a row of so many entries, which are read into place then. That they have no divisor
+// was judged when the reply was read.
+fn read_row_line(line: &[u8], row: &mut [Num]) -> bool
+    ensures size { length row.new ≡ length row.old }
+    ensures yes { IsTrue result → AllByRecursion IsNum row.new × (line.now ≡ codes "row" ++ entries_text row.new) }
+    ensures no { IsFalse result → (v : List ℤ) → length v ≡ length row.old → AllByRecursion IsNum v
+        → line.now ≡ codes "row" ++ entries_text v → ⊥ }
+{
+    let (word, entries) = split_word(line);
+    if !is_text(word, b"row") {
+        return false;
+    }
+    read_entries(row, entries)
 }

@@ -1,7 +1,7 @@
 //! A job and a reply that were written out by hand, and texts that are none.
 use crate::{
     JobHead, JobReadStop, PayloadStop, Reply, ReplyReader, ReplyStop, Tail, read_first_payload,
-    read_job, read_key, write_job, write_reply_head, write_tail,
+    read_job, read_key, write_first_payload, write_job, write_reply_head, write_tail,
 };
 use poly_io::MemSink;
 use poly_model::{Count, Key, Label, Overflow, Phase, Place, Root, WorkKind};
@@ -124,6 +124,45 @@ fn reads_first_payloads(rt: HostRuntime) -> Result<(), Fail> {
                 assert_eq!(rt; stop, PayloadStop::Bad);
             }
         }
+    }
+    Ok(())
+}
+
+// A work, a root, and the lines of the first payload that name them.
+const WRITTEN_PAYLOADS: [(&str, WorkKind, &str, &str); 3] = [
+    (
+        "subsets",
+        WorkKind::Subsets,
+        "0",
+        "lrs-ledger 1 subsets\nroot 0\n",
+    ),
+    (
+        "subtrees",
+        WorkKind::Subtrees,
+        "0",
+        "lrs-ledger 1 subtrees\nroot 0\n",
+    ),
+    (
+        "subtrees under a root",
+        WorkKind::Subtrees,
+        "2 9 x12",
+        "lrs-ledger 1 subtrees\nroot 2 9 x12\n",
+    ),
+];
+
+#[test]
+fn writes_first_payloads_that_are_read_back(rt: HostRuntime) -> Result<(), Fail> {
+    let alloc = rt.alloc();
+    let poly = poly_of(alloc, PLANE.as_bytes()).expect(&rt, "a plane");
+    for (name, work, root, front) in &WRITTEN_PAYLOADS {
+        let root = Root::new(read_key(root.as_bytes()).expect(&rt, "a key"));
+        let written = write_first_payload(alloc, *work, &root, &poly)?;
+        let mut text = String::from_str(alloc, *front)?;
+        text.push_str("input 39\n")?;
+        text.push_str(PLANE)?;
+        assert_eq!(rt; written.as_slice(), text.as_bytes(), "{}", name);
+        let first = read_first_payload(alloc, written.as_slice()).expect(&rt, "a first payload");
+        assert_eq!(rt; (first.work, first.root), (*work, root), "{}", name);
     }
     Ok(())
 }

@@ -11,12 +11,12 @@ use Rattle.work_core.specs.Searches.{Search}
 use Rattle.run_state.specs.KeyLists.{KnownKeys, are_new, holds}
 use Rattle.run_state.specs.Laws.{PayloadsHaveOneMeaning}
 use Rattle.run_state.specs.Payloads.{AreShort, FitsIn, IsBrokenPayload, IsLedgerText, IsNextPayload, SaysEnd, first_keys, keys_of}
-use Rattle.run_state.proofs.FirstPayloadsTried.{first_known}
+use Rattle.job_text.proofs.FirstPayloadsTried.{first_known}
 use Rattle.run_state.proofs.FollowLemmas.{ledger-join}
 use Rattle.run_state.proofs.KeyListLemmas.{held, not_held}
 use Rattle.run_state.proofs.MeaningLemmas.{not_broken, one_broken, one_ledger}
-use Rattle.run_state.proofs.RepliesTried.{reply_known}
-use Rattle.run_state.proofs.TriedTexts.{known_as}
+use Rattle.job_text.proofs.RepliesTried.{reply_known}
+use Rattle.job_text.proofs.TriedTexts.{known_as}
 
 -- ---- the next payload
 

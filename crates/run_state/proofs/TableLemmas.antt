@@ -1,5 +1,5 @@
 -- What the table of known keys is seen as, and what a job that is done makes of it.
-use Rattle.std.proofs.Common.{arith, ℕ, zero, suc, List, ◌≡◌, ◌≢◌, inl, inr, ⊎_elim, ◌<◌, Bool, true, false, not, [], ◌∷◌, ◌++◌, refl, sym, ap, ◌∙◌, subst, length, map, slice_get, slice_set, slice_index_or, replicate, Some, None, Result, Ok, Err, OnOk, OnErr}
+use Rattle.std.proofs.Common.{arith, ℕ, zero, suc, List, ◌≡◌, ◌≢◌, inl, inr, ⊎_elim, ◌+◌, ◌<◌, Bool, true, false, not, [], ◌∷◌, ◌++◌, refl, sym, ap, ◌∙◌, subst, length, map, slice_get, slice_set, slice_index_or, replicate, Some, None, Result, Ok, Err, OnOk, OnErr}
 use Rattle.std.specs.List.{Contains}
 use Rattle.std.proofs.lemmas.Bool.{cases_Bool}
 use Rattle.std.proofs.lemmas.List.{map-append, length-append, length-replicate}
@@ -91,6 +91,20 @@ unmarked-set (x ∷ keys) (b ∷ marks) (suc i) k o e h =
     elim (cases_Bool b) [
       | inl y ↦ rw y rest
       | inr n ↦ rw n (rw (other_keys k x other) (ap (λ (l : List (List ℕ)). x ∷ l) rest))
+    ]
+
+-- one mark more leaves one key less
+unmarked-count : (keys : List (List ℕ)) (marks : List Bool) (i : ℕ) → slice_get marks i ≡ Some false → length marks ≡ length keys →
+    length (unmarked keys (slice_set marks i true)) + 1 ≡ length (unmarked keys marks)
+unmarked-count [] [] i e h = absurd (cc)
+unmarked-count [] (m ∷ marks) i e h = absurd (omega (arith, h))
+unmarked-count (x ∷ keys) [] i e h = absurd (omega (arith, h))
+unmarked-count (x ∷ keys) (b ∷ marks) zero e h = let f : b ≡ false = cc in rw f (omega arith)
+unmarked-count (x ∷ keys) (b ∷ marks) (suc i) e h =
+    let rest = unmarked-count keys marks i e (omega (arith, h)) in
+    elim (cases_Bool b) [
+      | inl y ↦ rw y rest
+      | inr n ↦ rw n (omega (arith, rest))
     ]
 
 -- ---- the keys at places
@@ -220,12 +234,19 @@ module _ (keys : List (List ℕ)) (marks : List Bool) (places : List ℕ) (t : I
       | inr q ↦ subst (λ (z : ℕ). Contains places' z) (sym q) (Contains-push places m.place)
     ]
 
+    count' : length (unmarked keys' marks') + length places' ≡ length keys'
+    count' =
+        let set = unmarked-count keys' (marks ++ replicate (length more) false) m.place job_there long in
+        let front = ap (λ (l : List (List ℕ)). length l) (unmarked-append keys more marks t.size) in
+        omega (arith, set, front, length-append waiting more, length-append keys more, length-append places (m.place ∷ []), t.count)
+
     table' : IsKeyTable keys' marks' places'
     table' = record {
       once = once';
       size = length-set (marks ++ replicate (length more) false) m.place true ∙ long;
       marked = marked';
       listed = listed';
+      count = count';
       are_keys = λ k c. ⊎_elim (t.are_keys k) (are_keys k) (Contains-append_cases keys more k c);
     }
 
@@ -279,6 +300,7 @@ table_first key is = record {
   are_keys = λ k c. ⊎_elim (λ (e : key ≡ k). subst IsKey e is) (λ d. absurd (Contains-nil k d)) (Contains-cons_cases k key [] c);
   once = (Contains-nil key, tt);
   size = refl;
+  count = omega arith;
   marked = λ i c. absurd (Contains-nil i c);
   listed = λ i e. absurd (let q = get-append_cases [] (false ∷ []) i true e in ⊎_elim (λ (a : slice_get [] i ≡ Some true). let z : None ≡ Some true = a in absurd (cc)) (λ b. let z : true ≡ false = all-false 1 true b in absurd (cc)) q);
 }

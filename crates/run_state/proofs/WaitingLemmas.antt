@@ -1,8 +1,7 @@
 -- In a table of keys no key waits twice, and none that waits is done.
-use Rattle.std.proofs.Common.{arith, ℕ, List, ◌≡◌, ◌<◌, ◌∙◌, inl, inr, Bool, [], ◌∷◌, ap, Some, length, slice_get}
+use Rattle.std.proofs.Common.{ℕ, List, ◌≡◌, ◌∙◌, inl, inr, Bool, [], ◌∷◌, ap, Some, slice_get}
 use Rattle.std.proofs.lemmas.Bool.{cases_Bool}
 use Rattle.std.proofs.lemmas.Option.{slice_get-get_or}
-use Rattle.std.specs.List.{Contains}
 use Rattle.search_laws.specs.Shares.{StandOnce}
 use Rattle.run_state.specs.KeyLists.{StandApart}
 use Rattle.run_state.specs.Known.{IsKeyTable, keys_in, unmarked}

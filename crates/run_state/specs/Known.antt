@@ -30,12 +30,14 @@ pub record KeyTable : Type 0 where
 abbrev pub key_table : List (List ℕ) → List Bool → List ℕ → KeyTable
 key_table keys marks places = record { came = keys; keys = keys_in keys marks places }
 
--- each key stands once and has a mark, and the marked places are those of the keys that are done
+-- each key stands once and has a mark, and the marked places are those of the keys that are done, of which there are as
+-- many as keys with a mark
 pub record IsKeyTable (keys : List (List ℕ)) (marks : List Bool) (places : List ℕ) : Type 0 where
   pub once : StandOnce keys
   pub size : length marks ≡ length keys
   pub marked : (i : ℕ) → Contains places i → slice_get marks i ≡ Some true
   pub listed : (i : ℕ) → slice_get marks i ≡ Some true → Contains places i
+  pub count : length (unmarked keys marks) + length places ≡ length keys
   pub are_keys : (k : List ℕ) → Contains keys k → IsKey k
 
 -- a key that has this mark

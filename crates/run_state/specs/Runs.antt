@@ -1,12 +1,12 @@
 -- What is known after the records of a run: which keys came, which of them wait and which are done, and how many rows
 -- are recorded.
-use Rattle.std.specs.Prelude.{ℕ, List, [], ◌∷◌, ◌++◌, length}
+use Rattle.std.specs.Prelude.{◌≡◌, ℕ, List, [], ◌∷◌, ◌++◌, length}
 use Rattle.poly_num.specs.Vectors.{Vector}
 use Rattle.row_printer.specs.Rows.{counted}
 use Rattle.work_core.specs.Searches.{Search, meaning_of}
 use Rattle.job_text.specs.declared.reply.Reply.{Reply}
 use Rattle.run_state.specs.KeyLists.{KnownKeys}
-use Rattle.run_state.specs.Payloads.{first_keys, keys_after}
+use Rattle.run_state.specs.Payloads.{IsLedgerText, first_keys, keys_after}
 
 -- the keys that came stand in their order, so that a place names a key for good. The count of rows stands still at
 -- 2^64 - 1
@@ -33,6 +33,13 @@ run_after run r = record {
 abbrev pub run_of : Run → List Reply → Run
 run_of run [] = run
 run_of run (r ∷ replies) = run_of (run_after run r) replies
+
+-- the payloads are a ledger text, and this is the run that they tell
+pub record IsRunOf (run : Run) (payloads : List (List ℕ)) : Type 0 where
+  pub search : Search
+  pub replies : List Reply
+  pub is_text : IsLedgerText search replies payloads
+  pub is_run : run ≡ run_of (first_run search) replies
 
 -- the rows that are recorded, in order
 abbrev pub recorded_rows : List Reply → List Vector

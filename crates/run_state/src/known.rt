@@ -277,6 +277,20 @@ impl Known {
         places_left(self.alloc, &self.done.marks)
     }
 
+    /// How many keys wait.
+    pub(crate) fn waiting_len(&self) -> usize
+        ensures { result ≡ length self.now.keys.waiting }
+    {
+        self.keys.len() - self.done.places.len()
+    }
+
+    /// The places of the keys that are done, in the order in which they were.
+    pub(crate) fn done_places(&self) -> &[usize]
+        ensures { map (key_at self.now.came) result.now ≡ self.now.keys.done }
+    {
+        self.done.places.as_slice()
+    }
+
     /// Whether the key at a place is done.
     pub(crate) fn is_done(&self, place: usize) -> bool
         requires { place < length self.now.came }

@@ -1,13 +1,11 @@
 //! The state of a run.
-ghost use Rattle.std.specs.Prelude.{◌≡◌, ◌^◌, ◌<◌, ℕ, List, length, map, IfSome, IsNone, Some, slice_get, IfOk, OnOk, OnErr, IfErr, IsErrOf};
+ghost use Rattle.std.specs.Prelude.{◌≡◌, ◌^◌, ◌<◌, ℕ, List, [], ◌∷◌, ◌++◌, length, map, IfSome, IsNone, Some, slice_get, IfOk, OnOk, OnErr, IfErr, IsErrOf};
 ghost use Rattle.std.specs.List.{Contains};
 ghost use Rattle.poly_model.specs.Systems.{Polyhedron};
-ghost use Rattle.work_core.specs.Searches.{Search, meaning_by};
-ghost use Rattle.job_text.specs.declared.reply.Reply.{Reply as TheReply};
-ghost use Rattle.job_text.specs.FirstPayloads.{IsFirstPayload};
+ghost use Rattle.work_core.specs.Searches.{meaning_by};
 ghost use Rattle.run_state.specs.KeyLists.{StandApart, holds, key_at};
-ghost use Rattle.run_state.specs.Payloads.{FitsIn, IsBrokenPayload, IsLedgerText, IsNextPayload, IsNoFirst, IsNoNext};
-ghost use Rattle.run_state.specs.Runs.{first_run, run_after, run_of};
+ghost use Rattle.run_state.specs.Payloads.{FitsIn, IsBadBehind, IsBrokenPayload};
+ghost use Rattle.run_state.specs.Runs.{IsRunOf, first_run, run_after};
 ghost use Rattle.run_state.specs.Stops.{IsRefused};
 
 use crate::known::Known;
@@ -87,13 +85,26 @@ impl RunState {
         self.known.check(&reply.key, reply.keys.as_slice())
     }
 
-    // Takes the next payload of a ledger.
-    fn follow(&mut self, alloc: Global, payload: &[u8]) -> Result<(), PayloadStop>
-        ensures ok { OnOk result ((r : TheReply)
-            × IsNextPayload self.old.search.polyhedron.n self.old.keys payload.now r
-            × (self.new ≡ run_after self.old r)) }
-        ensures bad { IsErrOf result PayloadStop.Bad
-            → IsNoNext self.old.search.polyhedron.n self.old.keys payload.now }
+    /// Where the first payload of a ledger leads. `Bad` where it is the first payload of no search.
+    pub fn open(alloc: Global, payload: &[u8]) -> Result<RunState, PayloadStop>
+        ensures ok { IfOk result (λ run. IsRunOf run (payload.now ∷ [])) }
+        ensures bad { IsErrOf result PayloadStop.Bad → IsBadBehind [] payload.now }
+    {
+        let FirstPayload { work, root, poly } = read_first_payload(alloc, payload)?;
+        match RunState::begin(alloc, work, root, poly) {
+            Ok(run) => Ok(run),
+            Err(_) => Err(PayloadStop::Memory),
+        }
+    }
+
+    /// Takes the next payload of a ledger. `Bad` where it may not stand behind those that led here; on an error the
+    /// state is as it was. So a ledger is replayed payload by payload, without all of them in memory.
+    pub fn follow(&mut self, alloc: Global, payload: &[u8]) -> Result<(), PayloadStop>
+        ensures ok { (payloads : List (List ℕ)) → IsRunOf self.old payloads
+            → OnOk result (IsRunOf self.new (payloads ++ payload.now ∷ [])) }
+        ensures bad { (payloads : List (List ℕ)) → IsRunOf self.old payloads
+            → IsErrOf result PayloadStop.Bad → IsBadBehind payloads payload.now }
+        ensures unchanged { OnErr result (self.new ≡ self.old) }
     {
         let reply = match read_next_payload(alloc, self.poly().n(), payload) {
             Ok(reply) => reply,
@@ -109,26 +120,13 @@ impl RunState {
         }
     }
 
-    // Where the first payload of a ledger leads.
-    fn first(alloc: Global, payload: &[u8]) -> Result<RunState, PayloadStop>
-        ensures ok { IfOk result (λ run. (s : Search) × IsFirstPayload s payload.now × (run ≡ first_run s)) }
-        ensures bad { IsErrOf result PayloadStop.Bad → IsNoFirst payload.now }
-    {
-        let FirstPayload { work, root, poly } = read_first_payload(alloc, payload)?;
-        match RunState::begin(alloc, work, root, poly) {
-            Ok(run) => Ok(run),
-            Err(_) => Err(PayloadStop::Memory),
-        }
-    }
-
     /// The state after the records of a ledger, or the first payload that breaks the ledger text.
     pub fn replay(alloc: Global, payloads: &[Bytes]) -> Result<RunState, ReplayStop>
         requires { 0 < length payloads.now }
-        ensures ok { IfOk result (λ run. (s : Search) × (replies : List TheReply)
-            × IsLedgerText s replies payloads.now × (run ≡ run_of (first_run s) replies)) }
+        ensures ok { IfOk result (λ run. IsRunOf run payloads.now) }
         ensures bad { (place : ℕ) → IsErrOf result (ReplayStop.BadLedger place) → IsBrokenPayload place payloads.now }
     {
-        let mut run = match RunState::first(alloc, payloads[0].as_slice()) {
+        let mut run = match RunState::open(alloc, payloads[0].as_slice()) {
             Ok(run) => run,
             Err(PayloadStop::Memory) => return Err(ReplayStop::Memory),
             Err(PayloadStop::Bad) => return Err(ReplayStop::BadLedger { place: 1 }),
@@ -207,6 +205,20 @@ impl RunState {
         ensures apart { StandApart self.now.keys }
     {
         self.known.waiting_places()
+    }
+
+    /// How many keys wait: those that came less those that are done.
+    pub fn waiting_len(&self) -> usize
+        ensures { result ≡ length self.now.keys.waiting }
+    {
+        self.known.waiting_len()
+    }
+
+    /// The places of the keys that are done, in the order in which they were.
+    pub fn done_places(&self) -> &[usize]
+        ensures { map (key_at self.now.came) result.now ≡ self.now.keys.done }
+    {
+        self.known.done_places()
     }
 
     /// Whether the key at a place is done.

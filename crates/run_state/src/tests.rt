@@ -24,13 +24,15 @@ enum Answer {
     Clash(&'static str),
 }
 
-/// A reply, what it answers, and then how many keys wait, how many came and how many rows are recorded.
+/// A reply, what it answers, and then how many keys wait, how many came and how many rows are recorded, and the place of
+/// the key that was done last.
 #[derive(Clone, Copy)]
 struct Step {
     name: &'static str,
     reply: &'static str,
     answer: Answer,
     counts: (usize, usize, u64),
+    last: Option<usize>,
 }
 
 const STEPS: [Step; 8] = [
@@ -39,48 +41,56 @@ const STEPS: [Step; 8] = [
         reply: "reply 1 1\nend 0 0 1\n",
         answer: Answer::Stranger,
         counts: (1, 1, 0),
+        last: None,
     },
     Step {
         name: "the first job",
         reply: SPLIT,
         answer: Answer::Taken,
         counts: (2, 3, 1),
+        last: Some(0),
     },
     Step {
         name: "a job that is done",
         reply: "reply 0\nrow 1 0 0\njob 1 3\nend 1 1 1\n",
         answer: Answer::Done,
         counts: (2, 3, 1),
+        last: Some(0),
     },
     Step {
         name: "a key that waits",
         reply: "reply 1 1\njob 2 1 2\njob 1 2\nend 0 2 1\n",
         answer: Answer::Clash("1 2"),
         counts: (2, 3, 1),
+        last: Some(0),
     },
     Step {
         name: "a key that is done",
         reply: "reply 1 1\njob 2 1 2\njob 0\nend 0 2 1\n",
         answer: Answer::Clash("0"),
         counts: (2, 3, 1),
+        last: Some(0),
     },
     Step {
         name: "a key given back twice",
         reply: "reply 1 1\njob 2 1 2\njob 2 1 3\njob 2 1 2\nend 0 3 1\n",
         answer: Answer::Clash("2 1 2"),
         counts: (2, 3, 1),
+        last: Some(0),
     },
     Step {
         name: "rows alone",
         reply: "reply 1 2\nrow 0 1 0\nrow 0 0 1\nend 2 0 3\n",
         answer: Answer::Taken,
         counts: (1, 3, 3),
+        last: Some(2),
     },
     Step {
         name: "keys that were refused before",
         reply: "reply 1 1\njob 2 1 2\njob 2 1 3\nend 0 2 1\n",
         answer: Answer::Taken,
         counts: (2, 5, 3),
+        last: Some(1),
     },
 ];
 
@@ -110,10 +120,11 @@ fn takes_replies(rt: HostRuntime) -> Result<(), Fail> {
         let told = run.check(&reply).err();
         let stop = run.accept(&job, &reply).err();
         let counts = (run.waiting_places()?.len(), run.len(), run.rows());
+        let last = run.done_places().last().copied();
         let wanted = stop_of(&rt, step.answer);
         assert_eq!(rt;
-            (told, stop, counts),
-            (wanted, wanted, step.counts),
+            (told, stop, counts, last),
+            (wanted, wanted, step.counts, step.last),
             "{}",
             step.name
         );
@@ -199,7 +210,7 @@ fn replays_ledgers(rt: HostRuntime) -> Result<(), Fail> {
             continue;
         }
         let replayed = match RunState::replay(alloc, &payloads) {
-            Ok(run) => Ok((run.waiting_places()?.len(), run.rows())),
+            Ok(run) => Ok((run.waiting_len(), run.rows())),
             Err(ReplayStop::BadLedger { place }) => Err(place),
             Err(ReplayStop::Memory) => Err(0),
         };

@@ -1,4 +1,4 @@
-use Rattle.std.proofs.Common.{refl, arith, ◌∙◌, sym, length}
+use Rattle.std.proofs.Common.{refl, arith, length}
 use Rattle.std.specs.Prelude.{decimal}
 use Rattle.plain_text.proofs.Decimals.{decimal_of_decimal}
 use Rattle.job_text.proofs.JobTextLemmas.{SaysSize, sized_is, said_of_sized}
@@ -9,18 +9,18 @@ returns-in_err-size-clause-none c none file small is =
     c.in_err-size.ensures.none refl (decimal (length file)) file (length file)
     (decimal_of_decimal (length file) (omega (arith, small))) is
 
-pub returns-then-size_of-size-clause-some : goal.returns-then-size_of-size-clause-some
-returns-then-size_of-size-clause-some c =
+pub returns-then-has_size-clause-some : goal.returns-then-has_size-clause-some
+returns-then-has_size-clause-some c =
     let (digits, size, says, said, split) = c.in_ok-size.ensures.some in
     let s : SaysSize c.args.text.now c.in_ok-size.file.now c.in_ok-size.size =
     record { digits = digits; size = size; says = says; is_said = said; split = split } in
-    sized_is c.args.text.now c.in_ok-size.file.now c.in_ok-size.size s c.size_of.ensures.range
-    (sym c.size_of.ensures.value ∙ c.if-size_of-size.true)
+    sized_is c.args.text.now c.in_ok-size.file.now c.in_ok-size.size s c.has_size.ensures.small
+    (c.has_size.ensures.yes c.if-has_size.true)
 
-pub returns-else-size_of-size-clause-none : goal.returns-else-size_of-size-clause-none
-returns-else-size_of-size-clause-none c none file small is =
+pub returns-else-has_size-clause-none : goal.returns-else-has_size-clause-none
+returns-else-has_size-clause-none c none file small is =
     let (digits, size, says, said, split) = c.in_ok-size.ensures.some in
     let s : SaysSize c.args.text.now c.in_ok-size.file.now c.in_ok-size.size =
     record { digits = digits; size = size; says = says; is_said = said; split = split } in
-    c.if-size_of-size.false (c.size_of.ensures.value
-    ∙ said_of_sized c.args.text.now c.in_ok-size.file.now c.in_ok-size.size s file small is)
+    c.has_size.ensures.no c.if-has_size.false
+    (said_of_sized c.args.text.now c.in_ok-size.file.now c.in_ok-size.size s file small is)

@@ -1,6 +1,5 @@
-use Rattle.std.proofs.Common.{◌∙◌, length, refl}
+use Rattle.std.proofs.Common.{◌∙◌, length, sym}
 use Rattle.std.proofs.Math.Logic.{∥∥₁_map}
-use Rattle.plain_text.proofs.ReadLemmas.{read_at}
 use Rattle.job_text.proofs.RowTextLemmas.{no_row_left, row_first, lines_behind, not_a_row}
 use Rattle.job_text.proofs.rows.first_row.Goals as goal
 
@@ -9,13 +8,13 @@ returns-in_err-line-clause-none c none =
     c.lines.invariant.same
     ∙ no_row_left (length c.args.row.now) c.lines.rest.now c.in_err-line.ensures c.lines.invariant.left
 
-pub returns-in-Row-clause-some : goal.returns-in-Row-clause-some
-returns-in-Row-clause-some c =
+pub returns-then-read_row_line-clause-some : goal.returns-then-read_row_line-clause-some
+returns-then-read_row_line-clause-some c =
     let l = c.lines in
     let line = c.in_ok-line.line.now in
     let behind = c.in_ok-line.behind.now in
-    let read = read_at refl c.in-Row.ensures.fits in (
-      l.invariant.same ∙ row_first l.rest.now line behind c.fit_line.new.row c.in_ok-line.ensures read.0.2 read.1,
+    let read = c.read_row_line.ensures.yes c.if-read_row_line.true in (
+      l.invariant.same ∙ row_first l.rest.now line behind c.read_row_line.new.row c.in_ok-line.ensures read.0 read.1,
       ∥∥₁_map l.invariant.left (lines_behind (length c.args.row.now) l.rest.now line behind c.in_ok-line.ensures),
     )
 
@@ -27,8 +26,8 @@ lines-preserved c =
     record {
       same =
           l.invariant.same
-          ∙ not_a_row (length c.args.row.now) (length l.row) l.rest.now line behind c.fit_line.new.row c.fit_line.result
-          c.in_ok-line.ensures l.invariant.left l.invariant.size c.in_default.not-Row c.fit_line.ensures.fits;
+          ∙ not_a_row (length c.args.row.now) l.rest.now line behind c.in_ok-line.ensures l.invariant.left
+          (λ v count. c.read_row_line.ensures.no c.if-read_row_line.false v (count ∙ sym l.invariant.size));
       left = ∥∥₁_map l.invariant.left (lines_behind (length c.args.row.now) l.rest.now line behind c.in_ok-line.ensures);
-      size = c.fit_line.ensures.size ∙ l.invariant.size;
+      size = c.read_row_line.ensures.size ∙ l.invariant.size;
     }

@@ -9,6 +9,7 @@ use Rattle.job_text.specs.declared.reply.Reply.{Reply}
 use Rattle.job_text.specs.declared.stops.ReplyStop.{ReplyStop}
 use Rattle.job_text.specs.declared.stops.ReplyStop.TheVariants.{NotWhole, Memory}
 use Rattle.job_text.proofs.NotWholeLemmas.{no_head, not_whole, stop_within, head_is, head_from, other_head}
+use Rattle.job_text.proofs.OneReplyLemmas.{one_reply}
 use Rattle.job_text.proofs.RowTextLemmas.{rows_are, rows_are_wide, shown_lines}
 use Rattle.job_text.proofs.reader.ReplyReader.read.Goals as goal
 
@@ -89,6 +90,10 @@ returns-in-Ok-clause-wide c =
     let size : length c.deref_mut.result.now ≡ c.args.n = search rules in
     subst (λ (n : ℕ). AreWide n c.of_lines.result) size
     (rows_are_wide _ c.of_lines.result s.lines (c.of_lines.ensures ∙ ap shown_rows s.front ∙ rows_are _ s.lines s.fit) s.fit)
+
+pub returns-in-Ok-clause-one : goal.returns-in-Ok-clause-one
+returns-in-Ok-clause-one c other whole =
+    one_reply c.args.n other _ c.args.text.now (omega arith) whole (returns-in-Ok-clause-ok c).1
 
 pub returns-clause-not_whole : goal.returns-clause-not_whole
 returns-clause-not_whole c place e =

@@ -1,31 +1,31 @@
-use Rattle.std.proofs.Common.{arith, ◌≡◌, ◌∙◌, ap, subst, ℕ, ◌+◌, List, Err}
-use Rattle.job_text.specs.FirstPayloads.{IsFirstPayload}
-use Rattle.run_state.specs.Payloads.{IsBrokenPayload, IsNextPayload, IsNoFirst, IsNoNext}
-use Rattle.run_state.proofs.FollowLemmas.{broken-first, broken-next, leads-more, leads-start}
+use Rattle.std.proofs.Common.{arith, ◌≡◌, ◌∙◌, ap, subst, ℕ, ◌+◌, List, [], ◌∷◌, ◌++◌, take, Err}
+use Rattle.run_state.specs.Payloads.{IsBadBehind, IsBrokenPayload}
+use Rattle.run_state.specs.Runs.{IsRunOf}
+use Rattle.run_state.proofs.FollowLemmas.{broken-in, run-more}
 use Rattle.run_state.proofs.state.RunState.replay.Goals as goal
 
 pub returns-in-Err-Bad-clause-bad : goal.returns-in-Err-Bad-clause-bad
 returns-in-Err-Bad-clause-bad c place e =
     let q : 1 ≡ place = cc in
     subst (λ (n : ℕ). IsBrokenPayload n c.args.payloads.now) q
-    (broken-first c.args.payloads.now c.index-payloads-0.result c.requires
-    (subst IsNoFirst (c.as_slice.ensures ∙ c.index-payloads-0.is) (c.in-Err-Bad.ensures.bad (ap Err c.in-Err-Bad.field-0-is))))
+    (broken-in c.args.payloads.now 0 c.index-payloads-0.result c.requires
+    (subst (IsBadBehind []) (c.as_slice.ensures ∙ c.index-payloads-0.is) (c.in-Err-Bad.ensures.bad (ap Err c.in-Err-Bad.field-0-is))))
 
 pub returns-in-Err-Bad-follow-clause-bad : goal.returns-in-Err-Bad-follow-clause-bad
 returns-in-Err-Bad-follow-clause-bad c place e =
     let q : c.loop-i.i + 1 ≡ place = cc in
     subst (λ (n : ℕ). IsBrokenPayload n c.args.payloads.now) q
-    (broken-next c.args.payloads.now c.loop-i.i c.index-payloads-i.result c.loop-i.run (omega arith) c.loop-i.invariant
-    (subst (IsNoNext c.loop-i.run.search.polyhedron.n c.loop-i.run.keys) (c.as_slice-in-loop-i.ensures ∙ c.index-payloads-i.is)
-    (c.in-Err-Bad-follow.ensures.bad (ap Err c.in-Err-Bad-follow.field-0-is))))
+    (broken-in c.args.payloads.now c.loop-i.i c.index-payloads-i.result (omega arith)
+    (subst (IsBadBehind (take c.loop-i.i c.args.payloads.now)) (c.as_slice-in-loop-i.ensures ∙ c.index-payloads-i.is)
+    (c.in-Err-Bad-follow.ensures.bad (take c.loop-i.i c.args.payloads.now) c.loop-i.invariant (ap Err c.in-Err-Bad-follow.field-0-is))))
 
 pub loop-i-preserved : goal.loop-i-preserved
 loop-i-preserved c =
-    let h = c.in-Ok-follow.ensures.ok in
-    leads-more c.args.payloads.now c.loop-i.i c.index-payloads-i.result c.loop-i.run c.follow.new.self h.0 (omega arith) c.loop-i.invariant
-    (subst (λ (p : List ℕ). IsNextPayload c.loop-i.run.search.polyhedron.n c.loop-i.run.keys p h.0) (c.as_slice-in-loop-i.ensures ∙ c.index-payloads-i.is) h.1) h.2
+    run-more c.args.payloads.now c.loop-i.i c.index-payloads-i.result c.follow.new.self (omega arith)
+    (subst (λ (p : List ℕ). IsRunOf c.follow.new.self (take c.loop-i.i c.args.payloads.now ++ p ∷ [])) (c.as_slice-in-loop-i.ensures ∙ c.index-payloads-i.is)
+    (c.in-Ok-follow.ensures.ok (take c.loop-i.i c.args.payloads.now) c.loop-i.invariant))
 
 pub loop-i-init : goal.loop-i-init
 loop-i-init c =
-    let f = c.in-Ok.ensures.ok in
-    leads-start c.args.payloads.now c.index-payloads-0.result f.0 c.in-Ok.run' c.requires (subst (IsFirstPayload f.0) (c.as_slice.ensures ∙ c.index-payloads-0.is) f.1) f.2
+    run-more c.args.payloads.now 0 c.index-payloads-0.result c.in-Ok.run' c.requires
+    (subst (λ (p : List ℕ). IsRunOf c.in-Ok.run' (p ∷ [])) (c.as_slice.ensures ∙ c.index-payloads-0.is) c.in-Ok.ensures.ok)

@@ -21,7 +21,7 @@ use Rattle.job_text.specs.RowTexts.{shown_rows}
 use Rattle.job_text.proofs.JobOrBadLemmas.{Below, Known, both, from_test, number_below, same_texts}
 use Rattle.job_text.proofs.ReplyLemmas.{line_is_said}
 use Rattle.job_text.proofs.RowTextLemmas.{rows_are}
-use Rattle.run_state.proofs.TriedTexts.{key_some, known_as, known_or, overflow_some}
+use Rattle.job_text.proofs.TriedTexts.{key_some, known_as, known_or, overflow_some}
 
 -- ---- lines between the first and the last
 

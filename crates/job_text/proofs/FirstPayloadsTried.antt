@@ -14,7 +14,7 @@ use Rattle.job_text.specs.KeyTexts.{HasKeyText}
 use Rattle.job_text.proofs.FirstPayloadLemmas.{ledger_lacks, no_fault, of_parts, root_text, same_file, same_root, same_work}
 use Rattle.job_text.proofs.JobLineLemmas.{word_and_count_lack, word_and_key_lack}
 use Rattle.job_text.proofs.JobOrBadLemmas.{Known, both, same_texts, text_is_kept}
-use Rattle.run_state.proofs.TriedTexts.{cut_line, front_some, key_some}
+use Rattle.job_text.proofs.TriedTexts.{cut_line, front_some, key_some}
 
 -- ---- the lines
 

@@ -16,8 +16,8 @@ use Rattle.job_text.proofs.JobLineLemmas.{word_and_key_lack}
 use Rattle.job_text.proofs.JobOrBadLemmas.{Known, both, same_texts}
 use Rattle.job_text.proofs.NotWholeLemmas.{head_from, head_is}
 use Rattle.job_text.proofs.ReplyLemmas.{line_is_said, line_lacks, said_behind, said_lacks, tail_is_said}
-use Rattle.run_state.proofs.TriedTexts.{cut_line, key_some, known_as, known_or}
-use Rattle.run_state.proofs.LinesTried.{IsLine, IsTail, Says, line_known, tail_known}
+use Rattle.job_text.proofs.TriedTexts.{cut_line, key_some, known_as, known_or}
+use Rattle.job_text.proofs.LinesTried.{IsLine, IsTail, Says, line_known, tail_known}
 
 -- ---- all lines
 
