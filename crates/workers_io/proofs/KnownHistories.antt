@@ -1,6 +1,6 @@
 -- Known histories, which hold the definitions to account.
 use Rattle.std.proofs.Common.{◌≡◌, ℕ, List, [], ◌∷◌, Some, None, refl}
-use Rattle.workers_io.specs.History.{Happening, IsHonest, started, refused, replied, broken, last_text}
+use Rattle.workers_io.specs.History.{IsHonest, started, refused, replied, broken, last_text}
 use Rattle.workers_io.specs.Collects.{out_after}
 
 -- each text allows itself alone

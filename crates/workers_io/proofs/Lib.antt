@@ -1,1 +1,4 @@
+pub mod HonestLemmas
 pub mod KnownHistories
+pub mod QueueLemmas
+pub mod RunLemmas

@@ -1,8 +1,24 @@
 //! Workers that are given job texts and answer with bytes.
 #![tactic(auto)]
 
+mod attempts;
+mod children;
 mod collected;
+mod coming;
+mod count;
+mod fate;
+mod fated;
+mod log;
+mod memory;
+mod queue;
+mod told;
 mod workers;
 
+pub use children::{ChildWorkers, MOST_REPLY_BYTES};
 pub use collected::Collected;
+pub use fate::Fate;
+pub use memory::MemWorkers;
 pub use workers::Workers;
+
+#[cfg(test)]
+mod tests;

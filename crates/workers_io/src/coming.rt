@@ -1,0 +1,9 @@
+//! What is still to come of an attempt.
+use crate::Collected;
+
+/// What is still to come: at its turn, or after the next one that is there.
+#[derive(Drop)]
+pub struct Coming {
+    pub(crate) late: bool,
+    pub(crate) gives: Collected,
+}

@@ -1,0 +1,263 @@
+//! Workers in memory whose replies are lost, cut, late, doubled and replaced; and workers that are child processes.
+ghost use Rattle.std.specs.Prelude.{◌≡◌, ℕ, List};
+
+use super::*;
+use poly_io::{MemSink, Sink, WriteFault, write_all, write_count};
+use poly_model::Count;
+use std::fs;
+use std::path::Path;
+use std::process::Processes;
+use std::test::Fail;
+use work_core::{JobCall, JobStop};
+
+/// A job call that writes the text back, and takes `!` for no job.
+#[derive(Drop)]
+struct Echo;
+
+impl JobCall for Echo {
+    ghost allows = { λ text reply. reply ≡ text };
+
+    ghost is_bad = { λ text place. Unit {0} };
+
+    fn call<S: Sink>(&mut self, text: &[u8], out: &mut S) -> Result<Count, JobStop> {
+        if text == b"!".as_slice() {
+            return Err(JobStop::BadJob { place: 1 });
+        }
+        match write_all(out, text) {
+            Ok(()) => Ok(Count {
+                rows: 0,
+                jobs: 0,
+                bases: 0,
+            }),
+            Err(WriteFault) => Err(JobStop::WriteFault),
+        }
+    }
+}
+
+/// Fates, the starts that they are for, and what is seen: the attempts that are refused, and then of each collect what it
+/// gives, with the number of attempts that are out after it; how many faults there were then.
+#[derive(Clone, Copy)]
+struct Row {
+    name: &'static str,
+    fates: &'static [Fate],
+    starts: &'static [(u64, &'static [u8])],
+    seen: &'static [u8],
+    faults: u64,
+}
+
+const TWO: &[(u64, &[u8])] = &[(1, b"ab"), (2, b"cd")];
+
+const ROWS: [Row; 12] = [
+    Row {
+        name: "each reply comes",
+        fates: &[],
+        starts: TWO,
+        seen: b"1=ab (1) 2=cd (0) ",
+        faults: 0,
+    },
+    Row {
+        name: "kept",
+        fates: &[Fate::Keep, Fate::Lose],
+        starts: TWO,
+        seen: b"1=ab (1) 2 broken (0) ",
+        faults: 1,
+    },
+    Row {
+        name: "lost",
+        fates: &[Fate::Lose],
+        starts: TWO,
+        seen: b"1 broken (1) 2=cd (0) ",
+        faults: 1,
+    },
+    Row {
+        name: "cut",
+        fates: &[Fate::Cut(1), Fate::Cut(9)],
+        starts: TWO,
+        seen: b"1=a (1) 2=cd (0) ",
+        faults: 0,
+    },
+    Row {
+        name: "twice",
+        fates: &[Fate::Twice],
+        starts: TWO,
+        seen: b"1=ab (1) 1=ab (1) 2=cd (0) ",
+        faults: 0,
+    },
+    Row {
+        name: "late",
+        fates: &[Fate::Late],
+        starts: &[(1, b"ab"), (2, b"cd"), (3, b"ef")],
+        seen: b"2=cd (2) 1=ab (1) 3=ef (0) ",
+        faults: 0,
+    },
+    Row {
+        name: "late, with none behind it",
+        fates: &[Fate::Keep, Fate::Late],
+        starts: TWO,
+        seen: b"1=ab (1) 2=cd (0) ",
+        faults: 0,
+    },
+    Row {
+        name: "replaced",
+        fates: &[Fate::Replace(1), Fate::Replace(2)],
+        starts: TWO,
+        seen: b"1=other (1) 2= (0) ",
+        faults: 0,
+    },
+    Row {
+        name: "refused",
+        fates: &[Fate::Refuse],
+        starts: TWO,
+        seen: b"1 refused 2=cd (0) ",
+        faults: 1,
+    },
+    Row {
+        name: "no job",
+        fates: &[Fate::Twice],
+        starts: &[(1, b"!")],
+        seen: b"1 broken (0) ",
+        faults: 1,
+    },
+    Row {
+        name: "the number of an attempt that is out",
+        fates: &[],
+        starts: &[(1, b"ab"), (2, b"cd"), (1, b"ef")],
+        seen: b"2=cd (2) 1=ef (0) ",
+        faults: 0,
+    },
+    Row {
+        name: "refused with the number of an attempt that is out",
+        fates: &[Fate::Keep, Fate::Refuse],
+        starts: &[(1, b"ab"), (1, b"ef")],
+        seen: b"1 refused 1 broken (0) ",
+        faults: 2,
+    },
+];
+
+/// What may come in a reply's place.
+const OTHERS: &[&[u8]] = &[b"first", b"other"];
+
+/// Writes what a collect gave.
+fn write_collected<S: Sink>(collected: &Collected, out: &mut S) -> Result<(), WriteFault> {
+    match collected {
+        Collected::Reply { attempt, bytes } => {
+            write_count(*attempt, out)?;
+            write_all(out, b"=")?;
+            write_all(out, bytes.as_slice())
+        }
+        Collected::Broken { attempt } => {
+            write_count(*attempt, out)?;
+            write_all(out, b" broken")
+        }
+    }
+}
+
+/// Writes what is seen of the starts, and then of collects until no attempt is out.
+fn play<S: Sink>(
+    workers: &mut MemWorkers<Echo>,
+    starts: &[(u64, &[u8])],
+    out: &mut S,
+) -> Result<(), Fail> {
+    for (attempt, text) in starts {
+        if workers.start(*attempt, text).is_err() {
+            write_count(*attempt, out)?;
+            write_all(out, b" refused ")?;
+        }
+    }
+    for _ in 0..10 {
+        if workers.out().is_empty() {
+            return Ok(());
+        }
+        let collected = workers.collect()?;
+        write_collected(&collected, out)?;
+        write_all(out, b" (")?;
+        write_count(workers.out().len() as u64, out)?;
+        write_all(out, b") ")?;
+    }
+    Ok(())
+}
+
+#[test]
+fn gives_what_the_fates_say(rt: HostRuntime) -> Result<(), Fail> {
+    let alloc = rt.alloc();
+    for row in ROWS {
+        let mut workers = MemWorkers::new(alloc, Echo, row.fates, OTHERS);
+        let mut out = MemSink::new(alloc, &[]);
+        play(&mut workers, row.starts, &mut out)?;
+        let found = (out.written(), workers.faults(), workers.starts());
+        let want = (row.seen, row.faults, row.starts.len() as u64);
+        assert_eq!(rt; found, want, "{}", row.name);
+    }
+    Ok(())
+}
+
+/// Words for the shell. The first line of a child's input says what it does: it waits for a file and says so, or it makes
+/// the file.
+const MEETS: &[&str] = &[
+    "-c",
+    "read name; if [ $name = wait ]; then i=0; while [ $i -lt 2000000 ]; do \
+        if [ -e tests_of_workers_io.made ]; then echo met; exit 3; fi; i=$((i+1)); done; \
+        else : > tests_of_workers_io.made; fi",
+];
+
+#[test]
+fn children_run_beside_each_other(rt: HostRuntime) -> Result<(), Fail> {
+    let alloc = rt.alloc();
+    let _ = fs::remove_file(&rt, "tests_of_workers_io.made");
+    let shell = Path::new("/bin/sh").to_path_buf(alloc)?;
+    let mut workers = ChildWorkers::new(&rt, alloc, shell, MEETS);
+    let mut seen = MemSink::new(alloc, &[]);
+    for (attempt, text) in [(1, b"wait\n"), (2, b"make\n")] {
+        if workers.start(attempt, text).is_err() {
+            write_all(&mut seen, b"refused ")?;
+        }
+    }
+    gather(&mut workers, &mut seen)?;
+    fs::remove_file(&rt, "tests_of_workers_io.made")?;
+    assert_eq!(rt;
+        (seen.written(), workers.faults()),
+        (b"1=met\n 2= ".as_slice(), 0)
+    );
+    Ok(())
+}
+
+/// Writes what the workers give until no attempt is out.
+fn gather<R: Processes, S: Sink>(workers: &mut ChildWorkers<R>, out: &mut S) -> Result<(), Fail> {
+    for _ in 0..10 {
+        if workers.out().is_empty() {
+            return Ok(());
+        }
+        let collected = workers.collect()?;
+        write_collected(&collected, out)?;
+        write_all(out, b" ")?;
+    }
+    Ok(())
+}
+
+/// A program, whether it is started on a text of so many bytes, how many bytes it gives back, and how many faults there were.
+const PROGRAMS: [(&str, usize, bool, usize, u64); 4] = [
+    ("/bin/cat", 0, true, 0, 0),
+    ("/bin/cat", 50000, true, 50000, 0),
+    ("/bin/true", 1000000, false, 0, 1),
+    ("/bin/no such program", 2, false, 0, 1),
+];
+
+#[test]
+fn a_child_gives_what_it_prints(rt: HostRuntime) -> Result<(), Fail> {
+    let alloc = rt.alloc();
+    for (name, len, started, given, faults) in PROGRAMS {
+        let program = Path::new(name).to_path_buf(alloc)?;
+        let mut workers = ChildWorkers::new(&rt, alloc, program, &[]);
+        let text = vec![in alloc; b'a'; len]?;
+        let begun = workers.start(1, &text).is_ok();
+        let mut back = 0;
+        if !workers.out().is_empty() {
+            if let Collected::Reply { bytes, .. } = workers.collect()? {
+                back = bytes.len();
+            }
+        }
+        let found = (begun, back, workers.faults());
+        assert_eq!(rt; found, (started, given, faults), "{}", name);
+    }
+    Ok(())
+}
