@@ -93,6 +93,7 @@ impl Ledger {
         ensures records { IfOk result (λ l. Told (D.seen disk.old) (λ f. (payloads : List (List ℕ))
             × (0 < length payloads) × Records payloads f × (D.seen disk.new ≡ Some f) × IsLedgerAt l payloads (D.seen disk.new) (D.images disk.new))) }
         ensures knows { IfOk result (λ l. l.limit ≡ limit) }
+        ensures some { IfOk result (λ l. 0 < length l.sizes) }
         ensures none { IsErrOf result LedgerStop.NoRun → Told (D.seen disk.old) (λ f. HasNoRun f × (D.seen disk.new ≡ Some f)) }
         ensures bad { (place : ℕ) → IsErrOf result (LedgerStop.BadLedger place) → Told (D.seen disk.old) (λ f. IsBrokenAt place f × (D.seen disk.new ≡ Some f)) }
         ensures never_has { IsErrOf result LedgerStop.HasRun → ⊥ }

@@ -23,6 +23,7 @@ pub(crate) fn walk<D: Disk>(
 ) -> Result<(Vec<Span>, u64), LedgerStop>
     ensures quiet { IsQuiet D.seen D.images D.moment D.since disk.old disk.new }
     ensures placed { IfOk result (λ r. ArePlaced r.0.items r.1) }
+    ensures some { IfOk result (λ r. 0 < length r.0.items) }
     ensures records { IfOk result (λ r. Told (D.seen disk.old) (λ f. size ≡ length f → HasSpans r.0.items f)) }
     ensures none { IsErrOf result LedgerStop.NoRun → Told (D.seen disk.old) (λ f. size ≡ length f → HasNoRun f) }
     ensures bad { (place : ℕ) → IsErrOf result (LedgerStop.BadLedger place) → Told (D.seen disk.old) (λ f. size ≡ length f → IsBrokenAt place f) }

@@ -1,0 +1,5 @@
+pub mod Errors
+pub mod RowsOwed
+pub mod RepliesInOrder
+pub mod LedgerReads
+pub mod RunListings

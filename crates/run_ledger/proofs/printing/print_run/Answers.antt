@@ -1,0 +1,90 @@
+use Rattle.std.proofs.Common.{◌∙◌, List, ℕ, ap, sym, subst, refl}
+use Rattle.std.specs.List.{flat_map}
+use Rattle.std.specs.Io.KnownBytes.{Appends}
+use Rattle.poly_model.specs.ListingText.{row_text}
+use Rattle.poly_model.specs.Systems.{Polyhedron}
+use Rattle.poly_io.specs.Written.{AppendsPart}
+use Rattle.row_printer.specs.Rows.{HasWritten}
+use Rattle.run_state.specs.Runs.{recorded_rows}
+use Rattle.run_ledger.specs.declared.stops.PrintStop.TheVariants.{BadLedger}
+use Rattle.run_ledger.specs.Recorded.{IsNoReplyAt}
+use Rattle.run_ledger.proofs.Errors.{came}
+use Rattle.run_ledger.proofs.RepliesInOrder.{none_is_bad}
+use Rattle.run_ledger.proofs.RunListings.{ends_whole, front_of, stops_in_end, stops_in_front, stops_in_rows}
+use Rattle.run_ledger.proofs.printing.print_run.Goals as goal
+
+-- ---- in the head
+pub returns-in_err-listing-clause-listed : goal.returns-in_err-listing-clause-listed
+returns-in_err-listing-clause-listed g c s replies payloads at text same lines =
+    let p = c.args.run.now.poly.now in
+    let vectors = c.args.run.now.lines.now in
+    stops_in_front s replies p vectors same lines (g.O.Sink.written c.args.out.now) (g.O.Sink.written c.begin.new.out)
+    c.from_residual.result c.from_residual.ensures.0
+    (subst (λ (t : List ℕ). AppendsPart (g.O.Sink.written c.args.out.now) (g.O.Sink.written c.begin.new.out) t)
+    (front_of s replies p vectors same lines c.kind.result c.n-2.result c.kind.ensures c.n-2.ensures.value)
+    c.in_err-listing.ensures.prints.part)
+
+-- ---- in the rows
+pub returns-in_err-listing-2-clause-listed : goal.returns-in_err-listing-2-clause-listed
+returns-in_err-listing-2-clause-listed g c s replies payloads at text same lines =
+    let p = c.args.run.now.poly.now in
+    let vectors = c.args.run.now.lines.now in
+    let n = ap (λ (q : Polyhedron). q.n) same ∙ sym c.n.ensures.value in
+    let rows = c.in_err-listing-2.ensures.rows s replies payloads at text n in
+    stops_in_rows s replies p vectors same lines (g.O.Sink.written c.args.out.now) (g.O.Sink.written c.begin.new.out)
+    (g.O.Sink.written c.print_records.new.out) c.from_residual-in_err-listing-2.result
+    c.from_residual-in_err-listing-2.ensures.0
+    (subst (λ (t : List ℕ). Appends (g.O.Sink.written c.args.out.now) (g.O.Sink.written c.begin.new.out) t)
+    (front_of s replies p vectors same lines c.kind.result c.n-2.result c.kind.ensures c.n-2.ensures.value)
+    c.in_ok-listing.ensures.prints.whole)
+    (subst (λ k. AppendsPart (g.O.Sink.written c.begin.new.out) (g.O.Sink.written c.print_records.new.out)
+    (flat_map (row_text k) (recorded_rows replies)))
+    (c.none.ensures.listing ∙ c.in_ok-listing.ensures.kind ∙ c.kind.ensures) rows.part)
+
+pub returns-in_err-listing-2-clause-bad : goal.returns-in_err-listing-2-clause-bad
+returns-in_err-listing-2-clause-bad g c place payloads e at =
+    let r = c.from_residual-in_err-listing-2 in
+    subst (λ m. IsNoReplyAt m payloads place) c.n.ensures.value
+    (c.in_err-listing-2.ensures.bad place payloads
+    (came r.result c.in_err-listing-2.field-0.0 (BadLedger place) r.ensures.1 e) at)
+
+pub returns-in_err-listing-2-clause-never_bad : goal.returns-in_err-listing-2-clause-never_bad
+returns-in_err-listing-2-clause-never_bad g c place s replies payloads e at text same =
+    none_is_bad s replies payloads text place
+    (subst (λ m. IsNoReplyAt m payloads place) (sym (ap (λ (q : Polyhedron). q.n) same))
+    (returns-in_err-listing-2-clause-bad g c place payloads e at))
+
+-- ---- at the end
+pub returns-in_err-finish-clause-listed : goal.returns-in_err-finish-clause-listed
+returns-in_err-finish-clause-listed g c s replies payloads at text same lines =
+    let p = c.args.run.now.poly.now in
+    let vectors = c.args.run.now.lines.now in
+    let n = ap (λ (q : Polyhedron). q.n) same ∙ sym c.n.ensures.value in
+    let rows = c.in_ok-listing-2.ensures.rows s replies payloads at text n in
+    stops_in_end s replies p vectors same lines (g.O.Sink.written c.args.out.now) (g.O.Sink.written c.begin.new.out)
+    (g.O.Sink.written c.print_records.new.out) (g.O.Sink.written c.finish.new.out) c.from_residual-in_err-finish.result
+    c.from_residual-in_err-finish.ensures.0
+    (subst (λ (t : List ℕ). Appends (g.O.Sink.written c.args.out.now) (g.O.Sink.written c.begin.new.out) t)
+    (front_of s replies p vectors same lines c.kind.result c.n-2.result c.kind.ensures c.n-2.ensures.value)
+    c.in_ok-listing.ensures.prints.whole)
+    (subst (λ k. Appends (g.O.Sink.written c.begin.new.out) (g.O.Sink.written c.print_records.new.out)
+    (flat_map (row_text k) (recorded_rows replies)))
+    (c.none.ensures.listing ∙ c.in_ok-listing.ensures.kind ∙ c.kind.ensures) rows.whole.bytes)
+    c.in_err-finish.ensures.part
+
+pub returns-clause-listed : goal.returns-clause-listed
+returns-clause-listed g c s replies payloads at text same lines =
+    let p = c.args.run.now.poly.now in
+    let vectors = c.args.run.now.lines.now in
+    let n = ap (λ (q : Polyhedron). q.n) same ∙ sym c.n.ensures.value in
+    let rows = c.in_ok-listing-2.ensures.rows s replies payloads at text n in
+    ends_whole s replies p vectors same lines (g.O.Sink.written c.args.out.now) (g.O.Sink.written c.begin.new.out)
+    (g.O.Sink.written c.print_records.new.out) (g.O.Sink.written c.finish.new.out) _ refl
+    (subst (λ (t : List ℕ). Appends (g.O.Sink.written c.args.out.now) (g.O.Sink.written c.begin.new.out) t)
+    (front_of s replies p vectors same lines c.kind.result c.n-2.result c.kind.ensures c.n-2.ensures.value)
+    c.in_ok-listing.ensures.prints.whole)
+    c.none.result.tally c.in_ok-listing-2.field-0.tally c.none.ensures.rows refl
+    (subst (λ k. HasWritten k (g.O.Sink.written c.begin.new.out) (g.O.Sink.written c.print_records.new.out)
+    c.none.result.tally c.in_ok-listing-2.field-0.tally (recorded_rows replies))
+    (c.none.ensures.listing ∙ c.in_ok-listing.ensures.kind ∙ c.kind.ensures) rows.whole)
+    c.in_ok-finish.ensures.whole

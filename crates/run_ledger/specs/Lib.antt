@@ -1,0 +1,4 @@
+pub mod Printing
+pub mod Progress
+pub mod Recorded
+pub mod Stops

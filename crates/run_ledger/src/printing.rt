@@ -1,0 +1,194 @@
+//! The recorded rows of a run, printed as a listing.
+ghost use Rattle.std.specs.Prelude.{◌≡◌, ◌<◌, ◌≤◌, ◌+◌, ◌^◌, List, ℕ, Some, length, slice_get, IfOk, IsErrOf};
+ghost use Rattle.disk_core.specs.Moments.{IsQuiet};
+ghost use Rattle.poly_model.specs.FreeColumns.{AreLines};
+ghost use Rattle.poly_model.specs.Limits.{most_columns};
+ghost use Rattle.poly_model.specs.Systems.{cone_of};
+ghost use Rattle.work_core.specs.Searches.{Search};
+ghost use Rattle.job_text.specs.declared.reply.Reply.{Reply as TheReply};
+ghost use Rattle.job_text.specs.Replies.{IsWholeReply};
+ghost use Rattle.job_text.specs.RowTexts.{AreWide};
+ghost use Rattle.job_ledger.specs.Ledgers.{IsLedgerAt};
+ghost use Rattle.run_state.specs.Payloads.{IsLedgerText, SaysEnd};
+ghost use Rattle.run_state.specs.Runs.{recorded_rows};
+ghost use Rattle.run_ledger.specs.Printing.{PrintsRows, WritesRun};
+ghost use Rattle.run_ledger.specs.Recorded.{IsNoReplyAt, IsReplyAt};
+ghost use Rattle.run_ledger.specs.Stops.{RisesAt};
+
+use crate::PrintStop;
+use crate::rows::print_rows;
+use disk_core::Disk;
+use job_ledger::{Ledger, LedgerStop};
+use job_text::{PayloadStop, Reply, ReplyRows};
+use poly_io::{Bytes, Sink};
+use poly_model::{Listed, Poly, Vector};
+use poly_num::Num;
+use row_printer::{Listing, Shown};
+use run_state::read_next_payload;
+use std::alloc::{AllocError, Global};
+
+/// A run that is to be printed: its ledger, the polyhedron that it searches, and the lines of that.
+#[derive(Clone, Copy)]
+pub struct PrintedRun<'a> {
+    pub ledger: &'a Ledger,
+    pub poly: &'a Poly,
+    pub lines: &'a [Vector],
+}
+
+/// The records of a ledger, whose rows have n numbers.
+#[derive(Clone, Copy)]
+struct Records<'a> {
+    alloc: Global,
+    ledger: &'a Ledger,
+    n: u32,
+}
+
+// So many zeros, in which a row is read.
+fn zeros(alloc: Global, n: u32) -> Result<Vec<Num>, AllocError>
+    ensures { IfOk result (λ row. length row.items ≡ n) }
+{
+    let mut row = Vec::new(alloc);
+    row.resize(n as usize, Num::ZERO)?;
+    Ok(row)
+}
+
+// The payload of this number, from 0.
+fn read_payload<D: Disk>(ledger: &Ledger, disk: &mut D, i: u64) -> Result<Bytes, PrintStop>
+    requires { i < length ledger.now.sizes }
+    ensures quiet { IsQuiet D.seen D.images D.moment D.since disk.old disk.new }
+    ensures bytes { (payloads : List (List ℕ)) → IsLedgerAt ledger.now payloads (D.seen disk.old) (D.images disk.old)
+        → IfOk result (λ b. slice_get payloads i ≡ Some b) }
+    ensures unwritten { IsErrOf result PrintStop.WriteFault → ⊥ }
+    ensures never_bad { (place : ℕ) → IsErrOf result (PrintStop.BadLedger place) → ⊥ }
+    ensures cause { RisesAt PrintStop.DiskFault (D.faults disk.old) (D.faults disk.new) result }
+{
+    match ledger.payload(disk, i) {
+        Ok(bytes) => Ok(bytes),
+        Err(LedgerStop::DiskFault) => Err(PrintStop::DiskFault),
+        Err(_) => Err(PrintStop::Memory),
+    }
+}
+
+// The rows alone.
+fn rows_of(reply: Reply) -> ReplyRows
+    ensures { result ≡ reply.entry.rows }
+{
+    let Reply {
+        key: _,
+        rows,
+        keys: _,
+        tail: _,
+    } = reply;
+    rows
+}
+
+// The rows of the payload of the record of this number, from 1.
+fn rows_at<'a>(records: &Records, place: u64, payload: &'a [u8]) -> Result<ReplyRows<'a>, PrintStop>
+    ensures rows { (r : TheReply) → IsWholeReply records.now.n r payload.now → IfOk result (λ rows. rows ≡ r.rows) }
+    ensures wide { IfOk result (λ rows. AreWide records.now.n rows) }
+    ensures bad { (number : ℕ) → IsErrOf result (PrintStop.BadLedger number) → (number ≡ place)
+        × ((r : TheReply) → IsWholeReply records.now.n r payload.now → SaysEnd r.tail → ⊥) }
+    ensures never_disk { IsErrOf result PrintStop.DiskFault → ⊥ }
+    ensures never_write { IsErrOf result PrintStop.WriteFault → ⊥ }
+{
+    match read_next_payload(records.alloc, records.n, payload) {
+        Ok(reply) => Ok(rows_of(reply)),
+        Err(PayloadStop::Bad) => Err(PrintStop::BadLedger { place }),
+        Err(PayloadStop::Memory) => Err(PrintStop::Memory),
+    }
+}
+
+// Prints the rows of one record, by its number from 0.
+fn print_record<D: Disk, O: Sink>(
+    records: &Records,
+    i: u64,
+    shown: Shown,
+    disk: &mut D,
+    out: &mut O,
+) -> Result<Shown, PrintStop>
+    requires at { i < length records.now.ledger.now.sizes }
+    requires small { i + 1 < 2 ^ 64 }
+    ensures quiet { IsQuiet D.seen D.images D.moment D.since disk.old disk.new }
+    ensures rows { (payloads : List (List ℕ)) (r : TheReply)
+        → IsLedgerAt records.now.ledger.now payloads (D.seen disk.old) (D.images disk.old)
+        → IsReplyAt records.now.n payloads i r
+        → PrintsRows r.rows shown (O.written out.old) (O.written out.new) result }
+    ensures kind { IfOk result (λ s. s.listing ≡ shown.listing) }
+    ensures bad { (place : ℕ) (payloads : List (List ℕ)) → IsErrOf result (PrintStop.BadLedger place)
+        → IsLedgerAt records.now.ledger.now payloads (D.seen disk.old) (D.images disk.old)
+        → (place ≡ i + 1) × ((r : TheReply) → IsReplyAt records.now.n payloads i r → ⊥) }
+    ensures disk_cause { RisesAt PrintStop.DiskFault (D.faults disk.old) (D.faults disk.new) result }
+    ensures sink_cause { RisesAt PrintStop.WriteFault (O.faults out.old) (O.faults out.new) result }
+{
+    let payload = read_payload(records.ledger, disk, i)?;
+    let rows = rows_at(records, i + 1, payload.as_slice())?;
+    let mut row = zeros(records.alloc, records.n)?;
+    Ok(print_rows(rows, &mut row, shown, out)?)
+}
+
+// Prints the rows of all records behind the first.
+fn print_records<D: Disk, O: Sink>(
+    records: &Records,
+    shown: Shown,
+    disk: &mut D,
+    out: &mut O,
+) -> Result<Shown, PrintStop>
+    ensures quiet { IsQuiet D.seen D.images D.moment D.since disk.old disk.new }
+    ensures rows { (s : Search) (replies : List TheReply) (payloads : List (List ℕ))
+        → IsLedgerAt records.now.ledger.now payloads (D.seen disk.old) (D.images disk.old)
+        → IsLedgerText s replies payloads → s.polyhedron.n ≡ records.now.n
+        → PrintsRows (recorded_rows replies) shown (O.written out.old) (O.written out.new) result }
+    ensures kind { IfOk result (λ s. s.listing ≡ shown.listing) }
+    ensures bad { (place : ℕ) (payloads : List (List ℕ)) → IsErrOf result (PrintStop.BadLedger place)
+        → IsLedgerAt records.now.ledger.now payloads (D.seen disk.old) (D.images disk.old)
+        → IsNoReplyAt records.now.n payloads place }
+    ensures disk_cause { RisesAt PrintStop.DiskFault (D.faults disk.old) (D.faults disk.new) result }
+    ensures sink_cause { RisesAt PrintStop.WriteFault (O.faults out.old) (O.faults out.new) result }
+{
+    let mut shown = shown;
+    for i in 1..records.ledger.count() {
+        shown = print_record(records, i, shown, disk, out)?;
+    }
+    Ok(shown)
+}
+
+/// Prints a run as a listing: the lines, and the rows of each record behind the first, of which one payload is in
+/// memory at a time. The answer says how many rows and lines it has. Where it stops, first bytes of that listing were
+/// written. `BadLedger` comes where a record behind the first is no reply that ends in `end`, and is its number. No
+/// image of the disk is new.
+pub fn print_run<D: Disk, O: Sink>(
+    alloc: Global,
+    run: &PrintedRun,
+    disk: &mut D,
+    out: &mut O,
+) -> Result<Listed, PrintStop>
+    requires few { length run.now.lines.now ≤ most_columns }
+    ensures listed { (s : Search) (replies : List TheReply) (payloads : List (List ℕ))
+        → IsLedgerAt run.now.ledger.now payloads (D.seen disk.old) (D.images disk.old)
+        → IsLedgerText s replies payloads → s.polyhedron ≡ run.now.poly.now
+        → AreLines (cone_of run.now.poly.now) run.now.lines.now
+        → WritesRun s replies (O.written out.old) (O.written out.new) result }
+    ensures bad { (place : ℕ) (payloads : List (List ℕ)) → IsErrOf result (PrintStop.BadLedger place)
+        → IsLedgerAt run.now.ledger.now payloads (D.seen disk.old) (D.images disk.old)
+        → IsNoReplyAt run.now.poly.now.n payloads place }
+    ensures never_bad { (place : ℕ) (s : Search) (replies : List TheReply) (payloads : List (List ℕ))
+        → IsErrOf result (PrintStop.BadLedger place)
+        → IsLedgerAt run.now.ledger.now payloads (D.seen disk.old) (D.images disk.old)
+        → IsLedgerText s replies payloads → s.polyhedron ≡ run.now.poly.now → ⊥ }
+    ensures quiet { IsQuiet D.seen D.images D.moment D.since disk.old disk.new }
+    ensures disk_cause { RisesAt PrintStop.DiskFault (D.faults disk.old) (D.faults disk.new) result }
+    ensures sink_cause { RisesAt PrintStop.WriteFault (O.faults out.old) (O.faults out.new) result }
+{
+    let records = Records {
+        alloc,
+        ledger: run.ledger,
+        n: run.poly.n(),
+    };
+    let listing = Listing::begin(out, run.poly.kind(), run.poly.n(), run.lines)?;
+    let Shown { listing, tally } = print_records(&records, Shown::none(listing), disk, out)?;
+    listing.finish(out)?;
+    Ok(Listed {
+        rows: tally.rows,
+        lines: run.lines.len() as u32,
+    })
+}
