@@ -4,7 +4,7 @@ ghost use Rattle.row_printer.specs.Rows.{counted};
 ghost use Rattle.run_state.specs.KeyLists.{are_new};
 ghost use Rattle.coordinator_core.specs.Events.{IsEventOf};
 ghost use Rattle.coordinator_core.specs.Machine.{AreOptions, IsOut, acted, after, after_loss, attempt_of, by_verdict, job_of, judged, next_action, sent_at, start_of, recorded_at, verdict_of};
-ghost use Rattle.coordinator_core.specs.Places.{IsDueAt, IsSettledReply};
+ghost use Rattle.coordinator_core.specs.Places.{IsDueAt, IsSettledReply, IsSound};
 
 use crate::looks::{attempt_at, first_look, first_of};
 use crate::moves::{add_places, end_attempt, hand_back, make_room};
@@ -162,6 +162,15 @@ impl Core {
             return None;
         };
         Some((self.run.key_at(sent.place), sent.budget))
+    }
+
+    /// A core is sound: its options are in their ranges, and the keys that wait are those of its queue and those that are
+    /// out. Nothing is done: a call of this tells the proofs of the caller.
+    pub fn is_sound(&self)
+        ensures in_range { AreOptions self.now.options }
+        ensures sound { IsSound self.now.run self.now.queue self.now.sent }
+    {
+        let _out = self.out;
     }
 
     /// The state of the run.
