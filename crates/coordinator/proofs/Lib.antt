@@ -1,0 +1,9 @@
+pub mod AttemptsOut
+pub mod CallLemmas
+pub mod EventLemmas
+pub mod MoreRecords
+pub mod CallEnds
+pub mod CallFaults
+pub mod CallTexts
+pub mod LineCounts
+pub mod RunsAgain
