@@ -1,0 +1,2 @@
+pub mod HonestCalls
+pub mod RunLaws
