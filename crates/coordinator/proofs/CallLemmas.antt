@@ -1,5 +1,5 @@
 -- What calls do one after the other: steps, and what is told of them.
-use Rattle.std.proofs.Common.{ℕ, List, ◌≡◌, inl, inr, ◌+◌, ◌≤◌, Bool, true, false, [], ◌∷◌, ◌++◌, refl, sym, ap, ◌∙◌, subst, Option, Some, None, append_assoc, append-nil}
+use Rattle.std.proofs.Common.{rules, ℕ, List, ◌≡◌, inl, inr, ◌+◌, ◌≤◌, Bool, true, false, [], ◌∷◌, ◌++◌, refl, sym, ap, ◌∙◌, subst, Option, Some, None, append_assoc, append-nil}
 use Rattle.poly_model.specs.declared.overflow.Overflow.{Overflow as Passed}
 use Rattle.work_core.specs.declared.budget.Budget.{Budget}
 use Rattle.job_text.specs.declared.job.JobHead.{JobHead}
@@ -17,7 +17,7 @@ use Rattle.coordinator_core.specs.Traces.{GoesOn, MayStep, Step, Trace, collects
 use Rattle.coordinator_laws.specs.Courses.{AreToldAs, IsToldAs, IsToldAsEvent, accepted_texts, job_head_of, kept_text, text_for, text_in}
 use Rattle.coordinator_laws.specs.Ends.{bytes_in, left_to_do}
 use Rattle.coordinator_laws.proofs.EndLemmas.{steps_lower}
-use Rattle.coordinator.specs.Following.{EndsBy, LeadsTo, LeadsSomewhere}
+use Rattle.coordinator.specs.Following.{EndsBy, LeadsTo, LeadsSomewhere, StepsTo}
 use Rattle.coordinator.specs.Starting.{IsStarted, start_told}
 
 -- ---- what is told
@@ -87,14 +87,17 @@ somewhere_join s m a b c xs ys f (inr (o, g)) = inr (o, ends_join s m o a b c xs
 
 -- ---- one step
 pub goes_one : (s t : State) (step : Step) (h : Happening) (old new : Option (List Happening)) → MayStep s step → t ≡ stepped s step → IsToldAs s step h →
-    Tells old new (h ∷ []) → LeadsTo s t old new (text_in s step h)
+    Tells old new (h ∷ []) → StepsTo s t old new (text_in s step h)
 goes_one s t step h old new may is k told = record {
-  steps = step ∷ [];
-  trace = (may, is);
-  happenings = h ∷ [];
-  told_as = (k, tt);
-  told = told;
-  accepts = sym (append-nil (text_in s step h));
+  leads = record {
+    steps = step ∷ [];
+    trace = (may, is);
+    happenings = h ∷ [];
+    told_as = (k, tt);
+    told = told;
+    accepts = sym (append-nil (text_in s step h));
+  };
+  one = search rules;
 }
 
 told-start : (s : State) (a : ℕ) (key : List ℕ) (budget : Budget) (began : Bool) → IsToldAs s (hands a key budget began) (start_told began a (text_for s.run.search key budget))
@@ -102,7 +105,7 @@ told-start s a key budget true = refl
 told-start s a key budget false = refl
 
 pub goes-start : (s mid t : State) (a : ℕ) (key : List ℕ) (budget : Budget) (text out out' : List ℕ) (old new : Option (List Happening)) → next_action s ≡ Hand a key budget →
-    mid ≡ handed s key budget → text ≡ text_for s.run.search key budget → IsStarted mid t a text out out' old new → LeadsTo s t old new []
+    mid ≡ handed s key budget → text ≡ text_for s.run.search key budget → IsStarted mid t a text out out' old new → StepsTo s t old new []
 goes-start s mid t a key budget text out out' old new act is same p =
     let step = hands a key budget p.began in
     let state : t ≡ stepped s step = p.state ∙ ap (λ (z : State). started_or_lost z a p.began) is in
@@ -112,21 +115,21 @@ goes-start s mid t a key budget text out out' old new act is same p =
 pub goes-refused : (s : State) (a : ℕ) (key : List ℕ) (budget : Budget) (text : List ℕ) (old new : Option (List Happening)) → next_action s ≡ Hand a key budget →
     text ≡ text_for s.run.search key budget → Tells old new (refused a text ∷ []) → LeadsTo s (stepped s (hands a key budget false)) old new []
 goes-refused s a key budget text old new act same told =
-    goes_one s (stepped s (hands a key budget false)) (hands a key budget false) (refused a (text_for s.run.search key budget)) old new act refl refl
-    (subst (λ (x : List ℕ). Tells old new (refused a x ∷ [])) same told)
+    (goes_one s (stepped s (hands a key budget false)) (hands a key budget false) (refused a (text_for s.run.search key budget)) old new act refl refl
+    (subst (λ (x : List ℕ). Tells old new (refused a x ∷ [])) same told)).leads
 
 pub goes-collect : (s t : State) (e : Event) (h : Happening) (old new : Option (List Happening)) → next_action s ≡ Collect → GoesOn (verdict_of s e) → t ≡ after s e →
-    IsToldAsEvent s e h → Tells old new (h ∷ []) → LeadsTo s t old new (kept_text (verdict_of s e) h)
+    IsToldAsEvent s e h → Tells old new (h ∷ []) → StepsTo s t old new (kept_text (verdict_of s e) h)
 goes-collect s t e h old new act g is k told = goes_one s t (collects e) h old new (act, g) is k told
 
 ends-collect-at : (s : State) (e : Event) (h : Happening) (v : Verdict) (old new : Option (List Happening)) → verdict_of s e ≡ v → next_action s ≡ Collect →
     IsToldAsEvent s e h → Tells old new (h ∷ []) → LeadsSomewhere s old new (kept_text v h)
 ends-collect-at s e h Accepted old new j act k told =
-    inl (after s e, subst (λ (v : Verdict). LeadsTo s (after s e) old new (kept_text v h)) j (goes-collect s (after s e) e h old new act (subst GoesOn (sym j) tt) refl k told))
+    inl (after s e, subst (λ (v : Verdict). LeadsTo s (after s e) old new (kept_text v h)) j (goes-collect s (after s e) e h old new act (subst GoesOn (sym j) tt) refl k told).leads)
 ends-collect-at s e h Stray old new j act k told =
-    inl (after s e, subst (λ (v : Verdict). LeadsTo s (after s e) old new (kept_text v h)) j (goes-collect s (after s e) e h old new act (subst GoesOn (sym j) tt) refl k told))
+    inl (after s e, subst (λ (v : Verdict). LeadsTo s (after s e) old new (kept_text v h)) j (goes-collect s (after s e) e h old new act (subst GoesOn (sym j) tt) refl k told).leads)
 ends-collect-at s e h Loss old new j act k told =
-    inl (after s e, subst (λ (v : Verdict). LeadsTo s (after s e) old new (kept_text v h)) j (goes-collect s (after s e) e h old new act (subst GoesOn (sym j) tt) refl k told))
+    inl (after s e, subst (λ (v : Verdict). LeadsTo s (after s e) old new (kept_text v h)) j (goes-collect s (after s e) e h old new act (subst GoesOn (sym j) tt) refl k told).leads)
 ends-collect-at s e h (Ends o) old new j act k told =
     inr (o, record { last = s; before = old; goes = goes_none s old; waits = act; event = e; happening = h; told_as = k; told = told; ends = j })
 
@@ -153,8 +156,9 @@ ends-collected s e h o old new act k told j = record {
 pub goes-still : (s : State) (old new : Option (List Happening)) → Tells old new [] → LeadsTo s s old new []
 goes-still s old new told = record { steps = []; trace = refl; happenings = []; told_as = tt; told = told; accepts = refl }
 
-pub goes-same : (s t : State) (o : Option (List Happening)) → t ≡ s → LeadsTo s t o o []
-goes-same s t o same = subst (λ (z : State). LeadsTo s z o o []) (sym same) (goes_none s o)
+pub goes-same : (s t : State) (o : Option (List Happening)) → t ≡ s → StepsTo s t o o []
+unfolding goes_none
+goes-same s t o same = subst (λ (z : State). StepsTo s z o o []) (sym same) (record { leads = goes_none s o; one = search rules })
 
 -- ---- what is given to a worker
 pub head-text : (s mid : State) (head : JobHead) (key : List ℕ) (budget : Budget) → mid ≡ handed s key budget → head ≡ job_head_of mid.run.search key budget →

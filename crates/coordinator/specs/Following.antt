@@ -1,5 +1,5 @@
 -- What a call does, told by its workers: steps of the machine.
-use Rattle.std.specs.Prelude.{◌≡◌, ◌⊎◌, ◌+◌, ◌-◌, ℕ, true, List, [], ◌∷◌, Option, Some}
+use Rattle.std.specs.Prelude.{◌≡◌, ◌⊎◌, ◌+◌, ◌-◌, ◌≤◌, ℕ, true, List, [], ◌∷◌, length, Option, Some}
 use Rattle.std.specs.List.{Contains}
 use Rattle.poly_model.specs.declared.overflow.Overflow.{Overflow as Passed}
 use Rattle.job_ledger.specs.Ledgers.{Known, end_of}
@@ -24,6 +24,11 @@ pub record LeadsTo (s last : State) (old new : Option (List Happening)) (texts :
   pub told : Tells old new happenings
   pub accepts : texts ≡ accepted_texts s steps happenings
 
+-- they lead there in one step at most
+pub record StepsTo (s last : State) (old new : Option (List Happening)) (texts : List (List ℕ)) : Type 0 where
+  pub leads : LeadsTo s last old new texts
+  pub one : length leads.steps ≤ 1
+
 -- so it goes, and then a reply comes that ends in `overflow`, and ends the call
 pub record EndsBy (s : State) (o : Passed) (old new : Option (List Happening)) (texts : List (List ℕ)) : Type 0 where
   pub last : State
@@ -36,7 +41,7 @@ pub record EndsBy (s : State) (o : Passed) (old new : Option (List Happening)) (
   pub told : Tells before new (happening ∷ [])
   pub ends : verdict_of last event ≡ Ends o
 
--- so it goes, wherever it stops: where the memory is refused, a reply that ends the call may have come
+-- it goes on, wherever it stops: where the memory is refused, a reply that ends the call may have come
 abbrev pub LeadsSomewhere : State → Option (List Happening) → Option (List Happening) → List (List ℕ) → Type 0
 LeadsSomewhere s old new texts =
     ((last : State) × LeadsTo s last old new texts) ⊎ ((o : Passed) × EndsBy s o old new texts)

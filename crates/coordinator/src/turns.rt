@@ -3,7 +3,7 @@ ghost use Rattle.std.specs.Prelude.{◌≡◌, ◌⊎◌, ◌<◌, ◌≤◌, �
 ghost use Rattle.run_ledger.specs.Stops.{RisesAt};
 ghost use Rattle.poly_model.specs.declared.overflow.Overflow.{Overflow as Passed};
 ghost use Rattle.coordinator_core.specs.Machine.{next_action};
-ghost use Rattle.coordinator.specs.Following.{AreOut, EndsBy, LeadsTo, LeadsSomewhere, IsMove, most_actions};
+ghost use Rattle.coordinator.specs.Following.{AreOut, EndsBy, LeadsSomewhere, StepsTo, IsMove, most_actions};
 ghost use Rattle.coordinator.specs.Leaving.{Adds, IsRefusedBy, LeavesFronts};
 
 use crate::TurnStop;
@@ -32,7 +32,7 @@ pub fn turn<D: Disk, W: Workers>(
     ensures out { OnOk result (AreOut core.new (W.out workers.new)) }
     // One step of the machine at most, which the workers tell; the ledger has what it accepts.
     ensures went { OnOk result ((texts : List (List ℕ))
-        × LeadsTo core.old core.new (W.history workers.old) (W.history workers.new) texts
+        × StepsTo core.old core.new (W.history workers.old) (W.history workers.new) texts
         × Adds D.Disk disk.old disk.new ledger.old ledger.new texts) }
     ensures falls { IfOk result (λ a. IsMove a → most_actions core.new ledger.new < most_actions core.old ledger.old) }
     ensures rests { IfOk result (λ a. IsMove a ⊎ ((core.new ≡ core.old) × (workers.new ≡ workers.old)

@@ -24,7 +24,7 @@ turns-preserved g c =
       c.in-Ok.ensures.out,
       (
         i.1.0 ++ p.0,
-        goes_join c.args.core.now c.turns.core c.turn.new.core _ _ _ i.1.0 p.0 i.1.1 p.1,
+        goes_join c.args.core.now c.turns.core c.turn.new.core _ _ _ i.1.0 p.0 i.1.1 p.1.leads,
         adds_join g.D.Disk c.args.disk.now c.turns.disk c.turn.new.disk c.args.ledger.now c.turns.ledger c.turn.new.ledger i.1.0 p.0 i.1.2 p.2,
       ),
       λ f. absurd (subst IsMove (ap next_action (i.2 f).0 ∙ f) move),

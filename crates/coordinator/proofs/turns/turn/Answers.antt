@@ -8,7 +8,7 @@ use Rattle.coordinator_core.specs.declared.action.Action.TheVariants.{Collect}
 use Rattle.coordinator_core.proofs.SoundLemmas.{sound_by_counts}
 use Rattle.coordinator_laws.specs.Courses.{kept_text}
 use Rattle.coordinator.specs.declared.stops.TurnStop.TheVariants.{LedgerLimit, Overflow}
-use Rattle.coordinator.specs.Following.{AreOut, EndsBy, LeadsTo, LeadsSomewhere, most_actions}
+use Rattle.coordinator.specs.Following.{AreOut, EndsBy, LeadsSomewhere, StepsTo, most_actions}
 use Rattle.coordinator.specs.Leaving.{Adds, IsRefusedBy}
 use Rattle.coordinator.proofs.AttemptsOut.{out-collected, out-started, some-out}
 use Rattle.coordinator.proofs.CallLemmas.{ends-collected, goes-collect, goes-collected, goes-refused, goes-same, goes-start, goes-still, head-text, lower-collect, lower-start, same-attempt}
@@ -76,7 +76,7 @@ returns-in-Ok-take-clause-went g c =
     let act : next_action mid ≡ Collect = ap next_action same ∙ sym c.in-Collect.ensures.action in
     let h = happening_of c.in-Ok-collect.collected in (
       kept_text (verdict_of mid p.0) h,
-      subst (λ (z : State). LeadsTo z c.take.new.core (g.W.Workers.history c.args.workers.now) (g.W.Workers.history c.collect.new.self) (kept_text (verdict_of mid p.0) h)) same
+      subst (λ (z : State). StepsTo z c.take.new.core (g.W.Workers.history c.args.workers.now) (g.W.Workers.history c.collect.new.self) (kept_text (verdict_of mid p.0) h)) same
           (goes-collect mid c.take.new.core p.0 h _ _ act p.2 p.3 p.1 c.in-Ok-collect.ensures.told),
       p.4,
     )
