@@ -4,7 +4,9 @@ ghost use Rattle.poly_model.specs.declared.overflow.Overflow.{Overflow as Passed
 ghost use Rattle.poly_model.specs.Due.{IsDue, IsAskedBefore, IsAskedInFirst};
 ghost use Rattle.poly_model.specs.Extreme.{IsFeasible};
 ghost use Rattle.poly_model.specs.FreeColumns.{AreLines};
+ghost use Rattle.poly_model.specs.Keys.{IsKey};
 ghost use Rattle.poly_model.specs.Limits.{most_columns};
+ghost use Rattle.poly_model.specs.PhaseOne.{IsSearchRoot};
 ghost use Rattle.poly_model.specs.Systems.{Polyhedron, cone_of};
 ghost use Rattle.convert_core.specs.Searches.{IsSearch, IsAtRoot, IsRootOf};
 
@@ -13,7 +15,7 @@ use crate::search::Search;
 use hull_lift::system_of;
 use linearity::{PrepareStop, prepare};
 use phase_one::{FirstStop, Found, first};
-use poly_model::{Lines, OutOfMemory, Overflow, Poly, System};
+use poly_model::{Lines, OutOfMemory, Overflow, Poly, Root, System};
 use poly_num::Num;
 use reverse_step::Walker;
 use std::alloc::Global;
@@ -46,6 +48,34 @@ pub(crate) fn begin<'a>(alloc: Global, poly: &'a Poly) -> Result<(Search<'a>, Li
         Ok(begun) => Ok(begun),
         Err(_) => Err(SearchStop::Memory),
     }
+}
+
+/// The root of the search of a file, from which `list` walks, or why there is none. `Infeasible` comes exactly where no point
+/// satisfies the file, if no overflow or want of memory came before. Memory that was taken is given back.
+pub fn search_root(alloc: Global, poly: &Poly) -> Result<Root, SearchStop>
+    ensures root { IfOk result (λ r. IsSearchRoot poly.now r.key) }
+    ensures key { IfOk result (λ r. IsKey r.key) }
+    ensures infeasible { IsErrOf result SearchStop.Infeasible → IsFeasible (cone_of poly.now) → ⊥ }
+    ensures overflow { (o : Passed) → IsErrOf result (SearchStop.Overflow o) →
+        IsDue poly.now o (IsAskedBefore poly.now o) ⊎ IsDue poly.now o (IsAskedInFirst poly.now o) }
+{
+    let Ok(cone) = system_of(alloc, poly) else {
+        return Err(SearchStop::Memory);
+    };
+    match root_of(alloc, &cone) {
+        Ok(found) => {
+            is_key(&found.root);
+            Ok(found.root)
+        }
+        Err(stop) => Err(stop),
+    }
+}
+
+// The labels of a root are those of a key. Nothing is done: a call of this tells the proofs of the caller.
+fn is_key(root: &Root)
+    ensures { IsKey root.now.key }
+{
+    root.key().labels();
 }
 
 // The root of the search of a cone, or why there is none.

@@ -15,7 +15,7 @@ mod tests;
 mod totals;
 mod walk;
 
-pub use begin::SearchStop;
+pub use begin::{SearchStop, search_root};
 pub use listing::{convert, list};
 pub use rays::{Rays, rays_of};
 pub use rows::{Basis, shown_vector};
