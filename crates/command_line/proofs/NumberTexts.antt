@@ -34,17 +34,16 @@ module _ (low high : ℕ) (text : Text) where
       (λ e. let a = accepts-Accepts false (parsers.Unsigned low high) text e in never a.0 a.2 a.3)
 
   -- what is read of the text
-  pub read_in : (n : ℕ) → IsNumeral 10 (without_leading_plus text) × (said < 2 ^ 32) → n ≡ said →
+  pub read_in : (n : ℕ) → IsNumeral 10 (without_leading_plus text) × (said < 2 ^ 64) → n ≡ said →
       (r : Option ℕ) → IfSome r (λ m. (m ≡ n) × (low ≤ n) × (n ≤ high)) → (IsNone r → low ≤ n → n ≤ high → ⊥) →
       r ≡ number_within low high text
   read_in n p e (Some m) some none =
       ap (λ x. Some x) (some.0 ∙ e)
-      ∙ sym (says_number p.0 (let s = p.1 in omega (arith, s)) (let s = some.1 in omega (arith, e, s))
-      (let s = some.2 in omega (arith, e, s)))
+      ∙ sym (says_number p.0 p.1 (let s = some.1 in omega (arith, e, s)) (let s = some.2 in omega (arith, e, s)))
   read_in n p e None some none =
       sym (says_none (λ is least most. none refl (omega (arith, e, least)) (omega (arith, e, most))))
 
-  pub not_read : (IsNumeral 10 (without_leading_plus text) × (said < 2 ^ 32) → ⊥) → high < 2 ^ 32 →
+  pub not_read : (IsNumeral 10 (without_leading_plus text) × (said < 2 ^ 64) → ⊥) → high < 2 ^ 64 →
       None ≡ number_within low high text
   not_read never few = sym (says_none (λ is least most. never (is, omega (arith, few, most))))
 

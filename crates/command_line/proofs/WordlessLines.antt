@@ -28,6 +28,15 @@ job = codes "job"
 abbrev demo : Text
 demo = codes "demo"
 
+abbrev run : Text
+run = codes "run"
+
+abbrev resume : Text
+resume = codes "resume"
+
+abbrev status : Text
+status = codes "status"
+
 abbrev IsFaultless : List Text → Type 0
 IsFaultless words = fault_of lrs_app words ≡ []
 
@@ -61,8 +70,10 @@ module _ (name : Text) (met : subcommand_met (names_of program) idle name ≡ So
 
 -- a first word that is the name of none names no command
 unnamed : (word : Text) → bytes_eq convert word ≡ false → bytes_eq job word ≡ false → bytes_eq demo word ≡ false →
+    bytes_eq run word ≡ false → bytes_eq resume word ≡ false → bytes_eq status word ≡ false →
     subcommand_met (names_of program) idle word ≡ None
-unnamed word no_convert no_job no_demo = rw (no_convert, no_job, no_demo) refl
+unnamed word no_convert no_job no_demo no_run no_resume no_status =
+    rw (no_convert, no_job, no_demo, no_run, no_resume, no_status) refl
 
 -- no words, or `--` alone, name none
 no_command : (words : List Text) → (words ≡ []) ⊎ (words ≡ dashes ∷ []) → IsFaultless words → ⊥
@@ -72,18 +83,31 @@ no_command words (inr alone) faultless = cons≢nil (subst IsFaultless alone fau
 
 -- so words without a fault begin with the name of the command that they ask for
 faultless_names : (word : Text) (rest : List Text) → IsFaultless (word ∷ rest) →
-    (converts : Bool) → bytes_eq convert word ≡ converts → (jobs : Bool) → bytes_eq job word ≡ jobs →
-    (demos : Bool) → bytes_eq demo word ≡ demos → FirstNames word rest
-faultless_names word rest faultless true c jobs j demos d =
+    (cs : Bool) → bytes_eq convert word ≡ cs → (js : Bool) → bytes_eq job word ≡ js →
+    (ds : Bool) → bytes_eq demo word ≡ ds → (rs : Bool) → bytes_eq run word ≡ rs →
+    (ms : Bool) → bytes_eq resume word ≡ ms → (ss : Bool) → bytes_eq status word ≡ ss → FirstNames word rest
+faultless_names word rest faultless true c js j ds d rs r ms m ss s =
     first_names convert refl word rest refl ((bytes_eq-Decides convert word).0 c)
-faultless_names word rest faultless false c true j demos d =
+faultless_names word rest faultless false c true j ds d rs r ms m ss s =
     first_names job refl word rest refl ((bytes_eq-Decides job word).0 j)
-faultless_names word rest faultless false c false j true d =
+faultless_names word rest faultless false c false j true d rs r ms m ss s =
     first_names demo refl word rest refl ((bytes_eq-Decides demo word).0 d)
-faultless_names word rest faultless false c false j false d =
-    let both = words_are_dashes program.top (names_of program) word rest (unnamed word c j d)
+faultless_names word rest faultless false c false j false d true r ms m ss s =
+    first_names run refl word rest refl ((bytes_eq-Decides run word).0 r)
+faultless_names word rest faultless false c false j false d false r true m ss s =
+    first_names resume refl word rest refl ((bytes_eq-Decides resume word).0 m)
+faultless_names word rest faultless false c false j false d false r false m true s =
+    first_names status refl word rest refl ((bytes_eq-Decides status word).0 s)
+faultless_names word rest faultless false c false j false d false r false m false s =
+    let both = words_are_dashes program.top (names_of program) word rest (unnamed word c j d r m s)
     (faultless_passes (word ∷ rest) faultless).walked in
     absurd (no_command (word ∷ rest) (inr (ap₂ (λ (x : Text) (xs : List Text). x ∷ xs) both.0 both.1)) faultless)
+
+-- it is the name of a command
+first_is_name : (word : Text) (rest : List Text) → IsFaultless (word ∷ rest) → FirstNames word rest
+first_is_name word rest faultless =
+    faultless_names word rest faultless (bytes_eq convert word) refl (bytes_eq job word) refl (bytes_eq demo word) refl
+    (bytes_eq run word) refl (bytes_eq resume word) refl (bytes_eq status word) refl
 
 -- ---- a command without words of its own
 
@@ -122,8 +146,7 @@ alone_words : (line : Line) → IsWordless (name_of line) → (words : List Text
     IsNameAlone (name_of line) words
 alone_words line is [] asked = absurd (no_command [] (inl refl) asked.faultless)
 alone_words line is (word ∷ rest) asked =
-    let names : FirstNames word rest = faultless_names word rest asked.faultless (bytes_eq convert word) refl
-    (bytes_eq job word) refl (bytes_eq demo word) refl in
+    let names = first_is_name word rest asked.faultless in
     let is_name : name_of line ≡ word = same_some (name_of line) word (sym (ap name_in asked.command) ∙ names) in
     subst (λ w. IsFaultless (w ∷ rest) → IsNameAlone (name_of line) (w ∷ rest)) is_name
     (behind_name (name_of line) is rest) asked.faultless

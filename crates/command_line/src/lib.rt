@@ -10,4 +10,4 @@ mod lines;
 mod tests;
 
 pub use laws::{asked_is_in_range, asks_for_one_line, convert_is_exact, job_is_exact};
-pub use lines::{Line, LineStop, read_line};
+pub use lines::{Line, LineStop, WorkOptions, read_line};

@@ -1,5 +1,5 @@
 //! Lines that are taken, and lines that are not.
-use crate::{Line, LineStop, read_line};
+use crate::{Line, LineStop, WorkOptions, read_line};
 use example_polys::ExampleKind;
 use std::test::Fail;
 
@@ -7,7 +7,7 @@ use std::test::Fail;
 #[derive(Clone, Copy)]
 struct Row {
     words: &'static [&'static str],
-    read: Result<Line, LineStop>,
+    read: Result<Line<'static>, LineStop>,
 }
 
 /// Words that are no line.
@@ -15,6 +15,28 @@ const fn refused(words: &'static [&'static str]) -> Row {
     Row {
         words,
         read: Err(LineStop::Usage),
+    }
+}
+
+/// The options, in the order of their fields.
+const fn options(workers: u64, bases: u64, depth: u64, lmin: u64, lost: u64) -> WorkOptions {
+    WorkOptions {
+        workers,
+        bases,
+        depth,
+        lmin,
+        lost,
+    }
+}
+
+/// A run whose options are these.
+const fn run(words: &'static [&'static str], options: WorkOptions) -> Row {
+    Row {
+        words,
+        read: Ok(Line::Run {
+            ledger: "L",
+            options,
+        }),
     }
 }
 
@@ -51,6 +73,84 @@ fn reads_lines(rt: HostRuntime) -> Result<(), Fail> {
                 n: 1,
             }),
         },
+        run(&["run", "L"], options(4, 10_000, 2, 3, 100)),
+        run(
+            &[
+                "run",
+                "L",
+                "--workers",
+                "2",
+                "--bases",
+                "1",
+                "--depth",
+                "5",
+                "--lmin",
+                "1000",
+                "--lost",
+                "0",
+            ],
+            options(2, 1, 5, 1000, 0),
+        ),
+        run(
+            &["run", "--lost=1000000", "--lmin=1", "--", "L"],
+            options(4, 10_000, 2, 1, 1_000_000),
+        ),
+        run(
+            &[
+                "run",
+                "--workers=256",
+                "--bases=1000000000000",
+                "--depth=1000000",
+                "L",
+            ],
+            options(256, 1_000_000_000_000, 1_000_000, 3, 100),
+        ),
+        run(
+            &["run", "L", "--workers", "+01", "--depth", "1"],
+            options(1, 10_000, 1, 3, 100),
+        ),
+        Row {
+            words: &["resume", "--workers=2", "L"],
+            read: Ok(Line::Resume {
+                ledger: "L",
+                options: options(2, 10_000, 2, 3, 100),
+            }),
+        },
+        Row {
+            words: &["status", "L"],
+            read: Ok(Line::Status { ledger: "L" }),
+        },
+        Row {
+            words: &["status", "--", "--help"],
+            read: Ok(Line::Status { ledger: "--help" }),
+        },
+        Row {
+            words: &["status", ""],
+            read: Ok(Line::Status { ledger: "" }),
+        },
+        refused(&["run"]),
+        refused(&["resume"]),
+        refused(&["status"]),
+        refused(&["run", "L", "M"]),
+        refused(&["run", "L", "--workers", "0"]),
+        refused(&["run", "L", "--workers", "257"]),
+        refused(&["run", "L", "--bases", "0"]),
+        refused(&["run", "L", "--bases", "1000000000001"]),
+        refused(&["run", "L", "--depth", "0"]),
+        refused(&["run", "L", "--depth", "1000001"]),
+        refused(&["run", "L", "--lmin", "0"]),
+        refused(&["run", "L", "--lmin", "1001"]),
+        refused(&["run", "L", "--lost", "1000001"]),
+        refused(&["run", "L", "--workers", "x"]),
+        refused(&["run", "L", "--workers"]),
+        refused(&["run", "L", "--workers="]),
+        refused(&["run", "L", "--workers", "2", "--workers", "2"]),
+        refused(&["run", "L", "--work", "2"]),
+        refused(&["run", "L", "--help"]),
+        refused(&["run", "L", "--fly"]),
+        refused(&["run", "L", "-w"]),
+        refused(&["status", "L", "--workers", "2"]),
+        refused(&["--workers", "2", "run", "L"]),
         refused(&["demo"]),
         refused(&["demo", "cube"]),
         refused(&["demo", "cube", "0"]),
@@ -71,7 +171,6 @@ fn reads_lines(rt: HostRuntime) -> Result<(), Fail> {
         refused(&["Job"]),
         refused(&["jobs"]),
         refused(&["fly"]),
-        refused(&["run"]),
         refused(&["conv"]),
         refused(&["CONVERT"]),
         refused(&[""]),
