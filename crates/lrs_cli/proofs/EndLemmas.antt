@@ -7,8 +7,8 @@ use Rattle.poly_reader.specs.declared.bad.BadFile.{BadFile as Fault}
 use Rattle.poly_reader.specs.Reading.{reading}
 use Rattle.convert_core.specs.Listed.{IsDueInSearch}
 use Rattle.lrs_cli.specs.declared.status.Status.{Status}
-use Rattle.lrs_cli.specs.declared.status.Status.TheVariants.{Done, Usage, BadFile, BadJob, Infeasible, Overflow, ReadFault, WriteFault, OutOfMemory}
-use Rattle.lrs_cli.specs.Answers.{WhereTold, Knows, HasNoObstacle, IsBadFile, HasOverflow, ComesOfPolyhedron, Ends}
+use Rattle.lrs_cli.specs.declared.status.Status.TheVariants.{Done, Usage, BadFile, BadJob, Infeasible, Overflow, ReadFault, WriteFault, DiskFault, Lost, NoRun, HasRun, BadLedger, LedgerLimit, OutOfMemory}
+use Rattle.lrs_cli.specs.Answers.{WhereTold, Knows, HasNoObstacle, IsBadFile, HasOverflow, ComesOfFile, ComesOfPolyhedron, Ends}
 
 same_ok : (p q : Polyhedron) → ◌≡◌ {A = Result Polyhedron Fault} (Ok p) (Ok q) → p ≡ q
 same_ok p q e = cc
@@ -42,3 +42,27 @@ module _ (source : Option (List ℕ)) (known : Knows source HasNoObstacle) where
   ends (BadFile x) l w d = absurd l
   ends (BadJob place) l w d = absurd l
   ends ReadFault l w d = absurd l
+  ends DiskFault l w d = absurd l
+  ends (Lost lost strays) l w d = absurd l
+  ends NoRun l w d = absurd l
+  ends HasRun l w d = absurd l
+  ends (BadLedger place) l w d = absurd l
+  ends (LedgerLimit need limit) l w d = absurd l
+
+-- the answers to a polyhedron are answers to its file
+pub of_file : (s : Status) → ComesOfPolyhedron s → ComesOfFile s
+of_file (Done rows lines) l = tt
+of_file Infeasible l = tt
+of_file (Overflow o) l = tt
+of_file WriteFault l = tt
+of_file OutOfMemory l = tt
+of_file Usage l = absurd l
+of_file (BadFile f) l = absurd l
+of_file (BadJob place) l = absurd l
+of_file ReadFault l = absurd l
+of_file DiskFault l = absurd l
+of_file (Lost lost strays) l = absurd l
+of_file NoRun l = absurd l
+of_file HasRun l = absurd l
+of_file (BadLedger place) l = absurd l
+of_file (LedgerLimit need limit) l = absurd l

@@ -1,6 +1,6 @@
 -- What is told of a text: the polyhedron, or the first fault, of what was taken from a source is that of all that it
 -- had.
-use Rattle.std.proofs.Common.{◌≡◌, ◌++◌, ◌+◌, ◌⊎◌, inl, inr, ℕ, List, [], length, arith, refl, sym, ◌∙◌, Option, Some, None, Err, length-append, append-nil}
+use Rattle.std.proofs.Common.{◌≡◌, ◌++◌, ◌+◌, ◌⊎◌, inl, inr, ℕ, List, [], length, arith, sym, ◌∙◌, Option, Some, None, Err, length-append, append-nil}
 use Rattle.poly_reader.specs.declared.bad.BadFile.{BadFile}
 use Rattle.poly_reader.specs.Limits.{most_file_bytes}
 use Rattle.poly_reader.specs.Reading.{reading, IsFileOf}

@@ -13,7 +13,7 @@ use Rattle.job_text.specs.declared.reply.Tail.TheVariants.{End, Overflow as Over
 use Rattle.job_text.specs.Limits.{most_job_bytes}
 use Rattle.worker_job.specs.Runs.{Replies, RepliesInPart, TakesText}
 use Rattle.lrs_cli.specs.declared.status.Status.{Status}
-use Rattle.lrs_cli.specs.declared.status.Status.TheVariants.{Done, Usage, BadFile, BadJob, Infeasible, Overflow, ReadFault, WriteFault, OutOfMemory}
+use Rattle.lrs_cli.specs.declared.status.Status.TheVariants.{Done, Usage, BadFile, BadJob, Infeasible, Overflow, ReadFault, WriteFault, DiskFault, Lost, NoRun, HasRun, BadLedger, LedgerLimit, OutOfMemory}
 use Rattle.lrs_cli.specs.Job.{OfFront, IsReplied, ComesOfJob, AnswersJob}
 use Rattle.lrs_cli.specs.Streams.{streams}
 use Rattle.lrs_cli.proofs.ThroughLemmas.{not_ok}
@@ -104,6 +104,12 @@ module _ (old told new : Option (List ℕ)) (parts : (text : List ℕ) → Appen
     comes_ok keeps later f Usage h = h
     comes_ok keeps later f (BadFile fault) h = h
     comes_ok keeps later f Infeasible h = h
+    comes_ok keeps later f DiskFault h = h
+    comes_ok keeps later f (Lost lost strays) h = h
+    comes_ok keeps later f NoRun h = h
+    comes_ok keeps later f HasRun h = h
+    comes_ok keeps later f (BadLedger place) h = h
+    comes_ok keeps later f (LedgerLimit need limit) h = h
 
     -- it has the beginning of a reply, whatever the answer was, where something was written
     begun : (U → ⊥) → (status : Status) → Comes status → OfFront left (RepliesInPart old new)
@@ -120,6 +126,12 @@ module _ (old told new : Option (List ℕ)) (parts : (text : List ℕ) → Appen
     begun never Usage h = absurd h
     begun never (BadFile fault) h = absurd h
     begun never Infeasible h = absurd h
+    begun never DiskFault h = absurd h
+    begun never (Lost lost strays) h = absurd h
+    begun never NoRun h = absurd h
+    begun never HasRun h = absurd h
+    begun never (BadLedger place) h = absurd h
+    begun never (LedgerLimit need limit) h = absurd h
 
     -- whatever the end
     through : (status answer : Status) {E : Type 0} (end : Result (Unit {0}) E) →

@@ -5,3 +5,13 @@ pub mod ThroughLemmas
 pub mod DemoLemmas
 pub mod LineLemmas
 pub mod JobLemmas
+pub mod TrustLemmas
+pub mod ListingLemmas
+pub mod SearchLemmas
+pub mod FileLemmas
+pub mod RunThrough
+pub mod RunHeadline
+pub mod RecordedLemmas
+pub mod ResumeThrough
+pub mod ResumeHeadline
+pub mod ProgressLemmas

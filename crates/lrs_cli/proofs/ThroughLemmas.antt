@@ -8,7 +8,7 @@ use Rattle.poly_io.specs.Written.{AppendsPart}
 use Rattle.poly_model.specs.Systems.{Polyhedron, cone_of}
 use Rattle.poly_model.specs.Extreme.{IsFeasible}
 use Rattle.lrs_cli.specs.declared.status.Status.{Status}
-use Rattle.lrs_cli.specs.declared.status.Status.TheVariants.{Done, Usage, BadFile, BadJob, Infeasible, Overflow, ReadFault, WriteFault, OutOfMemory}
+use Rattle.lrs_cli.specs.declared.status.Status.TheVariants.{Done, Usage, BadFile, BadJob, Infeasible, Overflow, ReadFault, WriteFault, DiskFault, Lost, NoRun, HasRun, BadLedger, LedgerLimit, OutOfMemory}
 use Rattle.lrs_cli.specs.Answers.{WhereTold, Describes, WritesWhole, WritesPart, IsPartlyListed, IsFeasibleFile, WritesNothing}
 use Rattle.lrs_cli.specs.Streams.{Streams, streams}
 use Rattle.lrs_cli.specs.Convert.{AnswersConvert}
@@ -51,7 +51,7 @@ through_ok left after_left reads after_reads old told new faults mid_faults new_
       }) (h.stopped s);
       printed = λ s. elim (h.printed s) [ inl u ↦ inl (f u) | inr d ↦ inr d ];
       bad_file = h.bad_file;
-      no_job = h.no_job;
+      comes = h.comes;
       read_fault = h.read_fault;
       reads = h.reads;
       write_fault = λ e. rw same (h.write_fault e);
@@ -79,6 +79,12 @@ partly before mid U (BadFile f) h never = absurd (never (h.unwritten tt))
 partly before mid U (BadJob place) h never = absurd (never (h.unwritten tt))
 partly before mid U Usage h never = absurd (never (h.unwritten tt))
 partly before mid U ReadFault h never = absurd (never (h.unwritten tt))
+partly before mid U DiskFault h never = absurd (never (h.unwritten tt))
+partly before mid U (Lost lost strays) h never = absurd (never (h.unwritten tt))
+partly before mid U NoRun h never = absurd (never (h.unwritten tt))
+partly before mid U HasRun h never = absurd (never (h.unwritten tt))
+partly before mid U (BadLedger place) h never = absurd (never (h.unwritten tt))
+partly before mid U (LedgerLimit need limit) h never = absurd (never (h.unwritten tt))
 
 -- then the file has a point
 feasible : (before mid : Streams) (U : Type 0) (status : Status) → AnswersConvert before mid U status → (U → ⊥) →
@@ -94,6 +100,12 @@ feasible before mid U (BadFile f) h never = absurd (never (h.unwritten tt))
 feasible before mid U (BadJob place) h never = absurd (never (h.unwritten tt))
 feasible before mid U Usage h never = absurd (never (h.unwritten tt))
 feasible before mid U ReadFault h never = absurd (never (h.unwritten tt))
+feasible before mid U DiskFault h never = absurd (never (h.unwritten tt))
+feasible before mid U (Lost lost strays) h never = absurd (never (h.unwritten tt))
+feasible before mid U NoRun h never = absurd (never (h.unwritten tt))
+feasible before mid U HasRun h never = absurd (never (h.unwritten tt))
+feasible before mid U (BadLedger place) h never = absurd (never (h.unwritten tt))
+feasible before mid U (LedgerLimit need limit) h never = absurd (never (h.unwritten tt))
 
 -- the end failed
 through_err : (before mid after : Streams) (U W : Type 0) (status : Status) → AnswersConvert before mid U status →
@@ -109,7 +121,7 @@ through_err before mid after U W status h never same part rose = record {
       (partly before mid U status h never);
   printed = λ s. inr (feasible before mid U status h never);
   bad_file = λ f e. absurd (cc);
-  no_job = λ place e. absurd (cc);
+  comes = tt;
   read_fault = λ e. absurd (cc);
   reads = λ n. same ∙ h.reads (λ e. never (h.unwritten (subst WritesNothing (sym e) tt)));
   write_fault = λ e. rose;
@@ -141,6 +153,18 @@ rose_since before mid U Infeasible c h r = rose_after before.write_faults mid.wr
 rose_since before mid U OutOfMemory c h r = rose_after before.write_faults mid.write_faults c (h.writes (λ e. cc)) r
 rose_since before mid U Usage c h r = rose_after before.write_faults mid.write_faults c (h.writes (λ e. cc)) r
 rose_since before mid U ReadFault c h r = rose_after before.write_faults mid.write_faults c (h.writes (λ e. cc)) r
+rose_since before mid U DiskFault c h r =
+    rose_after before.write_faults mid.write_faults c (h.writes (λ e. cc)) r
+rose_since before mid U (Lost lost strays) c h r =
+    rose_after before.write_faults mid.write_faults c (h.writes (λ e. cc)) r
+rose_since before mid U NoRun c h r =
+    rose_after before.write_faults mid.write_faults c (h.writes (λ e. cc)) r
+rose_since before mid U HasRun c h r =
+    rose_after before.write_faults mid.write_faults c (h.writes (λ e. cc)) r
+rose_since before mid U (BadLedger place) c h r =
+    rose_after before.write_faults mid.write_faults c (h.writes (λ e. cc)) r
+rose_since before mid U (LedgerLimit need limit) c h r =
+    rose_after before.write_faults mid.write_faults c (h.writes (λ e. cc)) r
 
 pub not_ok : {E : Type 0} (e : E) → IsOk {T = Unit {0}} (Err e) → ⊥
 not_ok e h = cc

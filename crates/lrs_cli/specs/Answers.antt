@@ -11,7 +11,7 @@ use Rattle.poly_reader.specs.Reading.{IsFileOf, IsFirstFault}
 use Rattle.row_printer.specs.Listings.{IsCountedListing}
 use Rattle.convert_core.specs.Listed.{IsDueInSearch}
 use Rattle.lrs_cli.specs.declared.status.Status.{Status}
-use Rattle.lrs_cli.specs.declared.status.Status.TheVariants.{Done, Usage, BadFile, BadJob, Infeasible, Overflow, ReadFault, WriteFault, OutOfMemory}
+use Rattle.lrs_cli.specs.declared.status.Status.TheVariants.{Done, BadFile, Infeasible, Overflow, ReadFault, WriteFault, OutOfMemory}
 
 -- a fact about bytes, where they are told
 abbrev pub WhereTold : Option (List ℕ) → (List ℕ → Type 0) → Type 0
@@ -71,12 +71,7 @@ abbrev pub Ends : Status → Type 0
 Ends (Done rows lines) = Unit {0}
 Ends Infeasible = Unit {0}
 Ends OutOfMemory = Unit {0}
-Ends (Overflow o) = ⊥
-Ends WriteFault = ⊥
-Ends (BadFile f) = ⊥
-Ends (BadJob place) = ⊥
-Ends Usage = ⊥
-Ends ReadFault = ⊥
+Ends _ = ⊥
 
 -- the text describes a polyhedron, and of no pivot that its search cannot do without a product passes
 abbrev pub HasNoObstacle : List ℕ → Type 0
@@ -89,31 +84,28 @@ ComesOfPolyhedron Infeasible = Unit {0}
 ComesOfPolyhedron (Overflow o) = Unit {0}
 ComesOfPolyhedron WriteFault = Unit {0}
 ComesOfPolyhedron OutOfMemory = Unit {0}
-ComesOfPolyhedron (BadFile f) = ⊥
-ComesOfPolyhedron (BadJob place) = ⊥
-ComesOfPolyhedron Usage = ⊥
-ComesOfPolyhedron ReadFault = ⊥
+ComesOfPolyhedron _ = ⊥
+
+-- the answers to a file that is read from the input
+abbrev pub ComesOfFile : Status → Type 0
+ComesOfFile (Done rows lines) = Unit {0}
+ComesOfFile Infeasible = Unit {0}
+ComesOfFile (Overflow o) = Unit {0}
+ComesOfFile WriteFault = Unit {0}
+ComesOfFile OutOfMemory = Unit {0}
+ComesOfFile ReadFault = Unit {0}
+ComesOfFile (BadFile f) = Unit {0}
+ComesOfFile _ = ⊥
 
 -- the answers of a listing that was given up
 abbrev pub StopsListing : Status → Type 0
 StopsListing (Overflow o) = Unit {0}
 StopsListing WriteFault = Unit {0}
-StopsListing (Done rows lines) = ⊥
-StopsListing Infeasible = ⊥
-StopsListing OutOfMemory = ⊥
-StopsListing (BadFile f) = ⊥
-StopsListing (BadJob place) = ⊥
-StopsListing Usage = ⊥
-StopsListing ReadFault = ⊥
+StopsListing _ = ⊥
 
 -- the answers before which nothing is written
 abbrev pub WritesNothing : Status → Type 0
 WritesNothing (Done rows lines) = ⊥
 WritesNothing (Overflow o) = ⊥
 WritesNothing WriteFault = ⊥
-WritesNothing Infeasible = Unit {0}
-WritesNothing OutOfMemory = Unit {0}
-WritesNothing (BadFile f) = Unit {0}
-WritesNothing (BadJob place) = Unit {0}
-WritesNothing Usage = Unit {0}
-WritesNothing ReadFault = Unit {0}
+WritesNothing _ = Unit {0}

@@ -5,8 +5,8 @@ use Rattle.poly_io.specs.Causes.{Rose}
 use Rattle.poly_model.specs.declared.overflow.Overflow.{Overflow as Passed}
 use Rattle.poly_reader.specs.declared.bad.BadFile.{BadFile as Fault}
 use Rattle.lrs_cli.specs.declared.status.Status.{Status}
-use Rattle.lrs_cli.specs.declared.status.Status.TheVariants.{Done, Infeasible, Overflow, BadFile, BadJob, ReadFault, WriteFault}
-use Rattle.lrs_cli.specs.Answers.{WhereTold, Knows, IsListed, IsPartlyListed, IsFeasibleFile, IsInfeasibleFile, HasOverflow, IsBadFile, HasNoObstacle, StopsListing, WritesNothing, Ends}
+use Rattle.lrs_cli.specs.declared.status.Status.TheVariants.{Done, Infeasible, Overflow, BadFile, ReadFault, WriteFault}
+use Rattle.lrs_cli.specs.Answers.{ComesOfFile, WhereTold, Knows, IsListed, IsPartlyListed, IsFeasibleFile, IsInfeasibleFile, HasOverflow, IsBadFile, HasNoObstacle, StopsListing, WritesNothing, Ends}
 use Rattle.lrs_cli.specs.Streams.{Streams}
 
 -- The answer of `convert`. `Unwritten` says that the output is as it was.
@@ -25,8 +25,8 @@ pub record AnswersConvert (before after : Streams) (Unwritten : Type 0) (answer 
   pub printed : StopsListing answer → Unwritten ⊎ WhereTold before.left IsFeasibleFile
   -- bad file: the text describes no polyhedron, and that is its first fault
   pub bad_file : (f : Fault) → answer ≡ BadFile f → WhereTold before.left (IsBadFile f)
-  -- never a bad job
-  pub no_job : (place : ℕ) → answer ≡ BadJob place → ⊥
+  -- none of the answers that speak of words, of a job or of a ledger
+  pub comes : ComesOfFile answer
   -- read fault, write fault: a read, a write failed; with every other answer none has
   pub read_fault : answer ≡ ReadFault → Rose before.read_faults after.read_faults
   pub reads : ¬ (answer ≡ ReadFault) → after.read_faults ≡ before.read_faults

@@ -7,7 +7,7 @@ use Rattle.job_text.specs.declared.reply.Tail.TheVariants.{End, Overflow as Over
 use Rattle.job_text.specs.Limits.{most_job_bytes}
 use Rattle.worker_job.specs.Runs.{IsBadJob, Replies, RepliesInPart}
 use Rattle.lrs_cli.specs.declared.status.Status.{Status}
-use Rattle.lrs_cli.specs.declared.status.Status.TheVariants.{Done, Usage, BadFile, BadJob, Infeasible, Overflow, ReadFault, WriteFault, OutOfMemory}
+use Rattle.lrs_cli.specs.declared.status.Status.TheVariants.{Done, BadJob, Overflow, ReadFault, WriteFault, OutOfMemory}
 use Rattle.lrs_cli.specs.Answers.{WhereTold}
 use Rattle.lrs_cli.specs.Streams.{Streams}
 
@@ -38,9 +38,7 @@ ComesOfJob before after Unwritten ReadFault = Unwritten × Rose before.read_faul
 ComesOfJob before after Unwritten WriteFault =
     Rose before.write_faults after.write_faults × OfFront before.left (RepliesInPart before.written after.written)
 -- these are no answers of `job`
-ComesOfJob before after Unwritten Usage = ⊥
-ComesOfJob before after Unwritten (BadFile fault) = ⊥
-ComesOfJob before after Unwritten Infeasible = ⊥
+ComesOfJob before after Unwritten _ = ⊥
 
 -- The answer of `job`.
 pub record AnswersJob (before after : Streams) (Unwritten : Type 0) (answer : Status) : Type 0 where

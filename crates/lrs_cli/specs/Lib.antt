@@ -4,5 +4,9 @@ pub mod Streams
 pub mod Convert
 pub mod Demo
 pub mod Job
+pub mod Ledgers
+pub mod Run
+pub mod Resume
+pub mod Progress
 pub mod Lrs
 pub mod Endings

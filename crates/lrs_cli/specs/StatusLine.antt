@@ -4,7 +4,7 @@ use Rattle.poly_reader.specs.declared.bad.BadKind.{BadKind}
 use Rattle.poly_reader.specs.declared.bad.BadKind.TheVariants as kinds
 use Rattle.row_printer.specs.OverflowText.{overflow_text}
 use Rattle.lrs_cli.specs.declared.status.Status.{Status}
-use Rattle.lrs_cli.specs.declared.status.Status.TheVariants.{Done, Usage, BadFile, BadJob, Infeasible, Overflow as Overflowed, ReadFault, WriteFault, OutOfMemory}
+use Rattle.lrs_cli.specs.declared.status.Status.TheVariants.{Done, Usage, BadFile, BadJob, Infeasible, Overflow as Overflowed, ReadFault, WriteFault, DiskFault, Lost, NoRun, HasRun, BadLedger, LedgerLimit, OutOfMemory}
 
 -- the name of what is wrong with a file
 abbrev pub kind_text : BadKind → List ℕ
@@ -39,6 +39,14 @@ status_text Infeasible = codes "lrs: infeasible\n"
 status_text (Overflowed o) = codes "lrs: overflow " ++ (overflow_text o ++ codes "\n")
 status_text ReadFault = codes "lrs: read fault\n"
 status_text WriteFault = codes "lrs: write fault\n"
+status_text DiskFault = codes "lrs: disk fault\n"
+status_text (Lost lost strays) =
+    codes "lrs: lost " ++ (decimal lost ++ (codes " strays " ++ (decimal strays ++ codes "\n")))
+status_text NoRun = codes "lrs: no run in ledger\n"
+status_text HasRun = codes "lrs: ledger has a run\n"
+status_text (BadLedger place) = codes "lrs: bad ledger: record " ++ (decimal place ++ codes "\n")
+status_text (LedgerLimit need limit) =
+    codes "lrs: ledger limit: need " ++ (decimal need ++ (codes " limit " ++ (decimal limit ++ codes "\n")))
 status_text OutOfMemory = codes "lrs: out of memory\n"
 
 abbrev pub status_number : Status → ℕ
@@ -49,5 +57,11 @@ status_number Infeasible = 4
 status_number (Overflowed o) = 5
 status_number ReadFault = 6
 status_number WriteFault = 7
+status_number DiskFault = 8
+status_number (Lost lost strays) = 9
+status_number NoRun = 10
+status_number HasRun = 11
+status_number (BadLedger place) = 12
 status_number (BadJob place) = 13
+status_number (LedgerLimit need limit) = 14
 status_number OutOfMemory = 15

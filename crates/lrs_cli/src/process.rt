@@ -1,71 +1,81 @@
-//! What a process of the program does, over any arguments, source and sinks.
+//! What a process of the program does, over any arguments, devices and sinks.
 ghost use Rattle.std.specs.Prelude.{◌≡◌, map, drop, string_bytes, IfOk};
 ghost use Rattle.std.specs.Result.{result_map_both};
+ghost use Rattle.lrs_cli.specs.Ledgers.{resources};
 ghost use Rattle.lrs_cli.specs.Lrs.{Answers};
 ghost use Rattle.lrs_cli.specs.Streams.{streams};
 ghost use Rattle.lrs_cli.specs.Endings.{AnswersArguments, Ending, IsSaid};
 
+use crate::devices::Devices;
 use crate::status::{Status, status_line};
 use crate::top::lrs;
 use command_line::LineStop;
+use disk_core::Disk;
 use poly_io::{Sink, Source};
 use poly_model::OutOfMemory;
 use std::alloc::Global;
+use workers_io::Workers;
 
 /// Answers the arguments of a process, its program's name first, or the reason why they could not be read. Says on
 /// `errors` how the call ended, and gives the exit status, which says the same: so it matters little where `errors`
 /// takes nothing. Gives the output back.
-pub fn respond<I: Source, O: Sink, E: Sink>(
+pub fn respond<I: Source, O: Sink, E: Sink, D: Disk, W: Workers>(
     alloc: Global,
     arguments: Result<Vec<String>, LineStop>,
-    input: &mut I,
+    devices: &mut Devices<I, D, W>,
     out: O,
     errors: &mut E,
 ) -> (u8, O)
-    ensures { Ending (result_map_both (λ v. map string_bytes (drop 1 v.items)) (λ e. e) arguments)
-        (streams (I.left input.old) (I.faults input.old) (O.written out) (O.faults out))
-        (streams (I.left input.new) (I.faults input.new) (O.written result.1) (O.faults result.1))
-        (input.new ≡ input.old) (result.1 ≡ out)
-        (IsSaid (E.written errors.old) (E.written errors.new) (E.faults errors.old) (E.faults errors.new)) result.0 }
+    ensures { Ending D.Disk W.Workers
+        (resources devices.old.disk devices.old.workers) (resources devices.new.disk devices.new.workers)
+        (streams (I.left devices.old.input) (I.faults devices.old.input) (O.written out) (O.faults out))
+        (streams (I.left devices.new.input) (I.faults devices.new.input) (O.written result.1) (O.faults result.1))
+        (devices.new.input ≡ devices.old.input) (result.1 ≡ out)
+        (IsSaid (E.written errors.old) (E.written errors.new) (E.faults errors.old) (E.faults errors.new))
+        (result_map_both (λ v. map string_bytes (drop 1 v.items)) (λ e. e) arguments) result.0 }
 {
-    let (status, out) = answer(alloc, arguments, input, out);
+    let (status, out) = answer(alloc, arguments, devices, out);
     let _ = status_line(&status, errors);
     (status.number(), out)
 }
 
 // The answer to the arguments.
-fn answer<I: Source, O: Sink>(
+fn answer<I: Source, O: Sink, D: Disk, W: Workers>(
     alloc: Global,
     arguments: Result<Vec<String>, LineStop>,
-    input: &mut I,
+    devices: &mut Devices<I, D, W>,
     out: O,
 ) -> (Status, O)
-    ensures { AnswersArguments (result_map_both (λ v. map string_bytes (drop 1 v.items)) (λ e. e) arguments)
-        (streams (I.left input.old) (I.faults input.old) (O.written out) (O.faults out))
-        (streams (I.left input.new) (I.faults input.new) (O.written result.1) (O.faults result.1))
-        (input.new ≡ input.old) (result.1 ≡ out) result.0 }
+    ensures { AnswersArguments D.Disk W.Workers
+        (resources devices.old.disk devices.old.workers) (resources devices.new.disk devices.new.workers)
+        (streams (I.left devices.old.input) (I.faults devices.old.input) (O.written out) (O.faults out))
+        (streams (I.left devices.new.input) (I.faults devices.new.input) (O.written result.1) (O.faults result.1))
+        (devices.new.input ≡ devices.old.input) (result.1 ≡ out)
+        (result_map_both (λ v. map string_bytes (drop 1 v.items)) (λ e. e) arguments) result.0 }
 {
     match arguments {
-        Ok(given) => answer_given(alloc, &given, input, out),
+        Ok(given) => answer_given(alloc, &given, devices, out),
         Err(LineStop::Usage) => (Status::Usage, out),
         Err(LineStop::Memory) => (Status::OutOfMemory, out),
     }
 }
 
 // The answer to the arguments that were given.
-fn answer_given<I: Source, O: Sink>(
+fn answer_given<I: Source, O: Sink, D: Disk, W: Workers>(
     alloc: Global,
     given: &[String],
-    input: &mut I,
+    devices: &mut Devices<I, D, W>,
     out: O,
 ) -> (Status, O)
-    ensures { Answers (map string_bytes (drop 1 given.now))
-        (streams (I.left input.old) (I.faults input.old) (O.written out) (O.faults out))
-        (streams (I.left input.new) (I.faults input.new) (O.written result.1) (O.faults result.1))
-        (input.new ≡ input.old) (result.1 ≡ out) result.0 }
+    ensures { Answers D.Disk W.Workers
+        (resources devices.old.disk devices.old.workers) (resources devices.new.disk devices.new.workers)
+        (streams (I.left devices.old.input) (I.faults devices.old.input) (O.written out) (O.faults out))
+        (streams (I.left devices.new.input) (I.faults devices.new.input) (O.written result.1) (O.faults result.1))
+        (devices.new.input ≡ devices.old.input) (result.1 ≡ out)
+        (map string_bytes (drop 1 given.now)) result.0 }
 {
     match words_of(alloc, given) {
-        Ok(words) => lrs(alloc, &words, input, out),
+        Ok(words) => lrs(alloc, &words, devices, out),
         Err(_) => (Status::OutOfMemory, out),
     }
 }

@@ -12,7 +12,7 @@ use row_printer::write_overflow;
 #[derive(Clone, Copy, PartialEq, Eq, Debug)]
 pub enum Status {
     /// What was asked for was written whole: so many shown rows, and so many lines or equations before them. Of a reply the
-    /// rows are its own, and the lines none.
+    /// rows are its own, of the status of a ledger those that are recorded; then the lines are none.
     Done { rows: u64, lines: u32 },
     /// The words are no command of this program.
     Usage,
@@ -20,7 +20,7 @@ pub enum Status {
     BadFile(BadFile),
     /// The input is no job that can be run: which of its lines is the first that is wrong, 7 for the file behind them.
     BadJob { place: u64 },
-    /// No point satisfies the rows of the input.
+    /// No point satisfies the rows of the input, or of a ledger.
     Infeasible,
     /// A product that the listing needs does not fit 127 bits and a sign.
     Overflow(Overflow),
@@ -28,6 +28,18 @@ pub enum Status {
     ReadFault,
     /// The output could not be written.
     WriteFault,
+    /// The ledger could not be read or written, or another process holds it.
+    DiskFault,
+    /// More replies of workers were lost or led nowhere than are borne: so many of each.
+    Lost { lost: u64, strays: u64 },
+    /// The ledger has no run: its file is empty, or its first gate is closed.
+    NoRun,
+    /// The ledger has a run already.
+    HasRun,
+    /// The records of the ledger are none of a run: the first of them that is wrong, from 1.
+    BadLedger { place: u64 },
+    /// With its next record the ledger would have `need` bytes (2^64 - 1 where that is less), and may have `limit`.
+    LedgerLimit { need: u64, limit: u64 },
     /// This process has no memory left.
     OutOfMemory,
 }
@@ -45,7 +57,13 @@ impl Status {
             Status::Overflow(_) => 5,
             Status::ReadFault => 6,
             Status::WriteFault => 7,
+            Status::DiskFault => 8,
+            Status::Lost { .. } => 9,
+            Status::NoRun => 10,
+            Status::HasRun => 11,
+            Status::BadLedger { .. } => 12,
             Status::BadJob { .. } => 13,
+            Status::LedgerLimit { .. } => 14,
             Status::OutOfMemory => 15,
         }
     }
@@ -68,6 +86,12 @@ pub fn status_line<S: Sink>(status: &Status, out: &mut S) -> Result<(), WriteFau
         Status::Overflow(overflow) => overflow_line(overflow, out),
         Status::ReadFault => write_all(out, b"lrs: read fault\n"),
         Status::WriteFault => write_all(out, b"lrs: write fault\n"),
+        Status::DiskFault => write_all(out, b"lrs: disk fault\n"),
+        Status::Lost { lost, strays } => lost_line(*lost, *strays, out),
+        Status::NoRun => write_all(out, b"lrs: no run in ledger\n"),
+        Status::HasRun => write_all(out, b"lrs: ledger has a run\n"),
+        Status::BadLedger { place } => bad_ledger_line(*place, out),
+        Status::LedgerLimit { need, limit } => ledger_limit_line(*need, *limit, out),
         Status::OutOfMemory => write_all(out, b"lrs: out of memory\n"),
     }
 }
@@ -97,6 +121,34 @@ fn bad_job_line<S: Sink>(place: u64, out: &mut S) -> Result<(), WriteFault>
 {
     write_all(out, b"lrs: bad job: line ")?;
     write_count(place, out)?;
+    write_all(out, b"\n")
+}
+
+fn lost_line<S: Sink>(lost: u64, strays: u64, out: &mut S) -> Result<(), WriteFault>
+    ensures { Prints S.Sink out.old out.new result (status_text (Status.Lost lost strays)) }
+{
+    write_all(out, b"lrs: lost ")?;
+    write_count(lost, out)?;
+    write_all(out, b" strays ")?;
+    write_count(strays, out)?;
+    write_all(out, b"\n")
+}
+
+fn bad_ledger_line<S: Sink>(place: u64, out: &mut S) -> Result<(), WriteFault>
+    ensures { Prints S.Sink out.old out.new result (status_text (Status.BadLedger place)) }
+{
+    write_all(out, b"lrs: bad ledger: record ")?;
+    write_count(place, out)?;
+    write_all(out, b"\n")
+}
+
+fn ledger_limit_line<S: Sink>(need: u64, limit: u64, out: &mut S) -> Result<(), WriteFault>
+    ensures { Prints S.Sink out.old out.new result (status_text (Status.LedgerLimit need limit)) }
+{
+    write_all(out, b"lrs: ledger limit: need ")?;
+    write_count(need, out)?;
+    write_all(out, b" limit ")?;
+    write_count(limit, out)?;
     write_all(out, b"\n")
 }
 

@@ -1,13 +1,17 @@
 //! The program on worked files, whose listings were computed elsewhere.
+use crate::devices::Devices;
 use crate::process::respond;
 use crate::status::{Status, status_line};
 use crate::top::lrs;
 use command_line::LineStop;
+use disk_core::MemDisk;
 use poly_io::{Call, MemSink, MemSource, WriteFault};
 use poly_model::{Key, Label, Overflow, Phase, Place};
 use poly_reader::{BadFile, BadKind};
 use std::alloc::{AllocError, Global};
 use std::test::Fail;
+use worker_job::ShippedJob;
+use workers_io::MemWorkers;
 
 /// A call, with the limits of its reads and writes, how it ends, and what it writes. The rows of a listing may stand in
 /// any order.
@@ -593,6 +597,19 @@ fn end_of(status: &Status) -> End {
     }
 }
 
+/// An input of these bytes, with its reads, an empty file, and workers in memory.
+pub(crate) fn devices_of<'a>(
+    alloc: Global,
+    bytes: &'a [u8],
+    reads: &'a [Call],
+) -> Result<Devices<MemSource<'a>, MemDisk<'a>, MemWorkers<'a, ShippedJob>>, AllocError> {
+    Ok(Devices {
+        input: MemSource::new(bytes, reads),
+        disk: MemDisk::new(alloc, b"", &[])?,
+        workers: MemWorkers::new(alloc, ShippedJob::new(alloc), &[], &[]),
+    })
+}
+
 #[test]
 fn answers_calls(rt: HostRuntime) -> Result<(), Fail> {
     let alloc = rt.alloc();
@@ -603,9 +620,9 @@ fn answers_calls(rt: HostRuntime) -> Result<(), Fail> {
         .chain(&JOBS)
         .chain(&STOPPED);
     for case in cases {
-        let mut input = MemSource::new(case.file.as_bytes(), case.reads);
+        let mut devices = devices_of(alloc, case.file.as_bytes(), case.reads)?;
         let out = MemSink::new(alloc, case.writes);
-        let (status, out) = lrs(alloc, case.words, &mut input, out);
+        let (status, out) = lrs(alloc, case.words, &mut devices, out);
         let found = answered(alloc, end_of(&status), out.written())?;
         let want = answered(alloc, case.end, case.written.as_bytes())?;
         assert_eq!(rt; found, want, "{}", case.name);
@@ -618,11 +635,11 @@ fn a_job_text_without_its_end_writes_nothing(rt: HostRuntime) -> Result<(), Fail
     let whole = PLANE_JOB.file.as_bytes();
     let lines = [18, 25, 31, 39, 47, 56];
     for len in 0..whole.len() {
-        let mut input = MemSource::new(&whole[..len], &[]);
+        let mut devices = devices_of(rt.alloc(), &whole[..len], &[])?;
         let (status, out) = lrs(
             rt.alloc(),
             &["job"],
-            &mut input,
+            &mut devices,
             MemSink::new(rt.alloc(), &[]),
         );
         let place = lines.iter().filter(|end| **end <= len).count() as u64 + 1;
@@ -675,10 +692,10 @@ fn a_process_says_how_it_ends(rt: HostRuntime) -> Result<(), Fail> {
             Ok(words) => Ok(arguments(alloc, words)?),
             Err(stop) => Err(stop),
         };
-        let mut input = MemSource::new(SQUARE.file.as_bytes(), &[]);
+        let mut devices = devices_of(alloc, SQUARE.file.as_bytes(), &[])?;
         let out = MemSink::new(alloc, &[]);
         let mut errors = MemSink::new(alloc, &[]);
-        let (said, _) = respond(alloc, given, &mut input, out, &mut errors);
+        let (said, _) = respond(alloc, given, &mut devices, out, &mut errors);
         assert_eq!(rt;
             (said, errors.written()),
             (number, line.as_bytes()),
@@ -719,6 +736,24 @@ fn prints_status_lines(rt: HostRuntime) -> Result<(), Fail> {
         ),
         (Status::Infeasible, "lrs: infeasible\n"),
         (Status::BadJob { place: 7 }, "lrs: bad job: line 7\n"),
+        (Status::DiskFault, "lrs: disk fault\n"),
+        (
+            Status::Lost { lost: 2, strays: 1 },
+            "lrs: lost 2 strays 1\n",
+        ),
+        (Status::NoRun, "lrs: no run in ledger\n"),
+        (Status::HasRun, "lrs: ledger has a run\n"),
+        (
+            Status::BadLedger { place: 3 },
+            "lrs: bad ledger: record 3\n",
+        ),
+        (
+            Status::LedgerLimit {
+                need: 92,
+                limit: 91,
+            },
+            "lrs: ledger limit: need 92 limit 91\n",
+        ),
     ];
     for (status, line) in rows {
         let mut out = MemSink::new(rt.alloc(), &[]);

@@ -39,6 +39,7 @@ pub fn reply<O: Sink>(alloc: Global, text: &[u8], out: &mut O) -> Result<Count, 
 }
 
 /// Writes the reply of a job text.
+#[derive(Drop)]
 pub struct ShippedJob {
     alloc: Global,
 }

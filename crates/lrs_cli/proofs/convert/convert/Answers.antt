@@ -8,7 +8,7 @@ use Rattle.poly_reader.specs.declared.bad.ReadStop.TheVariants.{Fault, Bad}
 use Rattle.convert_core.specs.Listed.{IsDueInSearch}
 use Rattle.lrs_cli.specs.Answers.{ComesOfPolyhedron, WritesWhole, WritesPart}
 use Rattle.lrs_cli.proofs.AnswerLemmas.{answers_bad_file}
-use Rattle.lrs_cli.proofs.EndLemmas.{ends}
+use Rattle.lrs_cli.proofs.EndLemmas.{ends, of_file}
 use Rattle.lrs_cli.proofs.FaultLemmas.{described, fault_of_source, text_of_source}
 use Rattle.lrs_cli.proofs.convert.convert.Goals as goal
 
@@ -31,7 +31,7 @@ returns-in-Ok-clause-answers g c =
       printed = λ s. ⊎_elim (λ k. inl k)
           (λ f. inr (described (λ p. IsFeasible (cone_of p)) poly source text f)) (listing.printed s);
       bad_file = λ f e. absurd (subst ComesOfPolyhedron e listing.lists);
-      no_job = λ place e. absurd (subst ComesOfPolyhedron e listing.lists);
+      comes = of_file c.print_listing.result listing.lists;
       read_fault = λ e. absurd (subst ComesOfPolyhedron e listing.lists);
       reads = λ n. c.in-Ok.ensures.same (λ e. cc);
       write_fault = listing.write_fault;

@@ -1,0 +1,114 @@
+-- The headline of `run`: what was printed and left, where the workers are trusted.
+use Rattle.std.proofs.Common.{ℕ, List, ◌≡◌, ◌⊎◌, inl, inr, [], ◌∷◌, sym, subst, Option, Some, None}
+use Rattle.work_core.specs.Searches.{Search}
+use Rattle.disk_core.specs.declared.disk.Disk.{Ghosts as Disk}
+use Rattle.disk_core.specs.Contents.{Told}
+use Rattle.disk_core.specs.Moments.{LeavesOnly}
+use Rattle.disk_core.proofs.Moments.{started, weaker}
+use Rattle.job_ledger.specs.Records.{HasNoRun}
+use Rattle.job_text.specs.FirstPayloads.{first_payload}
+use Rattle.workers_io.specs.declared.workers.Workers.{Ghosts as Workers}
+use Rattle.workers_io.specs.History.{Happening, IsHonest}
+use Rattle.coordinator_core.specs.declared.options.Options.{Options}
+use Rattle.coordinator_core.specs.Machine.{AreOptions}
+use Rattle.coordinator.specs.Leaving.{HasFront}
+use Rattle.run_laws.specs.Laws.{IsHonestCall}
+use Rattle.run_laws.proofs.RunLaws.{first_record_is_legal, fronts_stay_legal}
+use Rattle.lrs_cli.specs.declared.status.Status.{Status}
+use Rattle.lrs_cli.specs.declared.status.Status.TheVariants.{Done}
+use Rattle.lrs_cli.specs.Answers.{WhereTold, IsListed, IsPartlyListed, WritesPart, WritesWhole}
+use Rattle.lrs_cli.specs.Ledgers.{AreTrusted, GoesOnFrom, Resources}
+use Rattle.lrs_cli.specs.Run.{AnswersRun, EndsSearch, IsLeftByRun, IsTextOf, MaySearch, RefusesFile, RunsFile, RunsSearch}
+use Rattle.lrs_cli.specs.Streams.{Streams}
+use Rattle.lrs_cli.proofs.FaultLemmas.{described}
+use Rattle.lrs_cli.proofs.ListingLemmas.{are_short, lists_part, lists_whole}
+use Rattle.lrs_cli.proofs.TrustLemmas.{tells_honestly}
+
+where_also : (left : Option (List ℕ)) (P Q : List ℕ → Type 0) → ((text : List ℕ) → P text → Q text) → WhereTold left P → WhereTold left Q
+where_also None P Q f h = tt
+where_also (Some text) P Q f h = f text h
+
+pub where_all : (left : Option (List ℕ)) (P : List ℕ → Type 0) → ((text : List ℕ) → P text) → WhereTold left P
+where_all None P f = tt
+where_all (Some text) P f = f text
+
+-- no file is refused with an answer that it was listed
+not_done : (left : Option (List ℕ)) (answer : Status) (rows lines : ℕ) → answer ≡ Done rows lines → RefusesFile left answer → ⊥
+not_done left answer rows lines e r = subst (RefusesFile left) e r
+
+module _ {D W : Type 0} (disk : Disk D) (workers : Workers W)
+    (law : (w : W) (happenings : List Happening) → workers.honest w → workers.history w ≡ Some happenings → IsHonest workers.allows [] happenings)
+    (only_now : (d : D) (c : List ℕ) → disk.since d (disk.moment d) c → disk.images d c)
+    (options : Options) (in_range : AreOptions options) (limit : ℕ) (old new : Resources D W) where
+  -- ---- one search
+  module _ (s : Search) (may : MaySearch s) (written now : Option (List ℕ)) (Unwritten : Type 0) (answer : Status)
+      (run : RunsSearch disk workers options limit s old new written now Unwritten answer) (trusted : AreTrusted workers old.workers new.workers) where
+    honest_call : IsHonestCall options s [] (first_payload s ∷ []) (workers.history new.workers)
+    honest_call = record {
+      in_range = in_range;
+      legal = first_record_is_legal s may.first may.feasible may.begins;
+      honest = tells_honestly workers law old.workers new.workers run.honest trusted;
+    }
+
+    listed : (rows lines : ℕ) → answer ≡ Done rows lines → (f : List ℕ) → disk.seen old.disk ≡ Some f → WritesWhole written now rows lines s.polyhedron
+    listed rows lines e f told =
+        let d = subst (EndsSearch disk workers options limit s old new written now Unwritten) e run.ends in
+        lists_whole options s [] (first_payload s ∷ []) d.0 _ _ honest_call d.1 (are_short (first_payload s ∷ d.0) (d.2 f told).has.short) written now rows lines (d.3 f told).1
+
+    partly : Unwritten ⊎ ((f : List ℕ) → disk.seen old.disk ≡ Some f → WritesPart written now s.polyhedron)
+    partly = elim run.prints [
+      | inl u ↦ inl u
+      | inr p ↦ inr (λ f told. lists_part options s [] (first_payload s ∷ []) p.0 _ _ honest_call p.1
+          (are_short (first_payload s ∷ p.0) (p.2 f told).has.short) written now (p.3 f told))
+    ]
+
+    legal_fronts : (texts : List (List ℕ)) (c : List ℕ) → ((file : List ℕ) → HasFront (first_payload s ∷ []) texts file → GoesOnFrom (first_payload s ∷ []) file) →
+        disk.images old.disk c ⊎ (HasNoRun c ⊎ HasFront (first_payload s ∷ []) texts c) →
+        disk.images old.disk c ⊎ (HasNoRun c ⊎ GoesOnFrom (first_payload s ∷ []) c)
+    legal_fronts texts c on (inl i) = inl i
+    legal_fronts texts c on (inr (inl n)) = inr (inl n)
+    legal_fronts texts c on (inr (inr h)) = inr (inr (on c h))
+
+    left : (f : List ℕ) → disk.seen old.disk ≡ Some f → LeavesOnly disk.moment disk.since old.disk new.disk
+        (λ c. disk.images old.disk c ⊎ (HasNoRun c ⊎ GoesOnFrom (first_payload s ∷ []) c))
+    left f told =
+        let g = run.goes in
+        let on : (file : List ℕ) → HasFront (first_payload s ∷ []) g.0 file → GoesOnFrom (first_payload s ∷ []) file = λ file h.
+        let l = fronts_stay_legal options s [] (first_payload s ∷ []) g.0 _ _ honest_call g.1 file h in
+        record { more = l.0; has = l.1; legal = l.2 } in
+        weaker disk.moment disk.since old.disk new.disk _ _ (g.2 f told) (λ c h. legal_fronts g.0 c on h)
+
+  -- ---- a file
+  module _ (before after : Streams) (Unwritten : Type 0) (answer : Status)
+      (runs : RunsFile disk workers options limit old new before after Unwritten answer) where
+    still : LeavesOnly disk.moment disk.since old.disk old.disk (disk.images old.disk)
+    still = started disk.moment disk.since old.disk (disk.images old.disk) (only_now old.disk)
+
+    lists : (rows lines : ℕ) → answer ≡ Done rows lines → AreTrusted workers old.workers new.workers →
+        Told (disk.seen old.disk) (λ f. WhereTold before.left (IsListed before.written after.written rows lines))
+    lists rows lines e t f told = elim runs.comes [
+      | inl r ↦ absurd (not_done before.left answer rows lines e r.0)
+      | inr r ↦ described (WritesWhole before.written after.written rows lines) r.0.polyhedron before.left r.2
+          (listed r.0 r.1 before.written after.written Unwritten answer r.4 t rows lines e f told)
+    ]
+
+    leaves : AreTrusted workers old.workers new.workers →
+        Told (disk.seen old.disk) (λ f. WhereTold before.left (IsLeftByRun disk old.disk new.disk))
+    leaves t f told = elim runs.comes [
+      | inl r ↦ where_all before.left (IsLeftByRun disk old.disk new.disk) (λ text. inl (subst (λ (z : Resources D W). LeavesOnly disk.moment disk.since old.disk z.disk (disk.images old.disk)) (sym r.1) still))
+      | inr r ↦ where_also before.left (IsTextOf r.0) (IsLeftByRun disk old.disk new.disk)
+          (λ text h. inr (r.0, h, left r.0 r.1 before.written after.written Unwritten answer r.4 t f told)) r.2
+    ]
+
+    part : AreTrusted workers old.workers new.workers → Unwritten
+        ⊎ Told (disk.seen old.disk) (λ f. WhereTold before.left (IsPartlyListed before.written after.written))
+    part t = elim runs.comes [
+      | inl r ↦ inl r.2
+      | inr r ↦ elim (partly r.0 r.1 before.written after.written Unwritten answer r.4 t) [
+        | inl u ↦ inl u
+        | inr p ↦ inr (λ f told. described (WritesPart before.written after.written) r.0.polyhedron before.left r.2 (p f told))
+      ]
+    ]
+
+    pub answers_run : AnswersRun disk workers options limit old new before after Unwritten answer
+    answers_run = record { lists = lists; leaves = leaves; part = part; runs = runs }

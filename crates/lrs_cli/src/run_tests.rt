@@ -1,0 +1,254 @@
+//! Runs of the pyramid over a square by workers in memory that lose, cut, repeat and hold back replies, over files that fail
+//! and stop, and on from what is left.
+use crate::devices::Devices;
+use crate::status::Status;
+use crate::top::lrs;
+use disk_core::{DiskCall, MemDisk};
+use poly_io::{Call, MemSink, MemSource};
+use std::alloc::{AllocError, Global};
+use std::test::Fail;
+use worker_job::ShippedJob;
+use workers_io::{Fate, MemWorkers};
+
+const PYRAMID: &str =
+    "H-representation\nbegin\n5 4 integer\n0 0 0 1\n1 -1 0 -1\n1 1 0 -1\n1 0 -1 -1\n1 0 1 -1\nend\n";
+
+const LISTING: &str =
+    "V-representation\nbegin\n***** 4 rational\n 1 1 1 0\n 1 1 -1 0\n 1 -1 1 0\n 1 -1 -1 0\n 1 0 0 1\nend\n";
+
+const RUN: &[&str] = &["run", "L", "--workers", "2", "--bases", "1"];
+
+const RUN_THAT_BEARS_NOTHING: &[&str] = &[
+    "run",
+    "L",
+    "--workers",
+    "2",
+    "--bases",
+    "1",
+    "--lost",
+    "0",
+];
+
+const RESUME: &[&str] = &["resume", "L", "--lost", "0"];
+
+const WHOLE: Status = Status::Done { rows: 5, lines: 0 };
+
+/// A run in an empty file: what becomes of its starts, how its writes go, what it answers and writes.
+#[derive(Clone, Copy)]
+struct Row {
+    name: &'static str,
+    words: &'static [&'static str],
+    fates: &'static [Fate],
+    writes: &'static [Call],
+    status: Status,
+    written: &'static str,
+}
+
+const UNDISTURBED: Row = Row {
+    name: "nothing is lost",
+    words: RUN,
+    fates: &[],
+    writes: &[],
+    status: WHOLE,
+    written: LISTING,
+};
+
+const ROWS: [Row; 12] = [
+    UNDISTURBED,
+    Row {
+        name: "the first reply lacks its last line",
+        fates: &[Fate::Cut(62)],
+        ..UNDISTURBED
+    },
+    Row {
+        name: "replies that end within a line, and nowhere",
+        fates: &[Fate::Cut(20), Fate::Cut(0)],
+        ..UNDISTURBED
+    },
+    Row {
+        name: "attempts that break, and a start that fails",
+        fates: &[Fate::Lose, Fate::Refuse, Fate::Lose],
+        ..UNDISTURBED
+    },
+    Row {
+        name: "each reply comes twice",
+        fates: &[
+            Fate::Twice,
+            Fate::Twice,
+            Fate::Twice,
+            Fate::Twice,
+            Fate::Twice,
+        ],
+        ..UNDISTURBED
+    },
+    Row {
+        name: "replies come in pairs turned round",
+        fates: &[Fate::Keep, Fate::Late, Fate::Keep, Fate::Late, Fate::Keep],
+        ..UNDISTURBED
+    },
+    Row {
+        name: "a reply that comes twice, where none is borne",
+        words: RUN_THAT_BEARS_NOTHING,
+        fates: &[Fate::Twice],
+        status: Status::Lost { lost: 0, strays: 1 },
+        written: "",
+        ..UNDISTURBED
+    },
+    Row {
+        name: "a start that fails, where none is borne",
+        words: RUN_THAT_BEARS_NOTHING,
+        fates: &[Fate::Refuse],
+        status: Status::Lost { lost: 1, strays: 0 },
+        written: "",
+        ..UNDISTURBED
+    },
+    Row {
+        name: "an attempt that breaks, where none is borne",
+        words: RUN_THAT_BEARS_NOTHING,
+        fates: &[Fate::Lose],
+        status: Status::Lost { lost: 1, strays: 0 },
+        written: "",
+        ..UNDISTURBED
+    },
+    Row {
+        name: "a sink that fails",
+        writes: &[Call::Fail],
+        status: Status::WriteFault,
+        written: "",
+        ..UNDISTURBED
+    },
+    Row {
+        name: "a sink that takes 17 bytes and fails",
+        writes: &[Call::AtMost(17), Call::Fail],
+        status: Status::WriteFault,
+        written: "V-representation\n",
+        ..UNDISTURBED
+    },
+    Row {
+        name: "jobs of many bases",
+        words: &["run", "L"],
+        ..UNDISTURBED
+    },
+];
+
+/// A call over a disk, which is given back, with workers of these fates and a sink with this table.
+fn ran<'a>(
+    alloc: Global,
+    words: &[&str],
+    disk: MemDisk<'a>,
+    fates: &'a [Fate],
+    writes: &'a [Call],
+) -> (Status, MemSink<'a>, MemDisk<'a>) {
+    let mut devices = Devices {
+        input: MemSource::new(PYRAMID.as_bytes(), &[]),
+        disk,
+        workers: MemWorkers::new(alloc, ShippedJob::new(alloc), fates, &[]),
+    };
+    let (status, out) = lrs(alloc, words, &mut devices, MemSink::new(alloc, writes));
+    (status, out, devices.disk)
+}
+
+/// The lines of a text, in a fixed order.
+fn lines(alloc: Global, text: &[u8]) -> Result<Vec<&[u8]>, AllocError> {
+    let mut lines = text.split(|b| *b == b'\n').collect::<Vec<&[u8]>>(alloc)?;
+    lines.sort()?;
+    Ok(lines)
+}
+
+#[test]
+fn runs_whatever_the_workers_do(rt: HostRuntime) -> Result<(), Fail> {
+    let alloc = rt.alloc();
+    for row in &ROWS {
+        let disk = MemDisk::new(alloc, b"", &[])?;
+        let (status, out, disk) = ran(alloc, row.words, disk, row.fates, row.writes);
+        let (again, listed, disk) = ran(alloc, RESUME, disk, &[], &[]);
+        // Where nothing is left to do no worker is started: it would be lost, and none is borne.
+        let (last, listed_last, disk) = ran(alloc, RESUME, disk, &[Fate::Refuse], &[]);
+        let (refused, none, disk) = ran(alloc, RUN, disk, &[], &[]);
+        let (told, progress, _) = ran(alloc, &["status", "L"], disk, &[], &[]);
+        assert_eq!(rt;
+            (status, lines(alloc, out.written())?),
+            (row.status, lines(alloc, row.written.as_bytes())?),
+            "{}",
+            row.name
+        );
+        for (status, out) in [(again, listed), (last, listed_last)] {
+            assert_eq!(rt;
+                (status, lines(alloc, out.written())?),
+                (WHOLE, lines(alloc, LISTING.as_bytes())?),
+                "{}, and on",
+                row.name
+            );
+        }
+        assert_eq!(rt;
+            (refused, none.written()),
+            (Status::HasRun, b"".as_slice()),
+            "{}",
+            row.name
+        );
+        assert_eq!(rt;
+            (told, progress.written().ends_with(b"waiting 0\nrows 5\n")),
+            (WHOLE, true),
+            "{}",
+            row.name
+        );
+    }
+    Ok(())
+}
+
+/// A run whose first reply lacks its last line, over a disk whose calls are these.
+fn run_over(alloc: Global, calls: &[DiskCall]) -> Result<(Status, MemDisk<'_>), AllocError> {
+    let disk = MemDisk::new(alloc, b"", calls)?;
+    let (status, _, disk) = ran(alloc, RUN, disk, &[Fate::Cut(62)], &[]);
+    Ok((status, disk))
+}
+
+/// How far apart the images lie that are tried: all are where the last write is the gate of the first reply, that is the
+/// second write of one byte.
+fn stride(images: u64, gates: &mut u64) -> usize {
+    if images == 258 {
+        *gates += 1;
+        if *gates == 2 {
+            return 1;
+        }
+    }
+    images as usize / 3 + 1
+}
+
+/// The first image of those that are tried from which no run goes on to the whole listing, though it has one.
+fn image_lost(alloc: Global, disk: &MemDisk, gates: &mut u64) -> Result<Option<u64>, AllocError> {
+    let images = disk.image_count();
+    for number in (0..images).step_by(stride(images, gates)) {
+        let left = disk.image(number)?;
+        let disk = MemDisk::new(alloc, left.as_slice(), &[])?;
+        let (status, out, _) = ran(alloc, RESUME, disk, &[], &[]);
+        let wanted = if status == Status::NoRun { "" } else { LISTING };
+        let goes_on = status == WHOLE || status == Status::NoRun;
+        if !goes_on || lines(alloc, out.written())? != lines(alloc, wanted.as_bytes())? {
+            return Ok(Some(number));
+        }
+    }
+    Ok(None)
+}
+
+#[test]
+fn goes_on_wherever_a_disk_fails(rt: HostRuntime) -> Result<(), Fail> {
+    let alloc = rt.alloc();
+    for wrong in [DiskCall::Fail, DiskCall::Tear(1), DiskCall::Stop] {
+        let mut calls = Vec::new(alloc);
+        let mut gates = 0;
+        for count in 0..200 {
+            calls.push(wrong)?;
+            let (status, disk) = run_over(alloc, &calls)?;
+            assert_eq!(rt; image_lost(alloc, &disk, &mut gates)?, None, "call {count}");
+            calls.pop();
+            calls.push(DiskCall::Do)?;
+            if status == WHOLE {
+                assert_eq!(rt; (count > 20, gates > 3), (true, true));
+                break;
+            }
+            assert_eq!(rt; status, Status::DiskFault, "call {count}");
+        }
+    }
+    Ok(())
+}
