@@ -68,6 +68,7 @@ module _ {D W : Type 0} (disk : Disk D) (workers : Workers W) (only_now : (d : D
     lists = λ rows lines e. absurd (cc);
     leaves = λ t f told. where_all before.left (IsLeftByRun disk here.disk here.disk) (λ text. inl still);
     part = λ t. inl unwritten;
+    texts = λ f told. weaker disk.moment disk.since here.disk here.disk _ _ still (λ c i. inl i);
     runs = record {
       comes = inl (tt, refl, unwritten);
       reads = none_rose _ OutOfMemory before.read_faults (λ e. cc);
@@ -82,6 +83,7 @@ module _ {D W : Type 0} (disk : Disk D) (workers : Workers W) (only_now : (d : D
     lists = λ records some images t rows lines e. absurd (cc);
     leaves = λ records some images t f told. weaker disk.moment disk.since here.disk here.disk _ _ still (λ c i. inl i);
     part = λ records some images t. inl unwritten;
+    texts = λ f told. weaker disk.moment disk.since here.disk here.disk _ _ still (λ c i. inl i);
     comes = record { goes = inl (refl, still); prints = inl unwritten; ends = tt; idle = λ f told r none. refl; honest = λ h. h };
     writes = none_rose _ OutOfMemory before.write_faults (λ e. cc);
     disk_calls = no_fault;

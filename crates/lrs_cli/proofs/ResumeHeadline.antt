@@ -19,8 +19,8 @@ use Rattle.coordinator_core.specs.declared.options.Options.{Options}
 use Rattle.coordinator_core.specs.Machine.{AreOptions}
 use Rattle.coordinator.specs.Calls.{RecordedRun}
 use Rattle.coordinator.specs.Leaving.{HasFront}
-use Rattle.run_laws.specs.Laws.{IsHonestCall}
-use Rattle.run_laws.proofs.RunLaws.{fronts_stay_legal}
+use Rattle.run_laws.specs.Laws.{IsHonestCall, IsLedgerFile}
+use Rattle.run_laws.proofs.RunLaws.{fronts_stay_legal, fronts_stay_text}
 use Rattle.lrs_cli.specs.declared.status.Status.{Status}
 use Rattle.lrs_cli.specs.declared.status.Status.TheVariants.{Done, WriteFault}
 use Rattle.lrs_cli.specs.Answers.{WritesPart, WritesWhole}
@@ -117,6 +117,18 @@ module _ {D W : Type 0} (disk : Disk D) (workers : Workers W)
         written now (p.4 f told)))
   ]
 
+  text_or : (texts payloads : List (List ℕ)) (c : List ℕ) → ((file : List ℕ) → HasFront payloads texts file → IsLedgerFile file) → disk.images old.disk c ⊎ HasFront payloads texts c →
+      disk.images old.disk c ⊎ IsLedgerFile c
+  text_or texts payloads c on (inl i) = inl i
+  text_or texts payloads c on (inr h) = inr (on c h)
+
+  texts : Told (disk.seen old.disk) (λ f. LeavesOnly disk.moment disk.since old.disk new.disk (λ c. disk.images old.disk c ⊎ IsLedgerFile c))
+  texts f told = elim g.goes [
+    | inl i ↦ weaker disk.moment disk.since old.disk new.disk _ _ i.1 (λ c h. inl h)
+    | inr x ↦ weaker disk.moment disk.since old.disk new.disk _ _ (x.4 f told)
+        (λ c h. text_or x.1 x.0.payloads c (λ file y. fronts_stay_text options x.0.search x.0.replies x.0.payloads x.1 _ _ x.0.is_text x.3 file y) h)
+  ]
+
   pub answers_resume : (faults faults' : ℕ) → RoseAt WriteFault answer faults faults' → DiskRose answer (disk.faults old.disk) (disk.faults new.disk) →
       AnswersResume disk workers options limit old new written now faults faults' Unwritten answer
-  answers_resume faults faults' w d = record { lists = lists; leaves = leaves; part = part; comes = g; writes = w; disk_calls = d }
+  answers_resume faults faults' w d = record { lists = lists; leaves = leaves; part = part; texts = texts; comes = g; writes = w; disk_calls = d }

@@ -12,8 +12,8 @@ use Rattle.workers_io.specs.History.{Happening, IsHonest}
 use Rattle.coordinator_core.specs.declared.options.Options.{Options}
 use Rattle.coordinator_core.specs.Machine.{AreOptions}
 use Rattle.coordinator.specs.Leaving.{HasFront}
-use Rattle.run_laws.specs.Laws.{IsHonestCall}
-use Rattle.run_laws.proofs.RunLaws.{first_record_is_legal, fronts_stay_legal}
+use Rattle.run_laws.specs.Laws.{IsHonestCall, IsLedgerFile}
+use Rattle.run_laws.proofs.RunLaws.{first_record_is_legal, fronts_stay_legal, fronts_stay_text}
 use Rattle.lrs_cli.specs.declared.status.Status.{Status}
 use Rattle.lrs_cli.specs.declared.status.Status.TheVariants.{Done}
 use Rattle.lrs_cli.specs.Answers.{WhereTold, IsListed, IsPartlyListed, WritesPart, WritesWhole}
@@ -78,6 +78,23 @@ module _ {D W : Type 0} (disk : Disk D) (workers : Workers W)
         record { more = l.0; has = l.1; legal = l.2 } in
         weaker disk.moment disk.since old.disk new.disk _ _ (g.2 f told) (λ c h. legal_fronts g.0 c on h)
 
+  -- ---- whatever the workers gave
+  ledger_or : (P : List ℕ → Type 0) (s : Search) (texts : List (List ℕ)) (c : List ℕ) →
+      ((file : List ℕ) → HasFront (first_payload s ∷ []) texts file → IsLedgerFile file) → P c ⊎ (HasNoRun c ⊎ HasFront (first_payload s ∷ []) texts c) →
+      P c ⊎ (HasNoRun c ⊎ IsLedgerFile c)
+  ledger_or P s texts c on (inl i) = inl i
+  ledger_or P s texts c on (inr (inl n)) = inr (inl n)
+  ledger_or P s texts c on (inr (inr h)) = inr (inr (on c h))
+
+  texts_of : (s : Search) → MaySearch s → (written now : Option (List ℕ)) (Unwritten : Type 0) (answer : Status) →
+      RunsSearch disk workers options limit s old new written now Unwritten answer → (f : List ℕ) → disk.seen old.disk ≡ Some f →
+      LeavesOnly disk.moment disk.since old.disk new.disk (λ c. disk.images old.disk c ⊎ (HasNoRun c ⊎ IsLedgerFile c))
+  texts_of s may written now Unwritten answer run f told =
+      let g = run.goes in
+      let first = (first_record_is_legal s may.first may.feasible may.begins).is_text in
+      weaker disk.moment disk.since old.disk new.disk _ _ (g.2 f told)
+      (λ c h. ledger_or (disk.images old.disk) s g.0 c (λ file x. fronts_stay_text options s [] (first_payload s ∷ []) g.0 _ _ first g.1 file x) h)
+
   -- ---- a file
   module _ (before after : Streams) (Unwritten : Type 0) (answer : Status)
       (runs : RunsFile disk workers options limit old new before after Unwritten answer) where
@@ -110,5 +127,12 @@ module _ {D W : Type 0} (disk : Disk D) (workers : Workers W)
       ]
     ]
 
+    texts : Told (disk.seen old.disk) (λ f. LeavesOnly disk.moment disk.since old.disk new.disk (λ c. disk.images old.disk c ⊎ (HasNoRun c ⊎ IsLedgerFile c)))
+    texts f told = elim runs.comes [
+      | inl r ↦ weaker disk.moment disk.since old.disk new.disk _ _
+          (subst (λ (z : Resources D W). LeavesOnly disk.moment disk.since old.disk z.disk (disk.images old.disk)) (sym r.1) still) (λ c i. inl i)
+      | inr r ↦ texts_of r.0 r.1 before.written after.written Unwritten answer r.4 f told
+    ]
+
     pub answers_run : AnswersRun disk workers options limit old new before after Unwritten answer
-    answers_run = record { lists = lists; leaves = leaves; part = part; runs = runs }
+    answers_run = record { lists = lists; leaves = leaves; part = part; texts = texts; runs = runs }

@@ -15,6 +15,7 @@ use Rattle.coordinator.specs.Calls.{RecordedRun, state_at}
 use Rattle.coordinator.specs.Ending.{Rests}
 use Rattle.coordinator.specs.Following.{EndsBy, Finishes, GivesUp, LeadsSomewhere}
 use Rattle.coordinator.specs.Leaving.{HasFront, IsRefusedBy}
+use Rattle.run_laws.specs.Laws.{IsLedgerFile}
 use Rattle.lrs_cli.specs.declared.status.Status.{Status}
 use Rattle.lrs_cli.specs.declared.status.Status.TheVariants.{Done, Usage, BadFile, BadJob, Infeasible, Overflow, ReadFault, WriteFault, DiskFault, Lost, NoRun, HasRun, BadLedger, LedgerLimit, OutOfMemory}
 use Rattle.lrs_cli.specs.Answers.{WritesPart, WritesWhole}
@@ -119,6 +120,9 @@ module _ {D W : Type 0} (disk : Disk D) (workers : Workers W) (options : Options
     pub part : (records : List (List ℕ)) → 0 < length records → AllGoOnFrom records (disk.images old.disk) →
         AreTrusted workers old.workers new.workers →
         Unwritten ⊎ Told (disk.seen old.disk) (λ f. TellsOf (WritesPart written now) records)
+    -- whatever the workers gave: no image since then is a bad ledger that was not there before
+    pub texts : Told (disk.seen old.disk) (λ f. LeavesOnly disk.moment disk.since old.disk new.disk
+        (λ c. disk.images old.disk c ⊎ IsLedgerFile c))
     pub comes : GoesOn written now Unwritten answer
     -- a write failed exactly where the answer says so, a call of the disk nowhere else
     pub writes : RoseAt WriteFault answer faults faults'

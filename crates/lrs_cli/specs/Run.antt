@@ -22,6 +22,7 @@ use Rattle.coordinator.specs.Calls.{state_after}
 use Rattle.coordinator.specs.Ending.{Rests}
 use Rattle.coordinator.specs.Following.{EndsBy, Finishes, GivesUp, LeadsSomewhere}
 use Rattle.coordinator.specs.Leaving.{HasFront, IsRefusedBy}
+use Rattle.run_laws.specs.Laws.{IsLedgerFile}
 use Rattle.lrs_cli.specs.declared.status.Status.{Status}
 use Rattle.lrs_cli.specs.declared.status.Status.TheVariants.{Done, Usage, BadFile, BadJob, Infeasible, Overflow, ReadFault, WriteFault, DiskFault, Lost, NoRun, HasRun, BadLedger, LedgerLimit, OutOfMemory}
 use Rattle.lrs_cli.specs.Answers.{WhereTold, Describes, IsBadFile, IsInfeasibleFile, IsListed, IsPartlyListed}
@@ -165,4 +166,7 @@ module _ {D W : Type 0} (disk : Disk D) (workers : Workers W) (options : Options
     -- whatever the answer: nothing was written, or the beginning of the listing
     pub part : AreTrusted workers old.workers new.workers → Unwritten
         ⊎ Told (disk.seen old.disk) (λ f. WhereTold before.left (IsPartlyListed before.written after.written))
+    -- whatever the workers gave: no image since then is a bad ledger that was not there before
+    pub texts : Told (disk.seen old.disk) (λ f. LeavesOnly disk.moment disk.since old.disk new.disk
+        (λ c. disk.images old.disk c ⊎ (HasNoRun c ⊎ IsLedgerFile c)))
     pub runs : RunsFile answer

@@ -13,7 +13,7 @@ use Rattle.work_core.specs.Searches.{Search, meaning_of}
 use Rattle.job_text.specs.declared.reply.Reply.{Reply}
 use Rattle.job_ledger.specs.Records.{Records}
 use Rattle.run_state.specs.KeyLists.{KnownKeys}
-use Rattle.run_state.specs.Payloads.{IsLedgerText, first_keys, keys_of}
+use Rattle.run_state.specs.Payloads.{AreReplies, IsLedgerText, first_keys, keys_after, keys_of}
 use Rattle.run_state.specs.Runs.{Run, first_run, recorded_rows}
 use Rattle.run_state.specs.Legal.{AreLegal, IsLegal}
 use Rattle.run_state.proofs.FollowLemmas.{run-keys}
@@ -23,12 +23,12 @@ use Rattle.workers_io.specs.History.{Happening}
 use Rattle.coordinator_core.specs.declared.options.Options.{Options}
 use Rattle.coordinator_core.specs.Machine.{State}
 use Rattle.coordinator_laws.specs.Courses.{Course, IsCourse, replies_after}
-use Rattle.coordinator_laws.proofs.CourseLaws.{events_keep_legal, fronts_are_legal, traces_tell_the_run}
+use Rattle.coordinator_laws.proofs.CourseLaws.{events_keep_legal, events_keep_text, fronts_are_legal, traces_tell_the_run}
 use Rattle.coordinator_laws.proofs.EndLemmas.{none_waits_at_finish}
 use Rattle.coordinator.specs.Calls.{state_after}
 use Rattle.coordinator.specs.Following.{LeadsTo}
 use Rattle.coordinator.specs.Leaving.{HasFront}
-use Rattle.run_laws.specs.Laws.{FinishedCallsList, FirstRecordIsLegal, FrontsStayLegal, IsHonestCall}
+use Rattle.run_laws.specs.Laws.{FinishedCallsList, FirstRecordIsLegal, FrontsStayLegal, FrontsStayText, IsHonestCall, IsLedgerFile}
 use Rattle.run_laws.proofs.HonestCalls.{of_call, of_earlier}
 
 -- ---- the course of a call
@@ -120,3 +120,55 @@ first_record_is_legal s first feasible root = record {
   root = root;
   legal = tt;
 }
+
+-- ---- what is left whatever the workers gave
+-- a call's records stay a ledger text
+text_after : (options : Options) (s : Search) (replies : List Reply) (last : State) (payloads texts : List (List ℕ)) (old new : Option (List Happening)) →
+    (g : LeadsTo (state_after options s replies) last old new texts) → IsLedgerText s replies payloads →
+    IsLedgerText s (replies_after (course_of options s replies last old new texts g)) (payloads ++ texts)
+text_after options s replies last payloads texts old new g t =
+    let c = course_of options s replies last old new texts g in
+    subst (λ (added : List (List ℕ)). IsLedgerText s (replies_after c) (payloads ++ added)) (sym g.accepts)
+    (events_keep_text c payloads (is_course options s replies last old new texts g) t)
+
+-- the first payloads of a ledger text are one
+record IsFrontText (n : ℕ) (keys : KnownKeys) (front : List (List ℕ)) : Type 0 where
+  replies : List Reply
+  are_replies : AreReplies n keys front replies
+
+front_replies : (n : ℕ) (keys : KnownKeys) (front rest : List (List ℕ)) (replies : List Reply) → AreReplies n keys (front ++ rest) replies → IsFrontText n keys front
+front_replies n keys [] rest replies a = record { replies = []; are_replies = tt }
+front_replies n keys (p ∷ front) rest [] a = absurd a
+front_replies n keys (p ∷ front) rest (r ∷ replies) a =
+    let h = front_replies n (keys_after keys r) front rest replies a.1 in
+    record { replies = r ∷ h.replies; are_replies = (a.0, h.are_replies) }
+
+front_text : (s : Search) (replies : List Reply) (front rest : List (List ℕ)) (file : List ℕ) → 0 < length front → IsLedgerText s replies (front ++ rest) → Records front file →
+    IsLedgerFile file
+front_text s replies [] rest file i t has = absurd (omega (arith, i))
+front_text s replies (f ∷ front) rest file i t has =
+    let q : (f ∷ (front ++ rest)) ≡ t.first ∷ t.others = t.split in
+    let same : f ≡ t.first = cc in
+    let others : front ++ rest ≡ t.others = cc in
+    let g = front_replies s.polyhedron.n (first_keys s) front rest replies
+    (subst (λ (l : List (List ℕ)). AreReplies s.polyhedron.n (first_keys s) l replies) (sym others) t.are_replies) in
+    record {
+      payloads = f ∷ front;
+      has = has;
+      search = s;
+      replies = g.replies;
+      is_text = record { first = t.first; others = front; split = ap (λ (x : List ℕ). x ∷ front) same; is_first = t.is_first; are_replies = g.are_replies };
+    }
+
+text_of_front : (s : Search) (replies : List Reply) (payloads texts : List (List ℕ)) (after : List Reply) → IsLedgerText s replies payloads → IsLedgerText s after (payloads ++ texts) →
+    (file : List ℕ) → HasFront payloads texts file → IsLedgerFile file
+text_of_front s replies payloads texts after before all file front =
+    let split : payloads ++ texts ≡ (payloads ++ front.front) ++ front.rest =
+    ap (λ (x : List (List ℕ)). payloads ++ x) front.split ∙ sym (append_assoc payloads front.front front.rest) in
+    front_text s after (payloads ++ front.front) front.rest file (some_records s replies payloads front.front before) (subst (IsLedgerText s after) split all) front.has
+
+pub fronts_stay_text : FrontsStayText
+fronts_stay_text options s replies payloads texts old new t (inl (last, g)) file front =
+    text_of_front s replies payloads texts _ t (text_after options s replies last payloads texts old new g t) file front
+fronts_stay_text options s replies payloads texts old new t (inr (o, e)) file front =
+    text_of_front s replies payloads texts _ t (text_after options s replies e.last payloads texts old e.before e.goes t) file front

@@ -19,6 +19,14 @@ use Rattle.coordinator.specs.Calls.{state_after}
 use Rattle.coordinator.specs.Following.{Finishes, LeadsSomewhere}
 use Rattle.coordinator.specs.Leaving.{HasFront}
 
+-- the records of a file are a ledger text
+pub record IsLedgerFile (file : List ℕ) : Type 0 where
+  pub payloads : List (List ℕ)
+  pub has : Records payloads file
+  pub search : Search
+  pub replies : List Reply
+  pub is_text : IsLedgerText search replies payloads
+
 -- a history is told, and each reply in it begins one that the rule of replies allows for the text of its start
 abbrev pub TellsHonestly : Option (List Happening) → Type 0
 TellsHonestly None = ⊥
@@ -44,6 +52,14 @@ FrontsStayLegal =
     (options : Options) (s : Search) (replies : List Reply) (payloads texts : List (List ℕ)) (old new : Option (List Happening)) →
     IsHonestCall options s replies payloads new → LeadsSomewhere (state_after options s replies) old new texts →
     (file : List ℕ) → HasFront payloads texts file → (more : List (List ℕ)) × Records (payloads ++ more) file × IsLegal (payloads ++ more)
+
+-- wherever a call stops, whatever its workers gave, a file that has its records and some first ones of what it accepted has
+-- records that are a ledger text, if the records were one
+abbrev pub FrontsStayText : Type 0
+FrontsStayText =
+    (options : Options) (s : Search) (replies : List Reply) (payloads texts : List (List ℕ)) (old new : Option (List Happening)) →
+    IsLedgerText s replies payloads → LeadsSomewhere (state_after options s replies) old new texts →
+    (file : List ℕ) → HasFront payloads texts file → IsLedgerFile file
 
 -- the first record of a feasible polyhedron, at a root at which its search may begin, is legal
 abbrev pub FirstRecordIsLegal : Type 0

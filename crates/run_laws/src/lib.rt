@@ -4,4 +4,4 @@
 
 mod laws;
 
-pub use laws::{finished_calls_list, first_record_is_legal, fronts_stay_legal};
+pub use laws::{finished_calls_list, first_record_is_legal, fronts_stay_legal, fronts_stay_text};
