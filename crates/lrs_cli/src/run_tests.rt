@@ -1,5 +1,7 @@
 //! Runs of the pyramid over a square by workers in memory that lose, cut, repeat and hold back replies, over files that fail
 //! and stop, and on from what is left.
+ghost use Rattle.std.specs.Prelude.{◌<◌};
+
 use crate::devices::Devices;
 use crate::status::Status;
 use crate::top::lrs;
@@ -196,23 +198,18 @@ fn runs_whatever_the_workers_do(rt: HostRuntime) -> Result<(), Fail> {
     Ok(())
 }
 
-/// A run whose first reply lacks its last line, over a disk whose calls are these.
-fn run_over(alloc: Global, calls: &[DiskCall]) -> Result<(Status, MemDisk<'_>), AllocError> {
-    let disk = MemDisk::new(alloc, b"", calls)?;
-    let (status, _, disk) = ran(alloc, RUN, disk, &[Fate::Cut(62)], &[]);
-    Ok((status, disk))
-}
-
 /// How far apart the images lie that are tried: all are where the last write is the gate of the first reply, that is the
 /// second write of one byte.
-fn stride(images: u64, gates: &mut u64) -> usize {
+fn stride(images: u64, gates: &mut u64) -> usize
+    ensures { 0 < result }
+{
     if images == 258 {
-        *gates += 1;
+        *gates = gates.saturating_add(1);
         if *gates == 2 {
             return 1;
         }
     }
-    images as usize / 3 + 1
+    (images as usize / 3).max(1)
 }
 
 /// The first image of those that are tried from which no run goes on to the whole listing, though it has one.
@@ -231,16 +228,28 @@ fn image_lost(alloc: Global, disk: &MemDisk, gates: &mut u64) -> Result<Option<u
     Ok(None)
 }
 
+/// What a run answers over a disk whose calls are these, and the first image that is lost of those that it leaves.
+fn cut_short(
+    alloc: Global,
+    calls: &[DiskCall],
+    gates: &mut u64,
+) -> Result<(Status, Option<u64>), AllocError> {
+    let disk = MemDisk::new(alloc, b"", calls)?;
+    let (status, _, disk) = ran(alloc, RUN, disk, &[Fate::Cut(62)], &[]);
+    Ok((status, image_lost(alloc, &disk, gates)?))
+}
+
 #[test]
 fn goes_on_wherever_a_disk_fails(rt: HostRuntime) -> Result<(), Fail> {
     let alloc = rt.alloc();
-    for wrong in [DiskCall::Fail, DiskCall::Tear(1), DiskCall::Stop] {
+    // Each value of the gate is tried once, where the run is stopped.
+    let mut gates = 0;
+    for wrong in [DiskCall::Stop, DiskCall::Fail, DiskCall::Tear(1)] {
         let mut calls = Vec::new(alloc);
-        let mut gates = 0;
-        for count in 0..200 {
+        for count in 0..60 {
             calls.push(wrong)?;
-            let (status, disk) = run_over(alloc, &calls)?;
-            assert_eq!(rt; image_lost(alloc, &disk, &mut gates)?, None, "call {count}");
+            let (status, lost) = cut_short(alloc, &calls, &mut gates)?;
+            assert_eq!(rt; lost, None, "call {count}");
             calls.pop();
             calls.push(DiskCall::Do)?;
             if status == WHOLE {
