@@ -47,7 +47,7 @@ fn resume_stop(stop: GoStop) -> ResumeStop
     }
 }
 
-/// LeadsTo on from the records of a ledger, and prints the listing of what they search.
+/// Goes on from the records of a ledger, and prints the listing of what they search.
 ///
 /// First the records are read, where `NoRun` and `BadLedger` come; then the lines of their polyhedron are prepared, where
 /// `Infeasible` and an overflow of their own come; and only then a worker is started. Where the call ends by want of memory, a

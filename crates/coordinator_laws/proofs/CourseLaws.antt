@@ -4,8 +4,10 @@ use Rattle.std.specs.List.{Contains}
 use Rattle.work_core.specs.Searches.{Search, meaning_of}
 use Rattle.search_laws.proofs.OnceLists.{one_key_or_not}
 use Rattle.job_text.specs.declared.reply.Reply.{Reply}
-use Rattle.job_text.specs.declared.reply.Tail.{Tail}
-use Rattle.job_text.specs.declared.reply.Tail.TheVariants.{End, Overflow, Memory}
+use Rattle.job_text.specs.declared.reply.Tail.TheVariants.{Overflow}
+use Rattle.job_text.specs.Rule.{IsReplyFor, Obeys}
+use Rattle.poly_model.specs.declared.overflow.Overflow.{Overflow as Passed}
+use Rattle.poly_model.specs.Overflows.{Passes}
 use Rattle.run_state.specs.KeyLists.{KnownKeys, are_new, holds}
 use Rattle.run_state.specs.Payloads.{AreReplies, AreShort, FitsIn, IsLedgerText, SaysEnd, first_keys, keys_after, keys_of}
 use Rattle.run_state.specs.Runs.{Run, first_run, run_of}
@@ -14,23 +16,26 @@ use Rattle.run_state.proofs.FollowLemmas.{ledger-join, run-join, run-keys, run-s
 use Rattle.run_state.proofs.KeyListLemmas.{holds_not, same_keys}
 use Rattle.run_state.proofs.LegalLaws.{honest_keys_are_new}
 use Rattle.run_state.proofs.MeaningLemmas.{one_ledger}
+use Rattle.coordinator_core.specs.declared.event.Event.{Event}
 use Rattle.coordinator_core.specs.declared.event.Event.TheVariants.{Answer, Lost}
 use Rattle.coordinator_core.specs.declared.verdict.Verdict.{Verdict}
 use Rattle.coordinator_core.specs.declared.verdict.Verdict.TheVariants.{Accepted, Stray, Loss, Ends}
-use Rattle.coordinator_core.specs.Machine.{Attempt, State, after, by_tail, judged, sent_at, verdict_at}
+use Rattle.coordinator_core.specs.Machine.{AreOptions, State, after, judged, sent_at, verdict_of}
+use Rattle.coordinator_core.specs.Events.{IsReplyTo}
 use Rattle.coordinator_core.specs.Traces.{Step, hands, collects, stepped, accepted}
 use Rattle.coordinator_core.proofs.AttemptLemmas.{keys_out-has, sent_at_place}
 use Rattle.coordinator_core.proofs.KeyCounts.{WaitsOnce, times, times-here, times-there, once-next, times_of, member_of}
 use Rattle.coordinator_core.proofs.SoundLemmas.{Sound, sound-start}
-use Rattle.workers_io.specs.History.{Happening, started, refused, replied, broken}
-use Rattle.coordinator_laws.specs.Courses.{AreToldAs, Course, IsCourse, accepted_texts, kept_text, payloads_added, replies_after, start_in}
-use Rattle.coordinator_laws.specs.Laws.{EventsKeepLegal, EventsKeepText, HonestIsAccepted, TracesTellTheRun}
+use Rattle.workers_io.specs.History.{Happening, StartedTexts, started, refused, replied, broken, IsAllowed, IsHonest, last_text}
+use Rattle.coordinator_laws.specs.Courses.{AreToldAs, Course, IsToldAsEvent, IsCourse, accepted_texts, kept_text, payloads_added, replies_after, start_in}
+use Rattle.coordinator_laws.specs.Laws.{EventsKeepLegal, EventsKeepText, HonestIsAccepted, HonestOverflowsPass, TracesTellTheRun}
 use Rattle.coordinator_laws.specs.Restarts.{FrontsAreLegal, MayLeave, RestartsKeepLegal}
 use Rattle.linear_laws.proofs.AllLemmas.{all_both, all_left}
 use Rattle.job_text.proofs.FirstPayloadLemmas.{root_text}
+use Rattle.coordinator_laws.proofs.AcceptedLemmas.{IsLegalState, due-accepted, ends-means}
 use Rattle.coordinator_laws.proofs.LedgerLemmas.{front_is_legal, legal-join}
 use Rattle.coordinator_laws.proofs.FollowLemmas.{runs-follow, sounds-follow, texts-follow}
-use Rattle.coordinator_laws.proofs.HonestLemmas.{HasJobTexts, knows-start, legal-follow}
+use Rattle.coordinator_laws.proofs.HonestLemmas.{HasJobTexts, Knows, honest-behind, honest-rule, knows-start, legal-follow}
 
 -- ---- where a call begins
 once-after : (n : ℕ) (keys : KnownKeys) (payloads : List (List ℕ)) (replies : List Reply) → ((k : List ℕ) → WaitsOnce keys.waiting keys.done k) →
@@ -54,10 +59,10 @@ sound_at_start c payloads t =
     (subst (λ (keys : KnownKeys). (k : List ℕ) → WaitsOnce keys.waiting keys.done k) (sym (run-keys (first_run c.search) c.replies))
     (once-after c.search.polyhedron.n (first_keys c.search) t.others c.replies (once-first c.search) t.are_replies))
 
-has_texts : (s : Search) (replies : List Reply) (payloads : List (List ℕ)) → IsLedgerText s replies payloads → HasJobTexts s
+pub has_texts : (s : Search) (replies : List Reply) (payloads : List (List ℕ)) → IsLedgerText s replies payloads → HasJobTexts s
 has_texts s replies payloads t = record { root = root_text s.work s.root t.is_first.root; file = t.is_first.file }
 
-same_search : (c : Course) → (start_in c).run.search ≡ c.search
+pub same_search : (c : Course) → (start_in c).run.search ≡ c.search
 same_search c = run-search (first_run c.search) c.replies
 
 -- ---- one call
@@ -83,39 +88,43 @@ traces_tell_the_run c m =
     runs-follow (start_in c) c.last c.steps m ∙ sym (run-join (first_run c.search) c.replies (accepted (start_in c) c.steps))
 
 -- ---- no clash
-tail-taken : (keys : KnownKeys) (r : Reply) (t : Tail) → SaysEnd t → are_new (keys.waiting ++ keys.done) r.keys ≡ true → by_tail keys r t ≡ Accepted
-tail-taken keys r (End count) i e = rw e refl
-tail-taken keys r (Overflow o) i e = absurd i
-tail-taken keys r Memory i e = absurd i
-
-taken-if : (run : Run) (r : Reply) (a : Attempt) → r.key ≡ a.key → a.is_out ≡ true → holds run.keys.done r.key ≡ false → SaysEnd r.tail →
-    are_new (run.keys.waiting ++ run.keys.done) r.keys ≡ true → verdict_at run r (Some a) ≡ Accepted
-taken-if run r a key out fresh ends new = rw (same_keys r.key a.key key) (rw out (rw fresh (tail-taken run.keys r r.tail ends new)))
-
--- the job of an attempt that is out waits, and is not done
-not-done : (s : State) (attempt : ℕ) (a : Attempt) → Sound s → sent_at s attempt ≡ Some a → a.is_out ≡ true →
-    (0 < times a.key s.run.keys.waiting) × (times a.key s.run.keys.done ≡ 0)
-not-done s attempt a h there out =
-    let here = keys_out-has s.sent (attempt - 1) a (sent_at_place s attempt a there).1 out in
-    let waits : 0 < times a.key s.run.keys.waiting = omega (arith, here, h.placed a.key) in
-    (waits, (h.once a.key).1 waits)
+-- where a course under honest workers has led
+pub legal_at : (c : Course) (payloads : List (List ℕ)) (starts : StartedTexts) → AreOptions c.options → IsCourse c → AreLegal c.search c.replies payloads →
+    IsHonest IsReplyFor starts c.happenings → IsLegalState c.search c.last
+legal_at c payloads starts o h legal honest = record {
+  sound = sounds-follow (start_in c) c.last c.steps (sound_at_start c payloads legal.is_text) h.trace;
+  replies = replies_after c;
+  payloads = payloads ++ payloads_added c;
+  legal = events_keep_legal c payloads starts o h legal honest;
+  run = traces_tell_the_run c h.trace;
+}
 
 pub honest_is_accepted : HonestIsAccepted
 honest_is_accepted c payloads starts o h legal honest attempt a r there out key ends splits =
-    let all = events_keep_legal c payloads starts o h legal honest in
-    let run : c.last.run ≡ run_of (first_run c.search) (replies_after c) = traces_tell_the_run c h.trace in
-    let keys : c.last.run.keys ≡ keys_of (first_keys c.search) (replies_after c) =
-    ap (λ (z : Run). z.keys) run ∙ run-keys (first_run c.search) (replies_after c) in
-    let sound = sounds-follow (start_in c) c.last c.steps (sound_at_start c payloads legal.is_text) h.trace in
-    let placed = not-done c.last attempt a sound there out in
-    let waits : 0 < times r.key c.last.run.keys.waiting = subst (λ (q : List ℕ). 0 < times q c.last.run.keys.waiting) (sym key) placed.0 in
-    let none : times r.key c.last.run.keys.done ≡ 0 = subst (λ (q : List ℕ). times q c.last.run.keys.done ≡ 0) (sym key) placed.1 in
-    let fits : FitsIn c.last.run.keys r = subst (λ (z : KnownKeys). FitsIn z r) (sym keys)
-    (honest_keys_are_new c.search (replies_after c) (payloads ++ payloads_added c) r all
-    (subst (λ (z : KnownKeys). Contains z.waiting r.key) keys (member_of c.last.run.keys.waiting r.key waits)) splits) in
-    let fresh : holds c.last.run.keys.done r.key ≡ false =
-    holds_not c.last.run.keys.done r.key (λ d. absurd (omega (arith, times_of c.last.run.keys.done r.key d, none))) in
-    rw there (taken-if c.last.run r a key out fresh ends fits.new_keys)
+    due-accepted c.search c.last (legal_at c payloads starts o h legal honest) attempt a r there out key ends splits
+
+-- ---- an overflow
+passes-at : (search : Search) (texts : HasJobTexts search) (starts : StartedTexts) (s : State) (e : Event) (h : Happening) (o : Passed) → Knows search texts starts s →
+    IsHonest IsReplyFor starts (h ∷ []) → IsToldAsEvent s e h → verdict_of s e ≡ Ends o → Passes search.polyhedron o
+passes-at search texts starts s (Answer a r) (replied b bytes) o k honest told ends =
+    let p = ends-means s.run r (sent_at s a) o ends in
+    let is : IsReplyTo s a bytes r = subst (λ (n : ℕ). IsReplyTo s n bytes r) (sym told.0) told.1 in
+    let allowed : IsAllowed IsReplyFor (last_text a starts) bytes = subst (λ (n : ℕ). IsAllowed IsReplyFor (last_text n starts) bytes) (sym told.0) honest.0 in
+    let t = p.attempt in
+    let rule : Obeys search t.key t.budget r.rows r.keys (Overflow o) =
+    subst (Obeys search t.key t.budget r.rows r.keys) p.tail (honest-rule search texts starts s a bytes r t k is p.there p.key allowed) in
+    rule.0
+passes-at search texts starts s (Answer a r) (broken b) o k honest told ends = let never : Answer a r ≡ Lost b = told in absurd cc
+passes-at search texts starts s (Answer a r) (started b text) o k honest told ends = absurd told
+passes-at search texts starts s (Answer a r) (refused b text) o k honest told ends = absurd told
+passes-at search texts starts s (Lost a) h o k honest told ends = absurd cc
+
+pub honest_overflows_pass : HonestOverflowsPass
+honest_overflows_pass c payloads starts e h o opts course text honest told ends =
+    let texts = has_texts c.search c.replies payloads text in
+    let behind = honest-behind c.search texts starts (start_in c) c.last c.steps c.happenings (h ∷ [])
+    (knows-start c.search texts starts (start_in c) opts (same_search c) refl) course.trace course.told_as honest in
+    passes-at c.search texts behind.starts c.last e h o behind.knows behind.honest told ends
 
 -- ---- calls one after the other
 pub fronts_are_legal : FrontsAreLegal

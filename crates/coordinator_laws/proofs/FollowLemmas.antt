@@ -28,7 +28,7 @@ pub run-handed : (s : State) (a : ℕ) (key : List ℕ) (budget : Budget) (began
 run-handed s a key budget true = refl
 run-handed s a key budget false = run-lost (handed s key budget) a (sent_at (handed s key budget) a)
 
-run-taken : (s : State) (a : ℕ) (r : Reply) (p : IsAccepted s r (sent_at s a)) → (recorded_at s a r (sent_at s a)).run ≡ run_after s.run r
+pub run-taken : (s : State) (a : ℕ) (r : Reply) (p : IsAccepted s r (sent_at s a)) → (recorded_at s a r (sent_at s a)).run ≡ run_after s.run r
 run-taken s a r p = rw p.there refl
 
 pub run-verdict : (s : State) (a : ℕ) (r : Reply) (v : Verdict) → judged s a r ≡ v → (by_verdict s (Answer a r) v).run ≡ run_of s.run (kept_reply (Answer a r) v)

@@ -36,7 +36,7 @@ pub record HasJobTexts (search : Search) : Type 0 where
   pub root : HasKeyText search.root
   pub file : IsOfItsText search.polyhedron
 
-obeys-end : (s : Search) (key : List ℕ) (budget : Budget) (rows : List Vector) (keys : List (List ℕ)) (t : Tail) → SaysEnd t → Obeys s key budget rows keys t →
+pub obeys-end : (s : Search) (key : List ℕ) (budget : Budget) (rows : List Vector) (keys : List (List ℕ)) (t : Tail) → SaysEnd t → Obeys s key budget rows keys t →
     Splits (meaning_of s) key rows keys
 obeys-end s key budget rows keys (End count) i o = o.0
 obeys-end s key budget rows keys (Overflow o') i o = absurd i
@@ -100,7 +100,7 @@ module _ (search : Search) (texts : HasJobTexts search) where
     agrees = agrees-handed starts s a key budget p.number (subst IsBudget (sym p.budgeted) (in_range s k.options)) k.agrees;
   }
 
-  knows-hands : (starts : StartedTexts) (s : State) (a : ℕ) (key : List ℕ) (budget : Budget) (began : Bool) → IsHand s a key budget → Knows starts s →
+  pub knows-hands : (starts : StartedTexts) (s : State) (a : ℕ) (key : List ℕ) (budget : Budget) (began : Bool) → IsHand s a key budget → Knows starts s →
       Knows ((a, text_for search key budget) ∷ starts) (stepped s (hands a key budget began))
   knows-hands starts s a key budget true p k = knows-handed starts s a key budget p k
   knows-hands starts s a key budget false p k =
@@ -111,7 +111,7 @@ module _ (search : Search) (texts : HasJobTexts search) where
   knows-taken starts s a r None e k = k
   knows-taken starts s a r (Some t) e k = record { options = k.options; search_is = k.search_is; agrees = agrees-ended starts s.sent (a - 1) t (sent_at_place s a t e).1 k.agrees }
 
-  knows-verdict : (starts : StartedTexts) (s : State) (a : ℕ) (r : Reply) (v : Verdict) → Knows starts s → Knows starts (by_verdict s (Answer a r) v)
+  pub knows-verdict : (starts : StartedTexts) (s : State) (a : ℕ) (r : Reply) (v : Verdict) → Knows starts s → Knows starts (by_verdict s (Answer a r) v)
   knows-verdict starts s a r Accepted k = knows-taken starts s a r (sent_at s a) refl k
   knows-verdict starts s a r Stray k = record { options = k.options; search_is = k.search_is; agrees = k.agrees }
   knows-verdict starts s a r Loss k = knows-lost starts s a (sent_at s a) refl k
@@ -121,10 +121,11 @@ module _ (search : Search) (texts : HasJobTexts search) where
   abbrev pub job_for : Attempt → Job
   job_for t = record { head = job_head_of search t.key t.budget; poly = search.polyhedron }
 
-  told-reply : (t : Attempt) (bytes reply : List ℕ) (r : Reply) → IsBudget t.budget → r.key ≡ t.key → length bytes < 2 ^ 64 →
-      IsWholeReply search.polyhedron.n r bytes → SaysEnd r.tail → IsReplyFor (Text t) reply → (rest : List ℕ) → reply ≡ bytes ++ rest →
-      IsLegalReply search r
-  told-reply t bytes reply r b key short whole ends allowed rest split =
+  -- a whole reply that begins an allowed one is that one, so it obeys its rule
+  pub told-rule : (t : Attempt) (bytes reply : List ℕ) (r : Reply) → IsBudget t.budget → r.key ≡ t.key → length bytes < 2 ^ 64 →
+      IsWholeReply search.polyhedron.n r bytes → IsReplyFor (Text t) reply → (rest : List ℕ) → reply ≡ bytes ++ rest →
+      Obeys search t.key t.budget r.rows r.keys r.tail
+  told-rule t bytes reply r b key short whole allowed rest split =
       let is = allowed (job_for t) (record {
         head = record { root = texts.root; key = subst HasKeyText key whole.key; budget = b };
         file = texts.file;
@@ -135,21 +136,35 @@ module _ (search : Search) (texts : HasJobTexts search) where
       let all : IsWholeReply n is.reply bytes =
       subst (IsWholeReply n is.reply) (split ∙ ap (λ (l : List ℕ). bytes ++ l) none ∙ append-nil bytes) is.whole in
       let one : is.reply ≡ r = one_reply n is.reply r bytes short all whole in
-      let rule : Obeys search t.key t.budget r.rows r.keys r.tail =
-      subst (λ (q : Reply). Obeys search t.key t.budget q.rows q.keys q.tail) one is.rule in
-      subst (λ (k : List ℕ). Splits (meaning_of search) k r.rows r.keys) (sym key) (obeys-end search t.key t.budget r.rows r.keys r.tail ends rule)
+      subst (λ (q : Reply). Obeys search t.key t.budget q.rows q.keys q.tail) one is.rule
+
+  -- what was started for an attempt is the text of its job
+  pub record IsStartedOn (starts : StartedTexts) (a : ℕ) (t : Attempt) : Type 0 where
+    pub at : last_text a starts ≡ Some (Text t)
+    pub budget : IsBudget t.budget
+
+  pub started_on : (starts : StartedTexts) (s : State) (a : ℕ) (t : Attempt) → Knows starts s → sent_at s a ≡ Some t → IsStartedOn starts a t
+  started_on starts s a t k there =
+      let place = sent_at_place s a t there in
+      let known = k.agrees.same (a - 1) t place.1 in
+      let number : a - 1 + 1 ≡ a = omega (arith, place.0) in
+      record { at = subst (λ (i : ℕ). last_text i starts ≡ Some (Text t)) number known.0; budget = known.1 }
+
+  -- a reply that came honestly for an attempt obeys the rule of its job
+  pub honest-rule : (starts : StartedTexts) (s : State) (a : ℕ) (bytes : List ℕ) (r : Reply) (t : Attempt) → Knows starts s → IsReplyTo s a bytes r →
+      sent_at s a ≡ Some t → r.key ≡ t.key → IsAllowed IsReplyFor (last_text a starts) bytes → Obeys search t.key t.budget r.rows r.keys r.tail
+  honest-rule starts s a bytes r t k is there key h =
+      let on = started_on starts s a t k there in
+      let told : IsAllowed IsReplyFor (Some (Text t)) bytes = subst (λ (o : Option (List ℕ)). IsAllowed IsReplyFor o bytes) on.at h in
+      let whole : IsWholeReply search.polyhedron.n r bytes = subst (λ (z : Search). IsWholeReply z.polyhedron.n r bytes) k.search_is is.whole in
+      told-rule t bytes told.0 r on.budget key is.short whole told.1 told.2 told.3
 
   honest-splits : (starts : StartedTexts) (s : State) (a : ℕ) (bytes : List ℕ) (r : Reply) → Knows starts s → IsReplyTo s a bytes r →
       IsAccepted s r (sent_at s a) → IsAllowed IsReplyFor (last_text a starts) bytes → IsLegalReply search r
   honest-splits starts s a bytes r k is p h =
       let t = p.attempt in
-      let place = sent_at_place s a t p.there in
-      let known = k.agrees.same (a - 1) t place.1 in
-      let number : a - 1 + 1 ≡ a = omega (arith, place.0) in
-      let at : last_text a starts ≡ Some (Text t) = subst (λ (i : ℕ). last_text i starts ≡ Some (Text t)) number known.0 in
-      let told : IsAllowed IsReplyFor (Some (Text t)) bytes = subst (λ (o : Option (List ℕ)). IsAllowed IsReplyFor o bytes) at h in
-      let whole : IsWholeReply search.polyhedron.n r bytes = subst (λ (z : Search). IsWholeReply z.polyhedron.n r bytes) k.search_is is.whole in
-      told-reply t bytes told.0 r known.1 p.key is.short whole p.ends told.1 told.2 told.3
+      subst (λ (key : List ℕ). Splits (meaning_of search) key r.rows r.keys) (sym p.key)
+      (obeys-end search t.key t.budget r.rows r.keys r.tail p.ends (honest-rule starts s a bytes r t k is p.there p.key h))
 
   legal-verdict : (starts : StartedTexts) (s : State) (a : ℕ) (bytes : List ℕ) (r : Reply) (v : Verdict) (replies : List Reply) → judged s a r ≡ v → Knows starts s →
       IsReplyTo s a bytes r → IsAllowed IsReplyFor (last_text a starts) bytes → AllByRecursion (IsLegalReply search) replies →
@@ -162,6 +177,39 @@ module _ (search : Search) (texts : HasJobTexts search) where
 
   abbrev pub Honestly : StartedTexts → List Happening → Type 0
   Honestly starts hs = IsHonest IsReplyFor starts hs
+
+  -- what comes behind a trace, honestly too
+  pub record IsHonestBehind (s : State) (more : List Happening) : Type 0 where
+    pub starts : StartedTexts
+    pub knows : Knows starts s
+    pub honest : Honestly starts more
+
+  pub honest-behind : (starts : StartedTexts) (s t : State) (steps : List Step) (hs more : List Happening) → Knows starts s → Trace s steps t →
+      AreToldAs s steps hs → Honestly starts (hs ++ more) → IsHonestBehind t more
+  honest-behind starts s t [] [] more k m told h = record { starts = starts; knows = subst (Knows starts) (sym m) k; honest = h }
+  honest-behind starts s t [] (x ∷ hs) more k m told h = absurd told
+  honest-behind starts s t (step ∷ steps) [] more k m told h = absurd told
+  honest-behind starts s t (hands a key budget true ∷ steps) (x ∷ hs) more k m told h =
+      let p = hand-means s a key budget m.0 in
+      let q : x ≡ started a (text_for search key budget) = told.0 ∙ ap (λ (z : Search). started a (text_for z key budget)) k.search_is in
+      honest-behind ((a, text_for search key budget) ∷ starts) (handed s key budget) t steps hs more (knows-handed starts s a key budget p k) m.1 told.1
+      (subst (λ (z : Happening). Honestly starts (z ∷ (hs ++ more))) q h)
+  honest-behind starts s t (hands a key budget false ∷ steps) (x ∷ hs) more k m told h =
+      let p = hand-means s a key budget m.0 in
+      let q : x ≡ refused a (text_for search key budget) = told.0 ∙ ap (λ (z : Search). refused a (text_for z key budget)) k.search_is in
+      honest-behind ((a, text_for search key budget) ∷ starts) (stepped s (hands a key budget false)) t steps hs more (knows-hands starts s a key budget false p k) m.1 told.1
+      (subst (λ (z : Happening). Honestly starts (z ∷ (hs ++ more))) q h)
+  honest-behind starts s t (collects (Answer a r) ∷ steps) (replied b bytes ∷ hs) more k m told h =
+      honest-behind starts (after s (Answer a r)) t steps hs more (knows-verdict starts s a r (judged s a r) k) m.1 told.1 h.1
+  honest-behind starts s t (collects (Answer a r) ∷ steps) (broken b ∷ hs) more k m told h = let never : Answer a r ≡ Lost b = told.0 in absurd cc
+  honest-behind starts s t (collects (Answer a r) ∷ steps) (started b text ∷ hs) more k m told h = absurd told.0
+  honest-behind starts s t (collects (Answer a r) ∷ steps) (refused b text ∷ hs) more k m told h = absurd told.0
+  honest-behind starts s t (collects (Lost a) ∷ steps) (replied b bytes ∷ hs) more k m told h =
+      honest-behind starts (after s (Lost a)) t steps hs more (knows-lost starts s a (sent_at s a) refl k) m.1 told.1 h.1
+  honest-behind starts s t (collects (Lost a) ∷ steps) (broken b ∷ hs) more k m told h =
+      honest-behind starts (after s (Lost a)) t steps hs more (knows-lost starts s a (sent_at s a) refl k) m.1 told.1 h
+  honest-behind starts s t (collects (Lost a) ∷ steps) (started b text ∷ hs) more k m told h = absurd told.0
+  honest-behind starts s t (collects (Lost a) ∷ steps) (refused b text ∷ hs) more k m told h = absurd told.0
 
   -- the replies that a trace accepts are legal
   pub legal-follow : (starts : StartedTexts) (s t : State) (steps : List Step) (hs : List Happening) → Knows starts s → Trace s steps t → AreToldAs s steps hs →

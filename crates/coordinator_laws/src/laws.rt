@@ -1,6 +1,7 @@
 //! Laws of the machine and its records: functions with an empty body.
 ghost use Rattle.coordinator_laws.specs.Ends.{CoursesEnd, NoneWaitsAtFinish, StepsLower};
-ghost use Rattle.coordinator_laws.specs.Laws.{EventsKeepLegal, EventsKeepText, HonestIsAccepted, TracesTellTheRun};
+ghost use Rattle.coordinator_laws.specs.Answered.{AnsweredLoseNothing};
+ghost use Rattle.coordinator_laws.specs.Laws.{EventsKeepLegal, EventsKeepText, HonestIsAccepted, HonestOverflowsPass, TracesTellTheRun};
 ghost use Rattle.coordinator_laws.specs.Restarts.{FrontsAreLegal, RestartsKeepLegal};
 
 /// Whatever the workers gave, the records stay a ledger text.
@@ -21,6 +22,16 @@ pub fn events_keep_legal()
 /// Honest workers cause no clash: an honest whole reply that ends in `end`, to an attempt that is out, is accepted.
 pub fn honest_is_accepted()
     ensures { HonestIsAccepted }
+{}
+
+/// Under honest workers a product passes where a reply ends the call by an overflow.
+pub fn honest_overflows_pass()
+    ensures { HonestOverflowsPass }
+{}
+
+/// Where each attempt is answered in full, a call that goes on from legal records loses nothing.
+pub fn answered_lose_nothing()
+    ensures { AnsweredLoseNothing }
 {}
 
 /// A front of legal records that is not empty is legal.

@@ -1,5 +1,7 @@
 -- The answer of `convert` to a text that describes no polyhedron.
 use Rattle.std.proofs.Common.{◌≡◌, subst}
+use Rattle.poly_model.specs.declared.overflow.Overflow.{Overflow as Passed}
+use Rattle.convert_core.specs.Listed.{IsDueInSearch}
 use Rattle.poly_reader.specs.declared.bad.BadFile.{BadFile as Fault}
 use Rattle.lrs_cli.specs.declared.status.Status.TheVariants.{BadFile}
 use Rattle.lrs_cli.specs.Answers.{WhereTold, IsBadFile}
@@ -26,5 +28,5 @@ answers_bad_file before after Unwritten unwritten writes f reads bad = record {
   write_fault = λ e. absurd (cc);
   writes = λ n. writes;
   unwritten = λ w. unwritten;
-  complete = λ known n m. absurd (not_bad before.left known f bad);
+  complete = λ known n m. absurd (not_bad (λ p. (o : Passed) → IsDueInSearch p o → ⊥) before.left known f bad);
 }

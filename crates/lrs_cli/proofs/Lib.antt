@@ -10,6 +10,7 @@ pub mod ListingLemmas
 pub mod SearchLemmas
 pub mod FileLemmas
 pub mod RunThrough
+pub mod RunComplete
 pub mod RunHeadline
 pub mod RecordedLemmas
 pub mod ResumeThrough

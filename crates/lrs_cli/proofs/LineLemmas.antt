@@ -1,5 +1,5 @@
 -- The answer to words: that to the line that they ask for, or why there is none.
-use Rattle.std.proofs.Common.{◌≡◌, ◌+◌, inl, ℕ, List, [], Option, refl, arith}
+use Rattle.std.proofs.Common.{◌≡◌, ◌+◌, inl, inr, ℕ, List, [], Option, refl, arith}
 use Rattle.std.proofs.KnownBytes.{Consumes-nil}
 use Rattle.command_line.specs.declared.lines.Line.{Line}
 use Rattle.command_line.specs.declared.lines.Line.TheVariants as lines
@@ -68,7 +68,9 @@ module _ {D W : Type 0} (disk : Disk D) (workers : Workers W) (only_now : (d : D
     lists = λ rows lines e. absurd (cc);
     leaves = λ t f told. where_all before.left (IsLeftByRun disk here.disk here.disk) (λ text. inl still);
     part = λ t. inl unwritten;
+    overflow = λ o e. absurd (cc);
     texts = λ f told. weaker disk.moment disk.since here.disk here.disk _ _ still (λ c i. inl i);
+    complete = λ known fresh answered n m k. inr tt;
     runs = record {
       comes = inl (tt, refl, unwritten);
       reads = none_rose _ OutOfMemory before.read_faults (λ e. cc);
@@ -83,7 +85,9 @@ module _ {D W : Type 0} (disk : Disk D) (workers : Workers W) (only_now : (d : D
     lists = λ records some images t rows lines e. absurd (cc);
     leaves = λ records some images t f told. weaker disk.moment disk.since here.disk here.disk _ _ still (λ c i. inl i);
     part = λ records some images t. inl unwritten;
+    overflow = λ records some images t o e. absurd (cc);
     texts = λ f told. weaker disk.moment disk.since here.disk here.disk _ _ still (λ c i. inl i);
+    complete = λ records images opened whole answered n m. tt;
     comes = record { goes = inl (refl, still); prints = inl unwritten; ends = tt; idle = λ f told r none. refl; honest = λ h. h };
     writes = none_rose _ OutOfMemory before.write_faults (λ e. cc);
     disk_calls = no_fault;

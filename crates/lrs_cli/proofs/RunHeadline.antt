@@ -1,6 +1,9 @@
 -- The headline of `run`: what was printed and left, where the workers are trusted.
 use Rattle.std.proofs.Common.{ℕ, List, ◌≡◌, ◌⊎◌, inl, inr, [], ◌∷◌, sym, subst, Option, Some, None}
 use Rattle.work_core.specs.Searches.{Search}
+use Rattle.poly_io.specs.Causes.{Rose}
+use Rattle.poly_model.specs.declared.overflow.Overflow.{Overflow as Passed}
+use Rattle.poly_model.specs.Overflows.{Passes}
 use Rattle.disk_core.specs.declared.disk.Disk.{Ghosts as Disk}
 use Rattle.disk_core.specs.Contents.{Told}
 use Rattle.disk_core.specs.Moments.{LeavesOnly}
@@ -12,16 +15,18 @@ use Rattle.workers_io.specs.History.{Happening, IsHonest}
 use Rattle.coordinator_core.specs.declared.options.Options.{Options}
 use Rattle.coordinator_core.specs.Machine.{AreOptions}
 use Rattle.coordinator.specs.Leaving.{HasFront}
-use Rattle.run_laws.specs.Laws.{IsHonestCall, IsLedgerFile}
+use Rattle.run_laws.specs.Laws.{IsHonestCall, IsLedgerFile, TellsFullAnswers}
+use Rattle.run_laws.proofs.EndingLaws.{overflows_pass}
 use Rattle.run_laws.proofs.RunLaws.{first_record_is_legal, fronts_stay_legal, fronts_stay_text}
 use Rattle.lrs_cli.specs.declared.status.Status.{Status}
-use Rattle.lrs_cli.specs.declared.status.Status.TheVariants.{Done}
-use Rattle.lrs_cli.specs.Answers.{WhereTold, IsListed, IsPartlyListed, WritesPart, WritesWhole}
-use Rattle.lrs_cli.specs.Ledgers.{AreTrusted, GoesOnFrom, Resources}
-use Rattle.lrs_cli.specs.Run.{AnswersRun, EndsSearch, IsLeftByRun, IsTextOf, MaySearch, RefusesFile, RunsFile, RunsSearch}
+use Rattle.lrs_cli.specs.declared.status.Status.TheVariants.{Done, Infeasible, Overflow}
+use Rattle.lrs_cli.specs.Answers.{Describes, IsListed, IsPartlyListed, Knows, NothingPasses, WhereTold, WritesPart, WritesWhole}
+use Rattle.lrs_cli.specs.Ledgers.{AreTrusted, ComesToItsEnd, GoesOnFrom, Resources}
+use Rattle.lrs_cli.specs.Run.{AnswersRun, EndsSearch, IsDueBeforeSearch, IsLeftByRun, IsTextOf, MaySearch, RefusesFile, RunsFile, RunsSearch}
 use Rattle.lrs_cli.specs.Streams.{Streams}
 use Rattle.lrs_cli.proofs.FaultLemmas.{described}
 use Rattle.lrs_cli.proofs.ListingLemmas.{are_short, lists_part, lists_whole}
+use Rattle.lrs_cli.proofs.RunComplete.{passes_before, refused_ends, search_ends}
 use Rattle.lrs_cli.proofs.TrustLemmas.{tells_honestly}
 
 where_also : (left : Option (List ℕ)) (P Q : List ℕ → Type 0) → ((text : List ℕ) → P text → Q text) → WhereTold left P → WhereTold left Q
@@ -61,6 +66,14 @@ module _ {D W : Type 0} (disk : Disk D) (workers : Workers W)
       | inr p ↦ inr (λ f told. lists_part options s [] (first_payload s ∷ []) p.0 _ _ honest_call p.1
           (are_short (first_payload s ∷ p.0) (p.2 f told).has.short) written now (p.3 f told))
     ]
+
+    passes : (o : Passed) → answer ≡ Overflow o → Passes s.polyhedron o
+    passes o e =
+        let d = subst (EndsSearch disk workers options limit s old new written now Unwritten) e run.ends in
+        elim d.1 [
+          | inl own ↦ own.0.passes
+          | inr told ↦ overflows_pass options s [] (first_payload s ∷ []) told.0 _ _ o honest_call told.1
+        ]
 
     legal_fronts : (texts : List (List ℕ)) (c : List ℕ) → ((file : List ℕ) → HasFront (first_payload s ∷ []) texts file → GoesOnFrom (first_payload s ∷ []) file) →
         disk.images old.disk c ⊎ (HasNoRun c ⊎ HasFront (first_payload s ∷ []) texts c) →
@@ -134,5 +147,21 @@ module _ {D W : Type 0} (disk : Disk D) (workers : Workers W)
       | inr r ↦ texts_of r.0 r.1 before.written after.written Unwritten answer r.4 f told
     ]
 
+    overflow : (o : Passed) → answer ≡ Overflow o → AreTrusted workers old.workers new.workers → WhereTold before.left (Describes (λ p. Passes p o))
+    overflow o e t = elim runs.comes [
+      | inl r ↦ where_also before.left (Describes (λ p. IsDueBeforeSearch p o)) (Describes (λ p. Passes p o))
+          (λ text d. record { polyhedron = d.polyhedron; read = d.read; holds = passes_before d.polyhedron o d.holds }) (subst (RefusesFile before.left) e r.0)
+      | inr r ↦ described (λ p. Passes p o) r.0.polyhedron before.left r.2 (passes r.0 r.1 before.written after.written Unwritten answer r.4 t o e)
+    ]
+
+    complete : Knows before.left (Describes NothingPasses) → Knows (disk.seen old.disk) HasNoRun →
+        TellsFullAnswers (workers.history old.workers) (workers.history new.workers) → ¬ (Rose before.read_faults after.read_faults) →
+        ¬ (Rose before.write_faults after.write_faults) → ¬ (Rose (disk.faults old.disk) (disk.faults new.disk)) → (answer ≡ Infeasible) ⊎ ComesToItsEnd answer
+    complete known fresh answered n m k = elim runs.comes [
+      | inl r ↦ refused_ends before.left known answer r.0 (λ e. n (runs.reads.failed e))
+      | inr r ↦ search_ends before.left known disk workers options in_range limit old new fresh answered r.0 r.1 r.2 before.written after.written Unwritten answer r.4.ends
+          (λ e. m (runs.writes.failed e)) (λ e. k (runs.disk_calls.failed e))
+    ]
+
     pub answers_run : AnswersRun disk workers options limit old new before after Unwritten answer
-    answers_run = record { lists = lists; leaves = leaves; part = part; texts = texts; runs = runs }
+    answers_run = record { lists = lists; leaves = leaves; part = part; overflow = overflow; texts = texts; complete = complete; runs = runs }

@@ -4,6 +4,7 @@ use Rattle.std.specs.Io.KnownBytes.{Appends}
 use Rattle.poly_model.specs.declared.overflow.Overflow.{Overflow as Passed}
 use Rattle.poly_model.specs.Systems.{Polyhedron, cone_of}
 use Rattle.poly_model.specs.Extreme.{IsFeasible}
+use Rattle.poly_model.specs.Overflows.{Passes}
 use Rattle.poly_model.specs.Listing.{IsListing}
 use Rattle.poly_io.specs.Written.{AppendsPart}
 use Rattle.poly_reader.specs.declared.bad.BadFile.{BadFile as Fault}
@@ -76,6 +77,10 @@ Ends _ = ⊥
 -- the text describes a polyhedron, and of no pivot that its search cannot do without a product passes
 abbrev pub HasNoObstacle : List ℕ → Type 0
 HasNoObstacle text = Describes (λ p. (o : Passed) → IsDueInSearch p o → ⊥) text
+
+-- no product of the polyhedron passes
+abbrev pub NothingPasses : Polyhedron → Type 0
+NothingPasses p = (o : Passed) → Passes p o → ⊥
 
 -- the answers that come once a polyhedron was read
 abbrev pub ComesOfPolyhedron : Status → Type 0

@@ -15,7 +15,7 @@ use Rattle.run_state.specs.Payloads.{IsLedgerText}
 use Rattle.workers_io.specs.declared.workers.Workers.{Ghosts as Workers}
 use Rattle.run_ledger.specs.Printing.{IsCountedRunListing, IsRunListing}
 use Rattle.lrs_cli.specs.declared.status.Status.{Status}
-use Rattle.lrs_cli.specs.declared.status.Status.TheVariants.{WriteFault, DiskFault}
+use Rattle.lrs_cli.specs.declared.status.Status.TheVariants.{Done, WriteFault, DiskFault, LedgerLimit, OutOfMemory}
 
 -- the disk of a ledger, and workers, at a moment
 pub record Resources (D W : Type 0) : Type 0 where
@@ -85,3 +85,11 @@ pub record WritesRecordsPart (s : Search) (records : List (List ℕ)) (old new :
   pub text : List ℕ
   pub is_listing : IsRunListing s replies text
   pub written : AppendsPart old new text
+
+-- ---- how a call ends where nothing is in its way
+-- at its end, or for want of room in the ledger or of memory
+abbrev pub ComesToItsEnd : Status → Type 0
+ComesToItsEnd (Done rows lines) = Unit {0}
+ComesToItsEnd (LedgerLimit need most) = Unit {0}
+ComesToItsEnd OutOfMemory = Unit {0}
+ComesToItsEnd _ = ⊥

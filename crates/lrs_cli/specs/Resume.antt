@@ -1,12 +1,15 @@
 -- What `resume` answers, and what it has then printed and left.
 use Rattle.std.specs.Prelude.{◌≡◌, ◌⊎◌, ◌<◌, ⊤, ℕ, List, [], ◌++◌, length, Option, Some}
+use Rattle.poly_io.specs.Causes.{Rose}
+use Rattle.poly_model.specs.declared.overflow.Overflow.{Overflow as Passed}
 use Rattle.poly_model.specs.Due.{IsDue, IsAskedBefore}
 use Rattle.poly_model.specs.Equations.{AreConsistent}
+use Rattle.poly_model.specs.Overflows.{Passes}
 use Rattle.disk_core.specs.declared.disk.Disk.{Ghosts as Disk}
 use Rattle.disk_core.specs.Contents.{Told}
 use Rattle.disk_core.specs.Moments.{LeavesOnly}
 use Rattle.job_ledger.specs.Ledgers.{new_ledger}
-use Rattle.job_ledger.specs.Records.{HasNoRun}
+use Rattle.job_ledger.specs.Records.{HasNoRun, IsOpen}
 use Rattle.run_ledger.specs.Recorded.{IsBadLedger}
 use Rattle.workers_io.specs.declared.workers.Workers.{Ghosts as Workers}
 use Rattle.workers_io.specs.History.{Happening}
@@ -15,11 +18,11 @@ use Rattle.coordinator.specs.Calls.{RecordedRun, state_at}
 use Rattle.coordinator.specs.Ending.{Rests}
 use Rattle.coordinator.specs.Following.{EndsBy, Finishes, GivesUp, LeadsSomewhere}
 use Rattle.coordinator.specs.Leaving.{HasFront, IsRefusedBy}
-use Rattle.run_laws.specs.Laws.{IsLedgerFile}
+use Rattle.run_laws.specs.Laws.{IsLedgerFile, TellsFullAnswers}
 use Rattle.lrs_cli.specs.declared.status.Status.{Status}
 use Rattle.lrs_cli.specs.declared.status.Status.TheVariants.{Done, Usage, BadFile, BadJob, Infeasible, Overflow, ReadFault, WriteFault, DiskFault, Lost, NoRun, HasRun, BadLedger, LedgerLimit, OutOfMemory}
-use Rattle.lrs_cli.specs.Answers.{WritesPart, WritesWhole}
-use Rattle.lrs_cli.specs.Ledgers.{AllGoOnFrom, AreTrusted, DiskRose, GoesOnFrom, Resources, RoseAt, TellsOf, WritesRecords, WritesRecordsPart}
+use Rattle.lrs_cli.specs.Answers.{Knows, NothingPasses, WritesPart, WritesWhole}
+use Rattle.lrs_cli.specs.Ledgers.{AllGoOnFrom, AreTrusted, ComesToItsEnd, DiskRose, GoesOnFrom, Resources, RoseAt, TellsOf, WritesRecords, WritesRecordsPart}
 
 module _ {D W : Type 0} (disk : Disk D) (workers : Workers W) (options : Options) (limit : ℕ) (old new : Resources D W) where
   -- the records of the file
@@ -120,9 +123,19 @@ module _ {D W : Type 0} (disk : Disk D) (workers : Workers W) (options : Options
     pub part : (records : List (List ℕ)) → 0 < length records → AllGoOnFrom records (disk.images old.disk) →
         AreTrusted workers old.workers new.workers →
         Unwritten ⊎ Told (disk.seen old.disk) (λ f. TellsOf (WritesPart written now) records)
+    -- an overflow: of the polyhedron that these tell a product passes
+    pub overflow : (records : List (List ℕ)) → 0 < length records → AllGoOnFrom records (disk.images old.disk) →
+        AreTrusted workers old.workers new.workers → (o : Passed) → answer ≡ Overflow o →
+        Told (disk.seen old.disk) (λ f. TellsOf (λ p. Passes p o) records)
     -- whatever the workers gave: no image since then is a bad ledger that was not there before
     pub texts : Told (disk.seen old.disk) (λ f. LeavesOnly disk.moment disk.since old.disk new.disk
         (λ c. disk.images old.disk c ⊎ IsLedgerFile c))
+    -- where a run is there, no product of the polyhedron that these tell passes, each attempt is answered in full and nothing
+    -- fails: the call comes to its end
+    pub complete : (records : List (List ℕ)) → AllGoOnFrom records (disk.images old.disk) →
+        Knows (disk.seen old.disk) IsOpen → TellsOf NothingPasses records →
+        TellsFullAnswers (workers.history old.workers) (workers.history new.workers) → ¬ (Rose faults faults') →
+        ¬ (Rose (disk.faults old.disk) (disk.faults new.disk)) → ComesToItsEnd answer
     pub comes : GoesOn written now Unwritten answer
     -- a write failed exactly where the answer says so, a call of the disk nowhere else
     pub writes : RoseAt WriteFault answer faults faults'

@@ -1,10 +1,12 @@
 -- What `run` answers, and what it has then printed and left.
 use Rattle.std.specs.Prelude.{◌≡◌, ◌⊎◌, ⊤, ℕ, List, [], ◌∷◌, Option, Some}
 use Rattle.std.specs.Io.KnownBytes.{IsAtEnd}
+use Rattle.poly_io.specs.Causes.{Rose}
 use Rattle.poly_model.specs.declared.overflow.Overflow.{Overflow as Passed}
 use Rattle.poly_model.specs.declared.kind.WorkKind.TheVariants.{Subtrees}
 use Rattle.poly_model.specs.Due.{IsDue, IsAskedBefore, IsAskedInFirst}
 use Rattle.poly_model.specs.Extreme.{IsFeasible}
+use Rattle.poly_model.specs.Overflows.{Passes}
 use Rattle.poly_model.specs.Systems.{Polyhedron, cone_of}
 use Rattle.poly_reader.specs.Reading.{IsFileOf}
 use Rattle.work_core.specs.Searches.{MayBegin, Search}
@@ -22,11 +24,11 @@ use Rattle.coordinator.specs.Calls.{state_after}
 use Rattle.coordinator.specs.Ending.{Rests}
 use Rattle.coordinator.specs.Following.{EndsBy, Finishes, GivesUp, LeadsSomewhere}
 use Rattle.coordinator.specs.Leaving.{HasFront, IsRefusedBy}
-use Rattle.run_laws.specs.Laws.{IsLedgerFile}
+use Rattle.run_laws.specs.Laws.{IsLedgerFile, TellsFullAnswers}
 use Rattle.lrs_cli.specs.declared.status.Status.{Status}
 use Rattle.lrs_cli.specs.declared.status.Status.TheVariants.{Done, Usage, BadFile, BadJob, Infeasible, Overflow, ReadFault, WriteFault, DiskFault, Lost, NoRun, HasRun, BadLedger, LedgerLimit, OutOfMemory}
-use Rattle.lrs_cli.specs.Answers.{WhereTold, Describes, IsBadFile, IsInfeasibleFile, IsListed, IsPartlyListed}
-use Rattle.lrs_cli.specs.Ledgers.{AreTrusted, DiskRose, GoesOnFrom, Resources, RoseAt, WritesRecords, WritesRecordsPart}
+use Rattle.lrs_cli.specs.Answers.{Describes, IsBadFile, IsInfeasibleFile, IsListed, IsPartlyListed, Knows, NothingPasses, WhereTold}
+use Rattle.lrs_cli.specs.Ledgers.{AreTrusted, ComesToItsEnd, DiskRose, GoesOnFrom, Resources, RoseAt, WritesRecords, WritesRecordsPart}
 use Rattle.lrs_cli.specs.Streams.{Streams}
 
 -- a search that a new run may do: by subtrees of a polyhedron with a point, from a root at which it may begin
@@ -166,7 +168,16 @@ module _ {D W : Type 0} (disk : Disk D) (workers : Workers W) (options : Options
     -- whatever the answer: nothing was written, or the beginning of the listing
     pub part : AreTrusted workers old.workers new.workers → Unwritten
         ⊎ Told (disk.seen old.disk) (λ f. WhereTold before.left (IsPartlyListed before.written after.written))
+    -- an overflow: of the polyhedron that the text describes a product passes
+    pub overflow : (o : Passed) → answer ≡ Overflow o → AreTrusted workers old.workers new.workers →
+        WhereTold before.left (Describes (λ p. Passes p o))
     -- whatever the workers gave: no image since then is a bad ledger that was not there before
     pub texts : Told (disk.seen old.disk) (λ f. LeavesOnly disk.moment disk.since old.disk new.disk
         (λ c. disk.images old.disk c ⊎ (HasNoRun c ⊎ IsLedgerFile c)))
+    -- of a text that describes a polyhedron of which no product passes, in a file without a run, where each attempt is
+    -- answered in full and nothing fails: infeasible, or the call comes to its end
+    pub complete : Knows before.left (Describes NothingPasses) → Knows (disk.seen old.disk) HasNoRun →
+        TellsFullAnswers (workers.history old.workers) (workers.history new.workers) →
+        ¬ (Rose before.read_faults after.read_faults) → ¬ (Rose before.write_faults after.write_faults) →
+        ¬ (Rose (disk.faults old.disk) (disk.faults new.disk)) → (answer ≡ Infeasible) ⊎ ComesToItsEnd answer
     pub runs : RunsFile answer

@@ -1,6 +1,7 @@
 //! The program `lrs`: vertex and facet enumeration.
 #![tactic(auto)]
 
+mod chain;
 mod convert;
 mod demo;
 mod devices;
@@ -22,6 +23,7 @@ use devices::Devices;
 use disk_core::FileDisk;
 use poly_io::{StdinSource, StdoutSink};
 use process::respond;
+use std::alloc::{AllocError, Global};
 use std::io::ErrorKind;
 use std::path::PathBuf;
 use std::process::ExitCode;
@@ -30,10 +32,13 @@ use workers_io::ChildWorkers;
 /// This program, as its children start it: also where its file has a new name by then.
 const SELF: &str = "/proc/self/exe";
 
+/// The folder for files that live no longer than this process, where the environment names none.
+const FOLDER: &str = "/tmp";
+
 fn main(rt: HostRuntime) -> ExitCode {
-    let (program, arguments) = match PathBuf::from_str(rt.alloc(), SELF) {
-        Ok(program) => (program, arguments(&rt)),
-        Err(_) => (PathBuf::new(rt.alloc()), Err(LineStop::Memory)),
+    let (places, arguments) = match find_places(&rt) {
+        Ok(places) => (places, arguments(&rt)),
+        Err(_) => (Places::none(rt.alloc()), Err(LineStop::Memory)),
     };
     let disk = if only_reads(&arguments) {
         FileDisk::reader(&rt)
@@ -43,12 +48,41 @@ fn main(rt: HostRuntime) -> ExitCode {
     let mut devices = Devices {
         input: StdinSource::new(rt.stdin()),
         disk,
-        workers: ChildWorkers::new(&rt, rt.alloc(), program, &["job"]),
+        workers: ChildWorkers::new(&rt, rt.alloc(), places.program, &["job"], places.folder),
     };
     let out = StdoutSink::new(rt.stdout());
     let mut errors = StdoutSink::new(rt.stderr());
     let (number, _) = respond(rt.alloc(), arguments, &mut devices, out, &mut errors);
     ExitCode::from(number)
+}
+
+/// Where the children of this process find their program, and where their replies are gathered.
+#[derive(Drop)]
+struct Places {
+    program: PathBuf,
+    folder: PathBuf,
+}
+
+impl Places {
+    // No places, for a process that starts none.
+    fn none(alloc: Global) -> Places {
+        Places {
+            program: PathBuf::new(alloc),
+            folder: PathBuf::new(alloc),
+        }
+    }
+}
+
+// This program, and the folder that the environment names for such files.
+fn find_places(rt: &HostRuntime) -> Result<Places, AllocError> {
+    let folder = match std::env::temp_dir(rt) {
+        Ok(folder) => folder,
+        Err(_) => PathBuf::from_str(rt.alloc(), FOLDER)?,
+    };
+    Ok(Places {
+        program: PathBuf::from_str(rt.alloc(), SELF)?,
+        folder,
+    })
 }
 
 // Whether the first word is `status`: of the commands on a ledger that one alone only reads it, so that it takes no lock.

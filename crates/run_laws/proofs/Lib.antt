@@ -1,2 +1,3 @@
 pub mod HonestCalls
 pub mod RunLaws
+pub mod EndingLaws

@@ -33,10 +33,10 @@ use Rattle.run_laws.proofs.HonestCalls.{of_call, of_earlier}
 
 -- ---- the course of a call
 module _ (options : Options) (s : Search) (replies : List Reply) where
-  abbrev course_of : (last : State) (old new : Option (List Happening)) (texts : List (List ℕ)) → LeadsTo (state_after options s replies) last old new texts → Course
+  abbrev pub course_of : (last : State) (old new : Option (List Happening)) (texts : List (List ℕ)) → LeadsTo (state_after options s replies) last old new texts → Course
   course_of last old new texts g = record { options = options; search = s; replies = replies; steps = g.steps; happenings = g.happenings; last = last }
 
-  is_course : (last : State) (old new : Option (List Happening)) (texts : List (List ℕ)) (g : LeadsTo (state_after options s replies) last old new texts) → IsCourse (course_of last old new texts g)
+  pub is_course : (last : State) (old new : Option (List Happening)) (texts : List (List ℕ)) (g : LeadsTo (state_after options s replies) last old new texts) → IsCourse (course_of last old new texts g)
   is_course last old new texts g = record { trace = g.trace; told_as = g.told_as }
 
   -- its records are legal

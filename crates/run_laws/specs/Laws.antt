@@ -1,6 +1,8 @@
 -- What a call that runs a work has printed and left, where its workers are honest and its records were legal.
-use Rattle.std.specs.Prelude.{ℕ, List, [], ◌∷◌, ◌++◌, Option, Some, None}
+use Rattle.std.specs.Prelude.{◌≡◌, ℕ, List, [], ◌∷◌, ◌++◌, Option, Some, None}
 use Rattle.poly_model.specs.declared.listed.Listed.{Listed}
+use Rattle.poly_model.specs.declared.overflow.Overflow.{Overflow as Passed}
+use Rattle.poly_model.specs.Overflows.{Passes}
 use Rattle.poly_model.specs.Systems.{cone_of}
 use Rattle.poly_model.specs.Extreme.{IsFeasible}
 use Rattle.row_printer.specs.Listings.{IsCountedListing}
@@ -14,9 +16,10 @@ use Rattle.run_state.specs.Legal.{AreLegal, IsLegal}
 use Rattle.workers_io.specs.History.{Happening, IsHonest}
 use Rattle.coordinator_core.specs.declared.options.Options.{Options}
 use Rattle.coordinator_core.specs.Machine.{AreOptions}
+use Rattle.coordinator_laws.specs.Answered.{AreAnswered}
 use Rattle.run_ledger.specs.Printing.{IsCountedRunListing}
 use Rattle.coordinator.specs.Calls.{state_after}
-use Rattle.coordinator.specs.Following.{Finishes, LeadsSomewhere}
+use Rattle.coordinator.specs.Following.{EndsBy, Finishes, GivesUp, LeadsSomewhere}
 use Rattle.coordinator.specs.Leaving.{HasFront}
 
 -- the records of a file are a ledger text
@@ -38,7 +41,39 @@ pub record IsHonestCall (options : Options) (s : Search) (replies : List Reply) 
   pub legal : AreLegal s replies payloads
   pub honest : TellsHonestly told
 
--- where such a call finishes, what its records list is the listing of the polyhedron
+-- where such a call is ended by an overflow that a reply tells, a product passes
+abbrev pub OverflowsPass : Type 0
+OverflowsPass =
+    (options : Options) (s : Search) (replies : List Reply) (payloads texts : List (List ℕ)) (old new : Option (List Happening)) (o : Passed) →
+    IsHonestCall options s replies payloads new → EndsBy (state_after options s replies) o old new texts → Passes s.polyhedron o
+
+-- the workers tell all that they did in a call, and each attempt was answered in full
+pub record TellsFullAnswers (old new : Option (List Happening)) : Type 0 where
+  pub before : List Happening
+  pub happenings : List Happening
+  pub at_entry : old ≡ Some before
+  pub at_exit : new ≡ Some (before ++ happenings)
+  pub answered : AreAnswered [] happenings
+
+-- a call that goes on from legal records, with such workers
+pub record IsAnsweredCall (options : Options) (s : Search) (replies : List Reply) (payloads : List (List ℕ)) (old new : Option (List Happening)) : Type 0 where
+  pub in_range : AreOptions options
+  pub legal : AreLegal s replies payloads
+  pub answered : TellsFullAnswers old new
+
+-- such a call does not give up
+abbrev pub AnsweredCallsGoOn : Type 0
+AnsweredCallsGoOn =
+    (options : Options) (s : Search) (replies : List Reply) (payloads texts : List (List ℕ)) (old new : Option (List Happening)) (lost strays : ℕ) →
+    IsAnsweredCall options s replies payloads old new → GivesUp (state_after options s replies) lost strays old new texts → ⊥
+
+-- and where it is ended by an overflow that a reply tells, a product passes
+abbrev pub AnsweredOverflowsPass : Type 0
+AnsweredOverflowsPass =
+    (options : Options) (s : Search) (replies : List Reply) (payloads texts : List (List ℕ)) (old new : Option (List Happening)) (o : Passed) →
+    IsAnsweredCall options s replies payloads old new → EndsBy (state_after options s replies) o old new texts → Passes s.polyhedron o
+
+-- where a call under honest workers finishes, what its records list is the listing of the polyhedron
 abbrev pub FinishedCallsList : Type 0
 FinishedCallsList =
     (options : Options) (s : Search) (replies : List Reply) (payloads texts : List (List ℕ)) (old new : Option (List Happening)) →

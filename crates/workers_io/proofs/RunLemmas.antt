@@ -1,8 +1,9 @@
 -- A child runs for each attempt that is out: what a start and a collect make of that.
-use Rattle.std.proofs.Common.{◌≡◌, ◌<◌, ◌++◌, ◌∷◌, [], inl, inr, ℕ, List, length, map, refl, sym, ap, subst, ◌∙◌, arith, option_to_list}
+use Rattle.std.proofs.Common.{◌≡◌, ◌<◌, ◌+◌, ◌++◌, ◌∷◌, [], inl, inr, ℕ, List, length, map, zero, suc, slice_index_or, slice_set, take, drop, refl, sym, ap, subst, ◌∙◌, arith}
 use Rattle.std.proofs.lemmas.List.{map-append}
 use Rattle.std.specs.Prelude.{Option, Some}
 use Rattle.std.proofs.Math.Logic.{∥∥₁_elim, ∥∥₁_map}
+use Rattle.std.proofs.Math.Seq.{take-append_seam}
 use Rattle.workers_io.specs.Children.{AreRun, IsAmong}
 use Rattle.workers_io.specs.Collects.{out_after}
 use Rattle.workers_io.proofs.QueueLemmas.{all_after, all_append}
@@ -25,12 +26,14 @@ pub one_more_runs : (running out : List ℕ) (a : ℕ) → AreRun running out �
 one_more_runs running out a all = all_append (IsAmong (running ++ a ∷ [])) out a (all_among running (a ∷ []) out all) (among_last running a)
 
 -- a collect
-pub others_run : (running out : List ℕ) (b : ℕ) → AreRun (b ∷ running) out → AreRun running (out_after out b)
-others_run running out b all = all_after (IsAmong (b ∷ running)) (IsAmong running) out b other all
+others_run : (front back out : List ℕ) (b : ℕ) → AreRun (front ++ b ∷ back) out → AreRun (front ++ back) (out_after out b)
+others_run front back out b all = all_after (IsAmong (front ++ b ∷ back)) (IsAmong (front ++ back)) out b (other front) all
   where
-    other : (a : ℕ) → (a ≡ b → ⊥) → IsAmong (b ∷ running) a → IsAmong running a
-    other a not_b (inl e) = absurd (not_b (sym e))
-    other a not_b (inr m) = m
+    other : (front : List ℕ) (a : ℕ) → (a ≡ b → ⊥) → IsAmong (front ++ b ∷ back) a → IsAmong (front ++ back) a
+    other [] a not_b (inl e) = absurd (not_b (sym e))
+    other [] a not_b (inr m) = m
+    other (c ∷ front) a not_b (inl e) = inl e
+    other (c ∷ front) a not_b (inr m) = inr (other front a not_b m)
 
 -- the same of what is kept of the children, each with its number
 pub same_runs : {X : Type 0} (items now : List X) (num : X → ℕ) (out out_now : List ℕ) → now ≡ items → out_now ≡ out → ∥ AreRun (map num items) out ∥₁ → ∥ AreRun (map num now) out_now ∥₁
@@ -41,11 +44,39 @@ pub start_runs : {X : Type 0} (items between now : List X) (x : X) (num : X → 
 start_runs items between now x num out out_between out_now a same more same_out more_out is run =
     ∥∥₁_map run (λ (h : AreRun (map num items) out). rw (more_out, same_out, more, same, map-append num items (x ∷ []), is) (one_more_runs (map num items) out a h))
 
-pub collect_runs : {X : Type 0} (items left : List X) (first : Option X) (x : X) (num : X → ℕ) (out out_now : List ℕ) (b : ℕ) → items ≡ option_to_list first ++ left → first ≡ Some x → num x ≡ b → out_now ≡ out_after out b
+-- one of them is taken out, at its place
+split_at : {X : Type 0} (items : List X) (i : ℕ) (x : X) → i < length items → x ≡ slice_index_or items i x → items ≡ take i items ++ x ∷ drop (i + 1) items
+split_at [] i x within is = absurd (omega (arith, within))
+split_at (y ∷ items) zero x within is = ap (λ z. z ∷ items) (sym is)
+split_at (y ∷ items) (suc i) x within is =
+    let more : suc (i + 1) ≡ suc i + 1 = omega arith in
+    subst (λ (n : ℕ). y ∷ items ≡ take (suc i) (y ∷ items) ++ x ∷ drop n (y ∷ items)) more (ap (λ l. y ∷ l) (split_at items i x (omega (arith, within)) is))
+
+pub collect_runs : {X : Type 0} (items left : List X) (i : ℕ) (x : X) (num : X → ℕ) (out out_now : List ℕ) (b : ℕ) → i < length items → x ≡ slice_index_or items i x → left ≡ take i items ++ drop (i + 1) items → num x ≡ b → out_now ≡ out_after out b
     → ∥ AreRun (map num items) out ∥₁ → ∥ AreRun (map num left) out_now ∥₁
-collect_runs items left first x num out out_now b split some is less run =
-    let all : items ≡ x ∷ left = split ∙ ap (λ o. option_to_list o ++ left) some in
-    ∥∥₁_map run (λ (h : AreRun (map num items) out). rw less (others_run (map num left) out b (subst (λ n. AreRun (n ∷ map num left) out) is (subst (λ xs. AreRun (map num xs) out) all h))))
+collect_runs items left i x num out out_now b within is split named less run =
+    let front = take i items in
+    let back = drop (i + 1) items in
+    let all : map num items ≡ map num front ++ b ∷ map num back =
+    ap (map num) (split_at items i x within is) ∙ map-append num front (x ∷ back) ∙ ap (λ n. map num front ++ n ∷ map num back) named in
+    let others : map num left ≡ map num front ++ map num back = ap (map num) split ∙ map-append num front back in
+    ∥∥₁_map run (λ (h : AreRun (map num items) out). rw (less, others) (others_run (map num front) (map num back) out b (subst (λ l. AreRun l out) all h)))
+
+-- the same where all of them were lent, and are written back
+pub lent_runs : {X : Type 0} (items lent left : List X) (len i : ℕ) (x : X) (num : X → ℕ) (out out_now : List ℕ) (b : ℕ) → len ≡ length lent → map num lent ≡ map num items → i < length lent →
+    x ≡ slice_index_or (take len (lent ++ drop (length lent) items)) i x → left ≡ take i (take len (lent ++ drop (length lent) items)) ++ drop (i + 1) (take len (lent ++ drop (length lent) items)) →
+    num x ≡ b → out_now ≡ out_after out b → ∥ AreRun (map num items) out ∥₁ → ∥ AreRun (map num left) out_now ∥₁
+lent_runs items lent left len i x num out out_now b size same within is split named less run =
+    let back : take len (lent ++ drop (length lent) items) ≡ lent =
+    subst (λ (n : ℕ). take n (lent ++ drop (length lent) items) ≡ lent) (sym size) (take-append_seam lent (drop (length lent) items)) in
+    collect_runs (take len (lent ++ drop (length lent) items)) left i x num out out_now b (subst (λ l. i < length l) (sym back) within) is split named less
+    (subst (λ ns. ∥ AreRun ns out ∥₁) (sym (ap (map num) back ∙ same)) run)
+
+-- one of them has changed, and not its number
+pub same_numbers : {X : Type 0} (items : List X) (num : X → ℕ) (i : ℕ) (x was : X) → num x ≡ num (slice_index_or items i was) → map num (slice_set items i x) ≡ map num items
+same_numbers [] num i x was e = refl
+same_numbers (y ∷ items) num zero x was e = ap (λ n. n ∷ map num items) e
+same_numbers (y ∷ items) num (suc i) x was e = ap (λ ns. num y ∷ ns) (same_numbers items num i x was e)
 
 -- where an attempt is out, a child runs
 pub one_runs : {X : Type 0} (items : List X) (num : X → ℕ) (out : List ℕ) → ∥ AreRun (map num items) out ∥₁ → 0 < length out → 0 < length items

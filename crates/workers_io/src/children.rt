@@ -1,57 +1,69 @@
 //! The trusted edge: workers that are child processes. They tell no history.
-ghost use Rattle.std.specs.Prelude.{◌≡◌, ◌++◌, ◌∷◌, [], None, OnOk, OnErr, map};
+ghost use Rattle.std.specs.Prelude.{◌≡◌, ◌<◌, ◌++◌, ◌∷◌, [], None, IfOk, IfSome, OnOk, OnErr, length, map};
 ghost use Rattle.workers_io.specs.Collects.{collected_attempt};
 ghost use Rattle.workers_io.specs.Children.{AreRun};
 
 use crate::attempts::{attempt_of, take_off};
 use crate::count::{count_fault, faults_after};
+use crate::unnamed::{UnnamedFile, unnamed_file};
 use crate::{Collected, Workers};
 use poly_io::{Bytes, Failed, StdinSource, read_whole};
 use std::alloc::{AllocError, Global};
-use std::collections::VecDeque;
+use std::fs::File;
 use std::io::{self, ErrorKind, Write};
 use std::path::PathBuf;
 use std::process::{Child, Command, OpenProcess, Processes, Stdio};
+use std::rt::Files;
+use std::thread;
+use std::time::{Clock, Duration};
 
 /// How many bytes a reply may have: 2^30, so that a child that never stops to print takes no more memory than that. The
 /// format of replies has no bound of its own; one of 10,000 bases in 256 columns has some millions of bytes.
 pub const MOST_REPLY_BYTES: usize = 1 << 30;
 
-/// A child that was started, and what it was started for.
+/// How long is waited before the children are asked again which of them has ended: at first, and at most, in microseconds.
+const FIRST_PAUSE: u64 = 100;
+const LONGEST_PAUSE: u64 = 10000;
+
+/// A child that was started, what it was started for, and what it has printed so far.
 #[derive(Drop)]
 struct Running<P: OpenProcess + Drop> {
     attempt: u64,
     child: Child<P>,
+    reply: File,
 }
 
 /// Workers that are processes of one program, one for each attempt, all beside each other. A process gets the text on
 /// its standard input, and what it prints is its reply, whatever its exit status; its standard error goes nowhere.
 ///
-/// A start waits until the process has taken its text, so the program is to read its input to the end before it prints
-/// more than a pipe holds. A process that ends before it has taken its text is a start that failed. A collect waits for
-/// the oldest process, to the end of what it prints and then for its own end. An attempt is broken where reading or
-/// waiting fails, where it prints more than `MOST_REPLY_BYTES`, and where there is no memory for what it prints; so no
-/// collect answers `AllocError`. Whatever has failed is killed and waited for. Processes that are not collected are left
-/// to themselves where these workers are dropped.
+/// What a process prints goes to a file without a name in a folder for such files, so that it never waits to be read. A
+/// start waits until the process has taken its text; one that ends before is a start that failed, as is one for which no
+/// such file could be made. A collect waits until some process has ended, and takes the oldest of those. An attempt is broken
+/// where reading or waiting fails, where it prints more than `MOST_REPLY_BYTES`, and where there is no memory for what it
+/// prints; so no collect answers `AllocError`. Whatever has failed is killed and waited for. Processes that are not collected
+/// are left to themselves where these workers are dropped.
 #[derive(Drop)]
-pub struct ChildWorkers<'r, R: Processes> {
+pub struct ChildWorkers<'r, R: Processes + Files<File = File> + Clock> {
     rt: &'r R,
     alloc: Global,
     program: PathBuf,
     words: &'r [&'r str],
+    folder: PathBuf,
     out: Vec<u64>,
-    running: VecDeque<Running<R::Started>>,
+    running: Vec<Running<R::Started>>,
     faults: u64,
     ghost run: { ∥ AreRun (map (λ r. r.attempt) running.items) out.items ∥₁ },
 }
 
-impl<'r, R: Processes> ChildWorkers<'r, R> {
-    /// Workers that run this program with these words behind its name. Nothing is started yet. Takes no memory.
+impl<'r, R: Processes + Files<File = File> + Clock> ChildWorkers<'r, R> {
+    /// Workers that run this program with these words behind its name, with their replies in files of this folder. Nothing is
+    /// started yet. Takes no memory.
     pub fn new(
         rt: &'r R,
         alloc: Global,
         program: PathBuf,
         words: &'r [&'r str],
+        folder: PathBuf,
     ) -> ChildWorkers<'r, R>
         ensures out { result.out.items ≡ [] }
         ensures faults { result.faults ≡ 0 }
@@ -61,8 +73,9 @@ impl<'r, R: Processes> ChildWorkers<'r, R> {
             alloc,
             program,
             words,
+            folder,
             out: Vec::new(alloc),
-            running: VecDeque::new(alloc),
+            running: Vec::new(alloc),
             faults: 0,
         }
     }
@@ -81,24 +94,32 @@ impl<'r, R: Processes> ChildWorkers<'r, R> {
         self.faults
     }
 
-    // Starts the program. Its text is not given yet.
-    fn spawn(&self) -> io::Result<Child<R::Started>> {
+    // Starts the program, which is to print to this file. Its text is not given yet.
+    fn spawn(&self, reply: File) -> io::Result<Child<R::Started>> {
         let mut command = Command::new(self.alloc, self.program.as_path())?;
         for word in self.words {
             command.arg(*word)?;
         }
         command
             .stdin(Stdio::piped())
-            .stdout(Stdio::piped())
+            .stdout(Stdio::from(reply))
             .stderr(Stdio::null());
         command.spawn(self.rt)
     }
 
-    // Starts the program on a text.
-    fn launch(&self, text: &[u8]) -> io::Result<Child<R::Started>> {
-        let mut child = self.spawn()?;
+    // Starts the program for an attempt, on a text.
+    fn launch(&self, attempt: u64, text: &[u8]) -> io::Result<Running<R::Started>>
+        ensures { IfOk result (λ r. r.attempt ≡ attempt) }
+    {
+        let folder = self.folder.as_path();
+        let UnnamedFile { writer, reader } = unnamed_file(self.rt, self.alloc, folder, attempt)?;
+        let mut child = self.spawn(writer)?;
         match give(&mut child, text) {
-            Ok(()) => Ok(child),
+            Ok(()) => Ok(Running {
+                attempt,
+                child,
+                reply: reader,
+            }),
             Err(e) => {
                 end(child);
                 Err(e)
@@ -115,11 +136,11 @@ impl<'r, R: Processes> ChildWorkers<'r, R> {
         if self.out.reserve(1).is_err() || self.running.reserve(1).is_err() {
             return Err(Failed);
         }
-        let Ok(child) = self.launch(text) else {
+        let Ok(running) = self.launch(attempt, text) else {
             return Err(Failed);
         };
         self.out.push_reserved(attempt);
-        self.running.push_back_reserved(Running { attempt, child });
+        self.running.push_reserved(running);
         Ok(())
     }
 }
@@ -139,13 +160,12 @@ fn end<P: OpenProcess + Drop>(mut child: Child<P>) {
     }
 }
 
-// All that a child prints, once it has ended.
-fn reply_of<P: OpenProcess + Drop>(alloc: Global, mut child: Child<P>) -> Option<Bytes> {
-    let pipe = child.stdout.take()?;
-    match read_whole(alloc, &mut StdinSource::new(pipe), MOST_REPLY_BYTES) {
-        Ok(reply) => {
+// All that a child has printed, once it has ended.
+fn reply_of<P: OpenProcess + Drop>(alloc: Global, mut child: Child<P>, reply: File) -> Option<Bytes> {
+    match read_whole(alloc, &mut StdinSource::new(reply), MOST_REPLY_BYTES) {
+        Ok(bytes) => {
             child.wait().ok()?;
-            Some(reply)
+            Some(bytes)
         }
         Err(_) => {
             end(child);
@@ -154,20 +174,73 @@ fn reply_of<P: OpenProcess + Drop>(alloc: Global, mut child: Child<P>) -> Option
     }
 }
 
+// Whether more was printed to this file than a reply may have.
+fn is_too_long(reply: &File) -> bool {
+    match reply.metadata() {
+        Ok(found) => found.len() > MOST_REPLY_BYTES as u64,
+        Err(_) => true,
+    }
+}
+
 impl<P: OpenProcess + Drop> Running<P> {
-    // Waits for what comes of this child.
+    // Whether nothing is to be waited for: the child has ended, or prints too much, or cannot be asked.
+    fn has_ended(&mut self) -> bool
+        ensures { self.new.attempt ≡ self.old.attempt }
+    {
+        match self.child.try_wait() {
+            Ok(None) => is_too_long(&self.reply),
+            Ok(Some(_)) | Err(_) => true,
+        }
+    }
+
+    // What has come of this child, once it has ended.
     fn finish(self, alloc: Global) -> Collected
         ensures { collected_attempt result ≡ self.attempt }
     {
-        let Running { attempt, child } = self;
-        match reply_of(alloc, child) {
+        let Running {
+            attempt,
+            child,
+            reply,
+        } = self;
+        match reply_of(alloc, child, reply) {
             Some(bytes) => Collected::Reply { attempt, bytes },
             None => Collected::Broken { attempt },
         }
     }
 }
 
-impl<'r, R: Processes> Workers for ChildWorkers<'r, R> {
+// The place of the first of these that has ended; none where all go on.
+fn first_ended<P: OpenProcess + Drop>(running: &mut [Running<P>]) -> Option<usize>
+    ensures same { map (λ r. r.attempt) running.new ≡ map (λ r. r.attempt) running.old }
+    ensures some { IfSome result (λ i. i < length running.old) }
+{
+    for i in 0..running.len() {
+        if running[i].has_ended() {
+            return Some(i);
+        }
+    }
+    None
+}
+
+// Waits until one of these has ended. The pauses grow with the time that was waited, so that little is lost at the end of a
+// short one, and a long one costs little.
+fn wait_for_one<R: Clock, P: OpenProcess + Drop>(rt: &R, running: &mut [Running<P>]) -> usize
+    requires { 0 < length running.old }
+    ensures same { map (λ r. r.attempt) running.new ≡ map (λ r. r.attempt) running.old }
+    ensures within { result < length running.old }
+{
+    let mut pause = FIRST_PAUSE;
+    for _ in 0..u64::MAX {
+        if let Some(i) = first_ended(running) {
+            return i;
+        }
+        thread::sleep(rt, Duration::from_micros(pause));
+        pause = LONGEST_PAUSE.min(pause.saturating_add(pause / 8));
+    }
+    0
+}
+
+impl<'r, R: Processes + Files<File = File> + Clock> Workers for ChildWorkers<'r, R> {
     ghost out = { λ w. w.out.items };
 
     ghost history = { λ _. None };
@@ -188,8 +261,8 @@ impl<'r, R: Processes> Workers for ChildWorkers<'r, R> {
 
     fn collect(&mut self) -> Result<Collected, AllocError> {
         // A child runs for each attempt that is out.
-        let oldest = self.running.pop_front().unwrap();
-        let collected = oldest.finish(self.alloc);
+        let place = wait_for_one(self.rt, &mut self.running);
+        let collected = self.running.remove(place).finish(self.alloc);
         take_off(&mut self.out, attempt_of(&collected));
         self.faults = faults_after(self.faults, &collected);
         Ok(collected)

@@ -12,6 +12,7 @@ mod log;
 mod memory;
 mod queue;
 mod told;
+mod unnamed;
 mod workers;
 
 pub use children::{ChildWorkers, MOST_REPLY_BYTES};

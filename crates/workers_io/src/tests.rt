@@ -4,10 +4,12 @@ ghost use Rattle.std.specs.Prelude.{◌≡◌, ℕ, List};
 use super::*;
 use poly_io::{MemSink, Sink, WriteFault, write_all, write_count};
 use poly_model::Count;
-use std::fs;
+use std::fs::{self, File};
 use std::path::Path;
 use std::process::Processes;
+use std::rt::Files;
 use std::test::Fail;
+use std::time::Clock;
 use work_core::{JobCall, JobStop};
 
 /// A job call that writes the text back, and takes `!` for no job.
@@ -205,7 +207,8 @@ fn children_run_beside_each_other(rt: HostRuntime) -> Result<(), Fail> {
     let alloc = rt.alloc();
     let _ = fs::remove_file(&rt, "tests_of_workers_io.made");
     let shell = Path::new("/bin/sh").to_path_buf(alloc)?;
-    let mut workers = ChildWorkers::new(&rt, alloc, shell, MEETS);
+    let folder = std::env::temp_dir(&rt)?;
+    let mut workers = ChildWorkers::new(&rt, alloc, shell, MEETS, folder);
     let mut seen = MemSink::new(alloc, &[]);
     for (attempt, text) in [(1, b"wait\n"), (2, b"make\n")] {
         if workers.start(attempt, text).is_err() {
@@ -216,13 +219,13 @@ fn children_run_beside_each_other(rt: HostRuntime) -> Result<(), Fail> {
     fs::remove_file(&rt, "tests_of_workers_io.made")?;
     assert_eq!(rt;
         (seen.written(), workers.faults()),
-        (b"1=met\n 2= ".as_slice(), 0)
+        (b"2= 1=met\n ".as_slice(), 0)
     );
     Ok(())
 }
 
 /// Writes what the workers give until no attempt is out.
-fn gather<R: Processes, S: Sink>(workers: &mut ChildWorkers<R>, out: &mut S) -> Result<(), Fail> {
+fn gather<R: Processes + Files<File = File> + Clock, S: Sink>(workers: &mut ChildWorkers<R>, out: &mut S) -> Result<(), Fail> {
     for _ in 0..10 {
         if workers.out().is_empty() {
             return Ok(());
@@ -247,7 +250,8 @@ fn a_child_gives_what_it_prints(rt: HostRuntime) -> Result<(), Fail> {
     let alloc = rt.alloc();
     for (name, len, started, given, faults) in PROGRAMS {
         let program = Path::new(name).to_path_buf(alloc)?;
-        let mut workers = ChildWorkers::new(&rt, alloc, program, &[]);
+        let folder = std::env::temp_dir(&rt)?;
+        let mut workers = ChildWorkers::new(&rt, alloc, program, &[], folder);
         let text = vec![in alloc; b'a'; len]?;
         let begun = workers.start(1, &text).is_ok();
         let mut back = 0;

@@ -1,10 +1,11 @@
-use Rattle.std.proofs.Common.{rules, ◌≡◌, ◌<◌, length, sym}
+use Rattle.std.proofs.Common.{arith, rules, ◌≡◌, ◌<◌, ◌∙◌, ap, length, map, sym, subst}
+use Rattle.workers_io.specs.Children.{AreRun}
 use Rattle.workers_io.specs.Collects.{collected_attempt, out_after}
-use Rattle.workers_io.proofs.RunLemmas.{collect_runs, one_runs}
+use Rattle.workers_io.proofs.RunLemmas.{lent_runs, one_runs}
 use Rattle.workers_io.proofs.children.ChildWorkersWorkers.collect.Goals as goal
 
-pub unwrap-oldest-requires : goal.unwrap-oldest-requires
-unwrap-oldest-requires g c =
+pub wait_for_one-place-requires : goal.wait_for_one-place-requires
+wait_for_one-place-requires g c =
     let s = c.args.self.now in
     let some : 0 < length s.running.items = one_runs s.running.items (λ r. r.attempt) s.out.items s.run c.requires in
     search rules
@@ -12,8 +13,11 @@ unwrap-oldest-requires g c =
 pub invariant_of-self : goal.invariant_of-self
 invariant_of-self g c =
     let s = c.args.self.now in
+    let w = c.wait_for_one-place in
+    let waited = w.new.running in
+    let same = w.ensures.same ∙ ap (map (λ r. r.attempt)) c.deref_mut.ensures.value in
     let less : c.take_off.new.out.items ≡ out_after s.out.items (collected_attempt c.finish-collected.result) = search rules in
     record {
-      run = collect_runs s.running.items c.pop_front.new.self.items c.pop_front.result c.unwrap-oldest.result (λ r. r.attempt) s.out.items c.take_off.new.out.items (collected_attempt c.finish-collected.result)
-          c.pop_front.ensures.items c.unwrap-oldest.ensures (sym c.finish-collected.ensures) less s.run;
+      run = lent_runs s.running.items waited c.remove.new.self.items s.running.len w.result c.remove.result (λ r. r.attempt) s.out.items c.take_off.new.out.items
+          (collected_attempt c.finish-collected.result) (sym (w.auto.running ∙ c.deref_mut.ensures.len)) same (omega (arith, w.auto.running, w.ensures.within)) c.remove.ensures.value c.remove.ensures.by_index.2 (sym c.finish-collected.ensures) less s.run;
     }
