@@ -1,5 +1,5 @@
 -- What becomes of a reply to an attempt that is out, where the records are legal.
-use Rattle.std.proofs.Common.{arith, ℕ, List, ◌≡◌, inl, inr, ◌-◌, ◌<◌, true, false, [], ◌∷◌, ◌++◌, sym, ap, ◌∙◌, subst, Option, Some, None, refl, ◌&&◌, not}
+use Rattle.std.proofs.Common.{arith, ℕ, List, ◌≡◌, inl, inr, ◌-◌, ◌<◌, true, false, ◌++◌, sym, ap, ◌∙◌, subst, Option, Some, None, refl, ◌&&◌, not}
 use Rattle.std.specs.List.{Contains}
 use Rattle.std.proofs.lemmas.Bool.{cases_Bool}
 use Rattle.poly_model.specs.declared.overflow.Overflow.{Overflow as Passed}
@@ -14,7 +14,6 @@ use Rattle.run_state.specs.Legal.{AreLegal, IsLegalReply}
 use Rattle.run_state.proofs.FollowLemmas.{run-keys}
 use Rattle.run_state.proofs.KeyListLemmas.{holds_not, same_keys, same_means}
 use Rattle.run_state.proofs.LegalLaws.{honest_keys_are_new}
-use Rattle.coordinator_core.specs.declared.verdict.Verdict.{Verdict}
 use Rattle.coordinator_core.specs.declared.verdict.Verdict.TheVariants.{Accepted, Stray, Loss, Ends}
 use Rattle.coordinator_core.specs.Machine.{Attempt, State, by_tail, judged, sent_at, verdict_at}
 use Rattle.coordinator_core.proofs.AttemptLemmas.{keys_out-has, sent_at_place}

@@ -1,5 +1,5 @@
 -- Where each attempt is answered in full nothing is lost, and nothing leads nowhere.
-use Rattle.std.proofs.Common.{arith, ℕ, zero, suc, List, ◌≡◌, ◌≢◌, inl, inr, ◌<◌, ◌+◌, ◌-◌, ◌==◌, true, false, not, nat_lt, [], ◌∷◌, ◌++◌, refl, sym, ap, ◌∙◌, subst, length, Option, Some, None, slice_set}
+use Rattle.std.proofs.Common.{arith, ℕ, zero, suc, List, ◌≡◌, ◌≢◌, inl, inr, ◌<◌, ◌+◌, ◌-◌, ◌==◌, true, false, [], ◌∷◌, ◌++◌, refl, sym, ap, ◌∙◌, subst, length, Option, Some, None, slice_set}
 use Rattle.std.specs.List.{AllByRecursion, Contains, slice_get}
 use Rattle.std.proofs.lemmas.Bool.{cases_Bool, eqb-true, lt-ltb}
 use Rattle.linear_laws.proofs.AllLemmas.{all_both}
@@ -23,17 +23,17 @@ use Rattle.job_text.proofs.FirstPayloadLemmas.{root_text}
 use Rattle.job_text.proofs.OneReplyLemmas.{one_reply}
 use Rattle.run_state.specs.KeyLists.{KnownKeys, is_same_key, without_key}
 use Rattle.run_state.specs.Payloads.{AreReplies, IsNextPayload, SaysEnd, first_keys, keys_after, keys_of}
-use Rattle.run_state.specs.Runs.{Run, first_run, run_after, run_of}
-use Rattle.run_state.specs.Legal.{AreLegal, IsLegalReply}
+use Rattle.run_state.specs.Runs.{Run, first_run, run_after}
+use Rattle.run_state.specs.Legal.{IsLegalReply}
 use Rattle.run_state.proofs.FollowLemmas.{run-join}
 use Rattle.run_state.proofs.PlacedElements.{get-append}
 use Rattle.workers_io.specs.History.{Happening, StartedTexts, started, refused, replied, broken, last_text}
 use Rattle.coordinator_core.specs.declared.event.Event.TheVariants.{Answer, Lost}
 use Rattle.coordinator_core.specs.declared.verdict.Verdict.{Verdict}
-use Rattle.coordinator_core.specs.declared.verdict.Verdict.TheVariants.{Accepted, Stray, Loss, Ends}
+use Rattle.coordinator_core.specs.declared.verdict.Verdict.TheVariants.{Accepted, Ends}
 use Rattle.coordinator_core.specs.Machine.{Attempt, IsOut, State, after, back, by_tail, by_verdict, handed, judged, recorded_at, sent_at}
 use Rattle.coordinator_core.specs.Events.{IsReplyTo}
-use Rattle.coordinator_core.specs.Traces.{GoesOn, Step, hands, collects, stepped, Trace}
+use Rattle.coordinator_core.specs.Traces.{GoesOn, Step, hands, collects, Trace}
 use Rattle.coordinator_core.proofs.AttemptLemmas.{sent_at_place}
 use Rattle.coordinator_core.proofs.KeyCounts.{member_of}
 use Rattle.coordinator_core.proofs.SoundLemmas.{IsHand, accepted-means, hand-means, sound-taken, waits-accepted}
@@ -43,7 +43,7 @@ use Rattle.coordinator_laws.proofs.AcceptedLemmas.{IsLegalState, due-accepted, d
 use Rattle.coordinator_laws.proofs.CourseLaws.{has_texts, same_search, sound_at_start}
 use Rattle.coordinator_laws.proofs.AnsweredStarts.{AreLastOf, last-pushed, last-without}
 use Rattle.coordinator_laws.proofs.FollowLemmas.{run-taken, sound-handed-step}
-use Rattle.coordinator_laws.proofs.HonestLemmas.{HasJobTexts, Knows, Text, job_for, knows-hands, knows-start, knows-verdict, obeys-end, started_on}
+use Rattle.coordinator_laws.proofs.HonestLemmas.{HasJobTexts, Knows, Text, job_for, knows-hands, knows-start, knows-verdict, started_on}
 use Rattle.coordinator_laws.proofs.LedgerLemmas.{legal-join}
 
 -- ---- the keys that wait have texts

@@ -1,5 +1,5 @@
 -- Where each attempt is answered in full, that is honest, and is given to starts that are not yet collected.
-use Rattle.std.proofs.Common.{ℕ, List, ◌≡◌, ◌≢◌, inl, inr, ◌==◌, Bool, true, false, not, [], ◌∷◌, ◌++◌, refl, sym, ap, ◌∙◌, subst, Option, Some, None}
+use Rattle.std.proofs.Common.{ℕ, List, ◌≡◌, ◌≢◌, inl, inr, ◌==◌, true, false, [], ◌∷◌, refl, sym, ◌∙◌, subst, Option, Some, None}
 use Rattle.std.proofs.lemmas.Bool.{cases_Bool, eqb-true, ne_eqb}
 use Rattle.std.proofs.lemmas.List.{append-nil}
 use Rattle.job_text.specs.Rule.{IsReplyFor}

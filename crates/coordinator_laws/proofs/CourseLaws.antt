@@ -1,6 +1,5 @@
 -- The laws of a call and of calls one after the other.
-use Rattle.std.proofs.Common.{arith, ℕ, List, ◌≡◌, inl, inr, ◌-◌, ◌<◌, ◌^◌, true, false, [], ◌∷◌, ◌++◌, refl, sym, ap, ◌∙◌, subst, length, append_assoc, Some}
-use Rattle.std.specs.List.{Contains}
+use Rattle.std.proofs.Common.{arith, ℕ, List, ◌≡◌, inl, inr, ◌<◌, ◌^◌, [], ◌∷◌, ◌++◌, refl, sym, ap, ◌∙◌, subst, length, append_assoc}
 use Rattle.work_core.specs.Searches.{Search, meaning_of}
 use Rattle.search_laws.proofs.OnceLists.{one_key_or_not}
 use Rattle.job_text.specs.declared.reply.Reply.{Reply}
@@ -8,13 +7,11 @@ use Rattle.job_text.specs.declared.reply.Tail.TheVariants.{Overflow}
 use Rattle.job_text.specs.Rule.{IsReplyFor, Obeys}
 use Rattle.poly_model.specs.declared.overflow.Overflow.{Overflow as Passed}
 use Rattle.poly_model.specs.Overflows.{Passes}
-use Rattle.run_state.specs.KeyLists.{KnownKeys, are_new, holds}
-use Rattle.run_state.specs.Payloads.{AreReplies, AreShort, FitsIn, IsLedgerText, SaysEnd, first_keys, keys_after, keys_of}
-use Rattle.run_state.specs.Runs.{Run, first_run, run_of}
+use Rattle.run_state.specs.KeyLists.{KnownKeys}
+use Rattle.run_state.specs.Payloads.{AreReplies, AreShort, IsLedgerText, first_keys, keys_after, keys_of}
+use Rattle.run_state.specs.Runs.{first_run, run_of}
 use Rattle.run_state.specs.Legal.{AreLegal, IsLegal}
 use Rattle.run_state.proofs.FollowLemmas.{ledger-join, run-join, run-keys, run-search}
-use Rattle.run_state.proofs.KeyListLemmas.{holds_not, same_keys}
-use Rattle.run_state.proofs.LegalLaws.{honest_keys_are_new}
 use Rattle.run_state.proofs.MeaningLemmas.{one_ledger}
 use Rattle.coordinator_core.specs.declared.event.Event.{Event}
 use Rattle.coordinator_core.specs.declared.event.Event.TheVariants.{Answer, Lost}
@@ -23,8 +20,7 @@ use Rattle.coordinator_core.specs.declared.verdict.Verdict.TheVariants.{Accepted
 use Rattle.coordinator_core.specs.Machine.{AreOptions, State, after, judged, sent_at, verdict_of}
 use Rattle.coordinator_core.specs.Events.{IsReplyTo}
 use Rattle.coordinator_core.specs.Traces.{Step, hands, collects, stepped, accepted}
-use Rattle.coordinator_core.proofs.AttemptLemmas.{keys_out-has, sent_at_place}
-use Rattle.coordinator_core.proofs.KeyCounts.{WaitsOnce, times, times-here, times-there, once-next, times_of, member_of}
+use Rattle.coordinator_core.proofs.KeyCounts.{WaitsOnce, times-here, times-there, once-next, times_of}
 use Rattle.coordinator_core.proofs.SoundLemmas.{Sound, sound-start}
 use Rattle.workers_io.specs.History.{Happening, StartedTexts, started, refused, replied, broken, IsAllowed, IsHonest, last_text}
 use Rattle.coordinator_laws.specs.Courses.{AreToldAs, Course, IsToldAsEvent, IsCourse, accepted_texts, kept_text, payloads_added, replies_after, start_in}

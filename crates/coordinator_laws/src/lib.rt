@@ -5,6 +5,7 @@
 mod laws;
 
 pub use laws::{
-    courses_end, events_keep_legal, events_keep_text, answered_lose_nothing, fronts_are_legal,
-    honest_is_accepted, honest_overflows_pass, none_waits_at_finish, restarts_keep_legal, steps_lower, traces_tell_the_run,
+    answered_lose_nothing, courses_end, events_keep_legal, events_keep_text, fronts_are_legal,
+    honest_is_accepted, honest_overflows_pass, none_waits_at_finish, restarts_keep_legal,
+    steps_lower, traces_tell_the_run,
 };

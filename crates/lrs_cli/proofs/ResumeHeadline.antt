@@ -1,6 +1,5 @@
 -- The headline of `resume`: what was printed and left, where the images go on from legal records and the workers are trusted.
 use Rattle.std.proofs.Common.{arith, ℕ, List, ◌≡◌, ◌∙◌, ◌<◌, ◌⊎◌, inl, inr, [], ◌∷◌, ◌++◌, refl, sym, ap, subst, length, append_assoc, Option, Some}
-use Rattle.poly_io.specs.Causes.{Rose}
 use Rattle.poly_model.specs.declared.overflow.Overflow.{Overflow as Passed}
 use Rattle.poly_model.specs.Overflows.{Passes}
 use Rattle.poly_model.specs.Systems.{Polyhedron}

@@ -1,7 +1,6 @@
 -- Where nothing is in the way of `run` it comes to its end.
-use Rattle.std.proofs.Common.{ℕ, List, ◌≡◌, ◌⊎◌, inl, inr, [], ◌∷◌, refl, subst, Option, Some, None}
+use Rattle.std.proofs.Common.{ℕ, List, ◌≡◌, ◌⊎◌, inl, inr, [], ◌∷◌, refl, Option, Some, None}
 use Rattle.poly_model.specs.declared.overflow.Overflow.{Overflow as Passed}
-use Rattle.poly_model.specs.Due.{IsDue}
 use Rattle.poly_model.specs.Overflows.{Passes}
 use Rattle.poly_model.specs.Systems.{Polyhedron}
 use Rattle.work_core.specs.Searches.{Search}

@@ -18,7 +18,8 @@ pub fn resume_goes_on_after_a_run<D: Disk, E: Disk>(
     _after: &D,
     _found: &E,
     _text: &[u8],
-) ensures { ((c : List ℕ) → D.images _before.now c → HasNoRun c)
+)
+    ensures { ((c : List ℕ) → D.images _before.now c → HasNoRun c)
         → ((c : List ℕ) → E.images _found.now c → D.since _after.now (D.moment _before.now) c)
         → IsLeftByRun D.Disk _before.now _after.now _text.now
         → ((c : List ℕ) → E.images _found.now c → HasNoRun c)

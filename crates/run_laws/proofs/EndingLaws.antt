@@ -1,5 +1,5 @@
 -- How a call ends, where its workers are honest, or each attempt is answered in full.
-use Rattle.std.proofs.Common.{arith, ℕ, List, ◌≡◌, inl, inr, ◌+◌, ◌<◌, true, false, nat_lt, [], ◌∷◌, ◌++◌, refl, sym, ap, ◌∙◌, subst, length, drop, Option, Some, None}
+use Rattle.std.proofs.Common.{arith, ℕ, List, ◌≡◌, inl, inr, ◌+◌, ◌<◌, nat_lt, [], ◌∷◌, ◌++◌, sym, ap, ◌∙◌, subst, length, drop, Option, Some}
 use Rattle.std.proofs.lemmas.Bool.{cases_Bool, ltb-true}
 use Rattle.std.proofs.Math.Seq.{drop-append_seam}
 use Rattle.job_text.specs.declared.reply.Reply.{Reply}

@@ -1,7 +1,6 @@
 -- A child runs for each attempt that is out: what a start and a collect make of that.
 use Rattle.std.proofs.Common.{◌≡◌, ◌<◌, ◌+◌, ◌++◌, ◌∷◌, [], inl, inr, ℕ, List, length, map, zero, suc, slice_index_or, slice_set, take, drop, refl, sym, ap, subst, ◌∙◌, arith}
 use Rattle.std.proofs.lemmas.List.{map-append}
-use Rattle.std.specs.Prelude.{Option, Some}
 use Rattle.std.proofs.Math.Logic.{∥∥₁_elim, ∥∥₁_map}
 use Rattle.std.proofs.Math.Seq.{take-append_seam}
 use Rattle.workers_io.specs.Children.{AreRun, IsAmong}

@@ -23,6 +23,7 @@ pub const MOST_REPLY_BYTES: usize = 1 << 30;
 
 /// How long is waited before the children are asked again which of them has ended: at first, and at most, in microseconds.
 const FIRST_PAUSE: u64 = 100;
+
 const LONGEST_PAUSE: u64 = 10000;
 
 /// A child that was started, what it was started for, and what it has printed so far.
@@ -161,7 +162,11 @@ fn end<P: OpenProcess + Drop>(mut child: Child<P>) {
 }
 
 // All that a child has printed, once it has ended.
-fn reply_of<P: OpenProcess + Drop>(alloc: Global, mut child: Child<P>, reply: File) -> Option<Bytes> {
+fn reply_of<P: OpenProcess + Drop>(
+    alloc: Global,
+    mut child: Child<P>,
+    reply: File,
+) -> Option<Bytes> {
     match read_whole(alloc, &mut StdinSource::new(reply), MOST_REPLY_BYTES) {
         Ok(bytes) => {
             child.wait().ok()?;

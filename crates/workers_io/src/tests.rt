@@ -225,7 +225,10 @@ fn children_run_beside_each_other(rt: HostRuntime) -> Result<(), Fail> {
 }
 
 /// Writes what the workers give until no attempt is out.
-fn gather<R: Processes + Files<File = File> + Clock, S: Sink>(workers: &mut ChildWorkers<R>, out: &mut S) -> Result<(), Fail> {
+fn gather<R: Processes + Files<File = File> + Clock, S: Sink>(
+    workers: &mut ChildWorkers<R>,
+    out: &mut S,
+) -> Result<(), Fail> {
     for _ in 0..10 {
         if workers.out().is_empty() {
             return Ok(());

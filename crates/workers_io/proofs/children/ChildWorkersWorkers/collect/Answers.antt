@@ -1,5 +1,4 @@
-use Rattle.std.proofs.Common.{arith, rules, ◌≡◌, ◌<◌, ◌∙◌, ap, length, map, sym, subst}
-use Rattle.workers_io.specs.Children.{AreRun}
+use Rattle.std.proofs.Common.{arith, rules, ◌≡◌, ◌<◌, ◌∙◌, ap, length, map, sym}
 use Rattle.workers_io.specs.Collects.{collected_attempt, out_after}
 use Rattle.workers_io.proofs.RunLemmas.{lent_runs, one_runs}
 use Rattle.workers_io.proofs.children.ChildWorkersWorkers.collect.Goals as goal
