@@ -11,11 +11,12 @@ use crate::LedgerStop;
 use crate::entry::{Entry, HEAD, entry_of};
 use crate::span::Span;
 use crate::window::Window;
-use disk_core::Disk;
+use disk_core::{Disk, file_len};
 use std::alloc::Global;
 
 /// Where the payloads of a file of this size lie, and its first closed gate. Reads each block once, but for the head of a
-/// record that lies on the seam of two.
+/// record that lies on the seam of two. Beside a writer a gate may be open by then whose record the size leaves out: so the
+/// size is asked for again before a record is called broken.
 pub(crate) fn walk<D: Disk>(
     alloc: Global,
     disk: &mut D,
@@ -33,6 +34,7 @@ pub(crate) fn walk<D: Disk>(
 {
     let mut spans = Vec::new(alloc);
     let mut at = 0u64;
+    let mut size = size;
     if size == 0 {
         return Err(LedgerStop::NoRun);
     }
@@ -52,9 +54,13 @@ pub(crate) fn walk<D: Disk>(
                 at = start + len;
             }
             Entry::Broken => {
-                return Err(LedgerStop::BadLedger {
-                    place: spans.len() as u64 + 1,
-                });
+                let now = file_len(disk)?;
+                if now <= size {
+                    return Err(LedgerStop::BadLedger {
+                        place: spans.len() as u64 + 1,
+                    });
+                }
+                size = now;
             }
         }
     }
