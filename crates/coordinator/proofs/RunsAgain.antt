@@ -28,17 +28,18 @@ recorded seen run payloads w has = record { search = w.search; replies = w.repli
 pub searches_it : (run : Run) (payloads : List (List ℕ)) (w : IsRunOf run payloads) → run.search ≡ w.search
 searches_it run payloads w = ap (λ (z : Run). z.search) w.is_run ∙ run-search (first_run w.search) w.replies
 
-are-short : (payloads : List (List ℕ)) → All IsShort payloads → AreShort payloads
-are-short [] h = tt
-are-short (p ∷ payloads) h =
+-- records of a file can be told by 64 bits
+pub are_short : (payloads : List (List ℕ)) → All IsShort payloads → AreShort payloads
+are_short [] h = tt
+are_short (p ∷ payloads) h =
     let l : length p < 10 ^ 13 = h 0 p (omega arith) in
-    (omega (arith, l), are-short payloads (λ k d lt. h (suc k) d (omega (arith, lt))))
+    (omega (arith, l), are_short payloads (λ k d lt. h (suc k) d (omega (arith, lt))))
 
 -- one run alone
 one_run : (seen : Option (List ℕ)) (file : List ℕ) → seen ≡ Some file → (a b : RecordedRun seen) → (a.search ≡ b.search) × (a.replies ≡ b.replies)
 one_run seen file told a b =
     let same : a.payloads ≡ b.payloads = (one_layout file).one a.payloads b.payloads (a.has file told) (b.has file told) in
-    one_ledger a.payloads (are-short a.payloads (a.has file told).short) a.search b.search a.replies b.replies a.is_text
+    one_ledger a.payloads (are_short a.payloads (a.has file told).short) a.search b.search a.replies b.replies a.is_text
     (subst (IsLedgerText b.search b.replies) (sym same) b.is_text)
 
 -- ---- nothing is left to do where no key waits

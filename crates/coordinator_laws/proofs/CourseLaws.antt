@@ -126,8 +126,9 @@ honest_overflows_pass c payloads starts e h o opts course text honest told ends 
 pub fronts_are_legal : FrontsAreLegal
 fronts_are_legal = front_is_legal
 
-some-records : (s : Search) (replies : List Reply) (records front : List (List ℕ)) → IsLedgerText s replies records → 0 < length (records ++ front)
-some-records s replies records front t = subst (λ (l : List (List ℕ)). 0 < length (l ++ front)) (sym t.split) (omega arith)
+-- a ledger text has a record
+pub some_records : (s : Search) (replies : List Reply) (records front : List (List ℕ)) → IsLedgerText s replies records → 0 < length (records ++ front)
+some_records s replies records front t = subst (λ (l : List (List ℕ)). 0 < length (l ++ front)) (sym t.split) (omega arith)
 
 abbrev IsShort : List ℕ → Type 0
 IsShort payload = length payload < 2 ^ 64
@@ -163,7 +164,7 @@ left-legal before after short (s, replies, h) l =
     let legal : IsLegal ((before ++ l.front) ++ l.rest) =
     (c.search, replies_after c, subst (AreLegal c.search (replies_after c)) texts all) in
     let added : AreShort (l.front ++ l.rest) = subst AreShort l.split (short-texts (start_in c) c.steps c.happenings l.goes.told_as) in (
-      subst IsLegal (sym l.left) (front_is_legal (before ++ l.front) l.rest (some-records s replies before l.front h.is_text) legal),
+      subst IsLegal (sym l.left) (front_is_legal (before ++ l.front) l.rest (some_records s replies before l.front h.is_text) legal),
       subst AreShort (sym l.left) (all_both IsShort before l.front short (all_left IsShort l.front l.rest added)),
     )
 

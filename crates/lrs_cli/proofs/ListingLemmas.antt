@@ -1,11 +1,9 @@
 -- What a call has listed whose records are legal and whose workers are trusted.
-use Rattle.std.proofs.Common.{arith, ℕ, suc, List, ◌<◌, ◌^◌, [], ◌∷◌, ◌++◌, refl, length, Option}
-use Rattle.std.specs.List.{All}
+use Rattle.std.proofs.Common.{ℕ, List, ◌++◌, refl, length, Option}
 use Rattle.poly_model.specs.declared.listed.Listed.{Listed}
 use Rattle.row_printer.specs.Rows.{counted}
 use Rattle.work_core.specs.Searches.{Search}
 use Rattle.job_text.specs.declared.reply.Reply.{Reply}
-use Rattle.job_ledger.specs.Records.{IsShort}
 use Rattle.run_state.specs.Payloads.{AreShort}
 use Rattle.run_state.specs.Runs.{recorded_rows}
 use Rattle.workers_io.specs.History.{Happening}
@@ -17,13 +15,6 @@ use Rattle.run_laws.specs.Laws.{IsHonestCall}
 use Rattle.run_laws.proofs.RunLaws.{finished_calls_list}
 use Rattle.lrs_cli.specs.Answers.{WritesPart, WritesWhole}
 use Rattle.lrs_cli.specs.Ledgers.{WritesRecords, WritesRecordsPart}
-
--- records of a file can be told by 64 bits
-pub are_short : (payloads : List (List ℕ)) → All IsShort payloads → AreShort payloads
-are_short [] h = tt
-are_short (p ∷ payloads) h =
-    let l : length p < 10 ^ 13 = h 0 p (omega arith) in
-    (omega (arith, l), are_short payloads (λ k d lt. h (suc k) d (omega (arith, lt))))
 
 -- the call that finishes from legal records
 module _ (options : Options) (s : Search) (replies : List Reply) (payloads texts : List (List ℕ)) (old new : Option (List Happening))

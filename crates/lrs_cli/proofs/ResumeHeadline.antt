@@ -30,10 +30,11 @@ use Rattle.run_laws.proofs.EndingLaws.{answered_calls_go_on, answered_overflows_
 use Rattle.run_laws.proofs.RunLaws.{fronts_stay_legal, fronts_stay_text}
 use Rattle.lrs_cli.specs.declared.status.Status.{Status}
 use Rattle.lrs_cli.specs.declared.status.Status.TheVariants.{Done, Usage, BadFile, BadJob, Infeasible, Overflow, ReadFault, WriteFault, DiskFault, Lost, NoRun, HasRun, BadLedger, LedgerLimit, OutOfMemory}
-use Rattle.lrs_cli.specs.Answers.{Knows, NothingPasses, WritesPart, WritesWhole}
+use Rattle.lrs_cli.specs.Answers.{Knows, PassesNowhere, WritesPart, WritesWhole}
 use Rattle.lrs_cli.specs.Ledgers.{AllGoOnFrom, AreTrusted, ComesToItsEnd, DiskRose, GoesOnFrom, Resources, RoseAt, TellsOf}
 use Rattle.lrs_cli.specs.Resume.{AnswersResume, EndsRecorded, GoesOn}
-use Rattle.lrs_cli.proofs.ListingLemmas.{are_short, lists_part, lists_whole}
+use Rattle.coordinator.proofs.RunsAgain.{are_short}
+use Rattle.lrs_cli.proofs.ListingLemmas.{lists_part, lists_whole}
 use Rattle.lrs_cli.proofs.RunComplete.{known_file}
 use Rattle.lrs_cli.proofs.TrustLemmas.{tells_honestly}
 
@@ -155,18 +156,18 @@ module _ {D W : Type 0} (disk : Disk D) (workers : Workers W)
       tells (λ p. Passes p o) r.search r.replies r.payloads records (here records images f told r).more some r.is_text (same records images f told r) passes
 
   -- ---- where nothing is in the way
-  module _ (records : List (List ℕ)) (images : AllGoOnFrom records (disk.images old.disk)) (opened : Knows (disk.seen old.disk) IsOpen) (whole : TellsOf NothingPasses records)
+  module _ (records : List (List ℕ)) (images : AllGoOnFrom records (disk.images old.disk)) (opened : Knows (disk.seen old.disk) IsOpen) (whole : TellsOf PassesNowhere records)
       (answered : TellsFullAnswers (workers.history old.workers) (workers.history new.workers)) where
-    nothing_passes : (f : List ℕ) → disk.seen old.disk ≡ Some f → (r : RecordedRun (disk.seen old.disk)) → NothingPasses r.search.polyhedron
+    nothing_passes : (f : List ℕ) → disk.seen old.disk ≡ Some f → (r : RecordedRun (disk.seen old.disk)) → PassesNowhere r.search.polyhedron
     nothing_passes f told r =
         first_is_of_these r.is_text (same records images f told r ∙ ap (λ (l : List (List ℕ)). l ++ (here records images f told r).more) whole.split)
       where
-        first_is_of_these : {payloads rest : List (List ℕ)} → (t : IsLedgerText r.search r.replies payloads) → payloads ≡ whole.first ∷ rest → NothingPasses r.search.polyhedron
+        first_is_of_these : {payloads rest : List (List ℕ)} → (t : IsLedgerText r.search r.replies payloads) → payloads ≡ whole.first ∷ rest → PassesNowhere r.search.polyhedron
         first_is_of_these {payloads} {rest} t split =
             let is : t.first ∷ t.others ≡ whole.first ∷ rest = sym t.split ∙ split in
             let head : t.first ≡ whole.first = cc in
             let one : whole.search ≡ r.search = one_first_payload whole.search r.search whole.first whole.is_first (subst (IsFirstPayload r.search) head t.is_first) in
-            subst (λ (s : Search). NothingPasses s.polyhedron) one whole.holds
+            subst (λ (s : Search). PassesNowhere s.polyhedron) one whole.holds
 
     -- the file that is read goes on from the records
     goes_on : (f : List ℕ) → disk.seen old.disk ≡ Some f → GoesOnFrom records f

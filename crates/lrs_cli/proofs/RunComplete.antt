@@ -15,7 +15,7 @@ use Rattle.run_laws.proofs.EndingLaws.{answered_calls_go_on, answered_overflows_
 use Rattle.run_laws.proofs.RunLaws.{first_record_is_legal}
 use Rattle.lrs_cli.specs.declared.status.Status.{Status}
 use Rattle.lrs_cli.specs.declared.status.Status.TheVariants.{Done, Usage, BadFile, BadJob, Infeasible, Overflow, ReadFault, WriteFault, DiskFault, Lost, NoRun, HasRun, BadLedger, LedgerLimit, OutOfMemory}
-use Rattle.lrs_cli.specs.Answers.{Describes, Knows, NothingPasses, WhereTold}
+use Rattle.lrs_cli.specs.Answers.{Describes, Knows, PassesNowhere, WhereTold}
 use Rattle.lrs_cli.specs.Ledgers.{ComesToItsEnd, Resources}
 use Rattle.lrs_cli.specs.Run.{EndsSearch, IsDueBeforeSearch, IsTextOf, MaySearch, RefusesFile}
 use Rattle.lrs_cli.proofs.EndLemmas.{not_bad, of_one}
@@ -33,22 +33,22 @@ pub passes_before : (p : Polyhedron) (o : Passed) → IsDueBeforeSearch p o → 
 passes_before p o (inl d) = d.passes
 passes_before p o (inr d) = d.passes
 
-module _ (left : Option (List ℕ)) (known : Knows left (Describes NothingPasses)) where
-  nothing_passes : (s : Search) → WhereTold left (IsTextOf s) → NothingPasses s.polyhedron
+module _ (left : Option (List ℕ)) (known : Knows left (Describes PassesNowhere)) where
+  nothing_passes : (s : Search) → WhereTold left (IsTextOf s) → PassesNowhere s.polyhedron
   nothing_passes s text o passes = none left known text
     where
-      none : (source : Option (List ℕ)) → Knows source (Describes NothingPasses) → WhereTold source (IsTextOf s) → ⊥
+      none : (source : Option (List ℕ)) → Knows source (Describes PassesNowhere) → WhereTold source (IsTextOf s) → ⊥
       none None k t = k
       none (Some file) k t =
-          let one = of_one NothingPasses (λ p. Passes p o) (Some file) k (record { polyhedron = s.polyhedron; read = t; holds = passes }) in
+          let one = of_one PassesNowhere (λ p. Passes p o) (Some file) k (record { polyhedron = s.polyhedron; read = t; holds = passes }) in
           one.1 o one.2
 
   -- a file that is refused
   pub refused_ends : (answer : Status) → RefusesFile left answer → (answer ≡ ReadFault → ⊥) → IsWell answer
   refused_ends ReadFault r n = absurd (n refl)
-  refused_ends (BadFile f) r n = absurd (not_bad NothingPasses left known f r)
+  refused_ends (BadFile f) r n = absurd (not_bad PassesNowhere left known f r)
   refused_ends (Overflow o) r n =
-      let one = of_one NothingPasses (λ p. IsDueBeforeSearch p o) left known r in
+      let one = of_one PassesNowhere (λ p. IsDueBeforeSearch p o) left known r in
       absurd (one.1 o (passes_before one.0 o one.2))
   refused_ends Infeasible r n = inl refl
   refused_ends OutOfMemory r n = inr tt

@@ -20,12 +20,13 @@ use Rattle.run_laws.proofs.EndingLaws.{overflows_pass}
 use Rattle.run_laws.proofs.RunLaws.{first_record_is_legal, fronts_stay_legal, fronts_stay_text}
 use Rattle.lrs_cli.specs.declared.status.Status.{Status}
 use Rattle.lrs_cli.specs.declared.status.Status.TheVariants.{Done, Infeasible, Overflow}
-use Rattle.lrs_cli.specs.Answers.{Describes, IsListed, IsPartlyListed, Knows, NothingPasses, WhereTold, WritesPart, WritesWhole}
+use Rattle.lrs_cli.specs.Answers.{Describes, IsListed, IsPartlyListed, Knows, PassesNowhere, WhereTold, WritesPart, WritesWhole}
 use Rattle.lrs_cli.specs.Ledgers.{AreTrusted, ComesToItsEnd, GoesOnFrom, Resources}
 use Rattle.lrs_cli.specs.Run.{AnswersRun, EndsSearch, IsDueBeforeSearch, IsLeftByRun, IsTextOf, MaySearch, RefusesFile, RunsFile, RunsSearch}
 use Rattle.lrs_cli.specs.Streams.{Streams}
 use Rattle.lrs_cli.proofs.FaultLemmas.{described}
-use Rattle.lrs_cli.proofs.ListingLemmas.{are_short, lists_part, lists_whole}
+use Rattle.coordinator.proofs.RunsAgain.{are_short}
+use Rattle.lrs_cli.proofs.ListingLemmas.{lists_part, lists_whole}
 use Rattle.lrs_cli.proofs.RunComplete.{passes_before, refused_ends, search_ends}
 use Rattle.lrs_cli.proofs.TrustLemmas.{tells_honestly}
 
@@ -154,7 +155,7 @@ module _ {D W : Type 0} (disk : Disk D) (workers : Workers W)
       | inr r ↦ described (λ p. Passes p o) r.0.polyhedron before.left r.2 (passes r.0 r.1 before.written after.written Unwritten answer r.4 t o e)
     ]
 
-    complete : Knows before.left (Describes NothingPasses) → Knows (disk.seen old.disk) HasNoRun →
+    complete : Knows before.left (Describes PassesNowhere) → Knows (disk.seen old.disk) HasNoRun →
         TellsFullAnswers (workers.history old.workers) (workers.history new.workers) → ¬ (Rose before.read_faults after.read_faults) →
         ¬ (Rose before.write_faults after.write_faults) → ¬ (Rose (disk.faults old.disk) (disk.faults new.disk)) → (answer ≡ Infeasible) ⊎ ComesToItsEnd answer
     complete known fresh answered n m k = elim runs.comes [

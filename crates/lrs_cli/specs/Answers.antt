@@ -79,8 +79,8 @@ abbrev pub HasNoObstacle : List ℕ → Type 0
 HasNoObstacle text = Describes (λ p. (o : Passed) → IsDueInSearch p o → ⊥) text
 
 -- no product of the polyhedron passes
-abbrev pub NothingPasses : Polyhedron → Type 0
-NothingPasses p = (o : Passed) → Passes p o → ⊥
+abbrev pub PassesNowhere : Polyhedron → Type 0
+PassesNowhere p = (o : Passed) → Passes p o → ⊥
 
 -- the answers that come once a polyhedron was read
 abbrev pub ComesOfPolyhedron : Status → Type 0

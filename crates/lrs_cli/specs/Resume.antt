@@ -21,7 +21,7 @@ use Rattle.coordinator.specs.Leaving.{HasFront, IsRefusedBy}
 use Rattle.run_laws.specs.Laws.{IsLedgerFile, TellsFullAnswers}
 use Rattle.lrs_cli.specs.declared.status.Status.{Status}
 use Rattle.lrs_cli.specs.declared.status.Status.TheVariants.{Done, Usage, BadFile, BadJob, Infeasible, Overflow, ReadFault, WriteFault, DiskFault, Lost, NoRun, HasRun, BadLedger, LedgerLimit, OutOfMemory}
-use Rattle.lrs_cli.specs.Answers.{Knows, NothingPasses, WritesPart, WritesWhole}
+use Rattle.lrs_cli.specs.Answers.{Knows, PassesNowhere, WritesPart, WritesWhole}
 use Rattle.lrs_cli.specs.Ledgers.{AllGoOnFrom, AreTrusted, ComesToItsEnd, DiskRose, GoesOnFrom, Resources, RoseAt, TellsOf, WritesRecords, WritesRecordsPart}
 
 module _ {D W : Type 0} (disk : Disk D) (workers : Workers W) (options : Options) (limit : ℕ) (old new : Resources D W) where
@@ -133,7 +133,7 @@ module _ {D W : Type 0} (disk : Disk D) (workers : Workers W) (options : Options
     -- where a run is there, no product of the polyhedron that these tell passes, each attempt is answered in full and nothing
     -- fails: the call comes to its end
     pub complete : (records : List (List ℕ)) → AllGoOnFrom records (disk.images old.disk) →
-        Knows (disk.seen old.disk) IsOpen → TellsOf NothingPasses records →
+        Knows (disk.seen old.disk) IsOpen → TellsOf PassesNowhere records →
         TellsFullAnswers (workers.history old.workers) (workers.history new.workers) → ¬ (Rose faults faults') →
         ¬ (Rose (disk.faults old.disk) (disk.faults new.disk)) → ComesToItsEnd answer
     pub comes : GoesOn written now Unwritten answer

@@ -27,7 +27,7 @@ use Rattle.coordinator.specs.Leaving.{HasFront, IsRefusedBy}
 use Rattle.run_laws.specs.Laws.{IsLedgerFile, TellsFullAnswers}
 use Rattle.lrs_cli.specs.declared.status.Status.{Status}
 use Rattle.lrs_cli.specs.declared.status.Status.TheVariants.{Done, Usage, BadFile, BadJob, Infeasible, Overflow, ReadFault, WriteFault, DiskFault, Lost, NoRun, HasRun, BadLedger, LedgerLimit, OutOfMemory}
-use Rattle.lrs_cli.specs.Answers.{Describes, IsBadFile, IsInfeasibleFile, IsListed, IsPartlyListed, Knows, NothingPasses, WhereTold}
+use Rattle.lrs_cli.specs.Answers.{Describes, IsBadFile, IsInfeasibleFile, IsListed, IsPartlyListed, Knows, PassesNowhere, WhereTold}
 use Rattle.lrs_cli.specs.Ledgers.{AreTrusted, ComesToItsEnd, DiskRose, GoesOnFrom, Resources, RoseAt, WritesRecords, WritesRecordsPart}
 use Rattle.lrs_cli.specs.Streams.{Streams}
 
@@ -176,7 +176,7 @@ module _ {D W : Type 0} (disk : Disk D) (workers : Workers W) (options : Options
         (λ c. disk.images old.disk c ⊎ (HasNoRun c ⊎ IsLedgerFile c)))
     -- of a text that describes a polyhedron of which no product passes, in a file without a run, where each attempt is
     -- answered in full and nothing fails: infeasible, or the call comes to its end
-    pub complete : Knows before.left (Describes NothingPasses) → Knows (disk.seen old.disk) HasNoRun →
+    pub complete : Knows before.left (Describes PassesNowhere) → Knows (disk.seen old.disk) HasNoRun →
         TellsFullAnswers (workers.history old.workers) (workers.history new.workers) →
         ¬ (Rose before.read_faults after.read_faults) → ¬ (Rose before.write_faults after.write_faults) →
         ¬ (Rose (disk.faults old.disk) (disk.faults new.disk)) → (answer ≡ Infeasible) ⊎ ComesToItsEnd answer

@@ -23,7 +23,7 @@ use Rattle.workers_io.specs.History.{Happening}
 use Rattle.coordinator_core.specs.declared.options.Options.{Options}
 use Rattle.coordinator_core.specs.Machine.{State}
 use Rattle.coordinator_laws.specs.Courses.{Course, IsCourse, replies_after}
-use Rattle.coordinator_laws.proofs.CourseLaws.{events_keep_legal, events_keep_text, fronts_are_legal, traces_tell_the_run}
+use Rattle.coordinator_laws.proofs.CourseLaws.{events_keep_legal, events_keep_text, fronts_are_legal, some_records, traces_tell_the_run}
 use Rattle.coordinator_laws.proofs.EndLemmas.{none_waits_at_finish}
 use Rattle.coordinator.specs.Calls.{state_after}
 use Rattle.coordinator.specs.Following.{LeadsTo}
@@ -92,9 +92,6 @@ finished_calls_list options s replies payloads texts old new h f short recorded 
     }
 
 -- ---- what is left
-some_records : (s : Search) (replies : List Reply) (payloads more : List (List ℕ)) → IsLedgerText s replies payloads → 0 < length (payloads ++ more)
-some_records s replies payloads more t = subst (λ (l : List (List ℕ)). 0 < length (l ++ more)) (sym t.split) (omega arith)
-
 front_of : (s : Search) (replies : List Reply) (payloads texts : List (List ℕ)) (after : List Reply) → AreLegal s replies payloads → AreLegal s after (payloads ++ texts) →
     (file : List ℕ) → HasFront payloads texts file → (more : List (List ℕ)) × Records (payloads ++ more) file × IsLegal (payloads ++ more)
 front_of s replies payloads texts after before all file front =
