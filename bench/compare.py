@@ -183,8 +183,8 @@ def notes_of(name, kind, wanted, got):
 
 
 def measured(title, polyhedron, names):
-    """For each of these programs the seconds and how it ended, after the listings were compared; the rows; what is to be
-    said. A listing is compared with the first that there is, which is ours where we answer. A program that differs from it
+    """For each of these programs the seconds and how it ended, after the listings were compared; the rows; the remarks.
+    A listing is compared with the first that there is, which is ours where we answer. A program that differs from it
     is wrong where as many of the others or more agree with it; else, and where our two differ, all ends here."""
     write_input(polyhedron)
     ended, told, wanted, agree, differ = {}, [], None, [], []
@@ -327,8 +327,8 @@ Written by `bench/compare` on {day}, in one run of {minutes:.0f} minutes{f", of 
 Seconds of wall time, with the start of the process, reading and printing; the least of three calls where the first took less
 than a second. `> {limit:.0f}`: stopped after {limit:.0f} seconds. Rows are those of the listing without lines and equations. Wherever two programs
 answered, their listings were compared as sets. **Wrong** is one that differs from ours, where as many of the other programs or
-more agree with ours: what was to be said beside the times says by how much. The ledger of `run` stands in the folder for temporary files, and each
-of its records is synced.
+more agree with ours; the remarks say by how much. The ledger of `run` stands in the folder for temporary files, and each of its
+records is synced.
 
 {table(["input", "m x n", "rows"] + names, lines)}
 
@@ -340,7 +340,7 @@ Geometric means of the times over those of lrs, where both answered, with the le
 
 ![Time against size for cubes, cyclic polytopes and random spheres](comparison_growth.svg)
 
-What was to be said beside the times:
+Remarks:
 
 {chr(10).join("- " + note for note in told_of) or "- nothing"}
 
