@@ -70,6 +70,7 @@ PROGRAMS = {
     "lrs": [lrs], "mplrs": MPI if mplrs else [], "cddlib": [cdd], "Normaliz": [normaliz, "-x=1", "-s", project], "PPL": [ppl],
 }
 PROGRAMS = {name: command for name, command in PROGRAMS.items() if command and command[0]}
+OURS = {"ours", "ours, run"}
 TARGETS = {name: os.path.join(work, f"{name} listing") for name in PROGRAMS}
 
 
@@ -175,14 +176,18 @@ def notes_of(name, kind, wanted, got):
             all(row[0] and not any(row[1:]) for row in missing):
         notes.append("leaves out the vertex of a cone")
         missing = set()
-    return same and not missing and not found - wanted_rows, notes
+    extra = found - wanted_rows
+    if missing or extra:
+        notes.append(f"leaves out {len(missing)} rows of {len(wanted_rows)} and has {len(extra)} that are none")
+    return same and not missing and not extra, notes
 
 
 def measured(title, polyhedron, names):
-    """For each of these programs the seconds and how it ended, after the listings were compared; the rows; what is to be
-    said. A listing is compared with the first that there is."""
+    """For each of these programs the seconds and how it ended, after the listings were compared; the rows; the remarks.
+    A listing is compared with the first that there is, which is ours where we answer. A program that differs from it
+    is wrong where as many of the others or more agree with it; else, and where our two differ, all ends here."""
     write_input(polyhedron)
-    ended, told, wanted = {}, [], None
+    ended, told, wanted, agree, differ = {}, [], None, [], []
     for name in names:
         ended[name] = call(name)
         if ended[name][1] != "done":
@@ -194,11 +199,15 @@ def measured(title, polyhedron, names):
             ended[name] = ended[name][0], "no listing"
             told.append(f"{name}: no listing")
             continue
-        wanted = wanted or got
+        if wanted is None:
+            wanted = got
         same, notes = notes_of(name, polyhedron[0], wanted, got)
-        if not same:
-            sys.exit(f"bench/compare: {title}: {name} has another listing")
         told += [f"{name} {note}" for note in notes]
+        if not same:
+            ended[name] = ended[name][0], "wrong"
+        (agree if same else differ).append(name)
+    if len(differ) > len([name for name in agree if name not in OURS]) or OURS & {*differ}:
+        sys.exit(f"bench/compare: {title}: {', '.join(differ)} and {', '.join(agree)} have different listings: {told}")
     for _ in range(2):
         for name in names:
             if ended[name][1] == "done" and ended[name][0] < 1:
@@ -211,7 +220,7 @@ def shown_time(entry):
     if entry is None:
         return "-"
     seconds, how = entry
-    return f"{seconds:.2f}" if how == "done" else f"> {limit:.0f}" if how == "limit" else "stops"
+    return {"done": f"{seconds:.2f}", "limit": f"> {limit:.0f}", "wrong": f"**wrong**, {seconds:.2f}"}.get(how, "stops")
 
 
 def answer_of(name, given, wanted):
@@ -317,8 +326,9 @@ Written by `bench/compare` on {day}, in one run of {minutes:.0f} minutes{f", of 
 
 Seconds of wall time, with the start of the process, reading and printing; the least of three calls where the first took less
 than a second. `> {limit:.0f}`: stopped after {limit:.0f} seconds. Rows are those of the listing without lines and equations. Wherever two programs
-answered, their listings were compared and are the same sets. The ledger of `run` stands in the folder for temporary files, and each
-of its records is synced.
+answered, their listings were compared as sets. **Wrong** is one that differs from ours, where as many of the other programs or
+more agree with ours; the remarks say by how much. The ledger of `run` stands in the folder for temporary files, and each of its
+records is synced.
 
 {table(["input", "m x n", "rows"] + names, lines)}
 
@@ -330,7 +340,7 @@ Geometric means of the times over those of lrs, where both answered, with the le
 
 ![Time against size for cubes, cyclic polytopes and random spheres](comparison_growth.svg)
 
-What was to be said beside the times:
+Remarks:
 
 {chr(10).join("- " + note for note in told_of) or "- nothing"}
 
