@@ -1,5 +1,5 @@
 """What bench/compare calls: inputs, calls, the comparison of listings, and the page."""
-import os, re, signal, subprocess, sys, time
+import os, re, signal, subprocess, sys, threading, time
 from math import exp, log
 from random import Random
 
@@ -96,12 +96,16 @@ def call(name):
     start = time.perf_counter()
     with open(source) as given, open(TARGETS[name], "w") as out, open(os.path.join(work, "errors"), "w") as errors:
         run = subprocess.Popen(PROGRAMS[name], stdin=given, stdout=out, stderr=errors, start_new_session=True, cwd=work)
-        try:
-            run.wait(limit)
-        except subprocess.TimeoutExpired:
-            stop(run)
-            return limit, "limit"
-    seconds = time.perf_counter() - start
+        # a wait with a limit of its own would ask again and again, with pauses up to a twentieth of a second
+        passed = threading.Event()
+        timer = threading.Timer(limit, lambda: (passed.set(), stop(run)))
+        timer.start()
+        run.wait()
+        seconds = time.perf_counter() - start
+        timer.cancel()
+        timer.join()
+    if passed.is_set():
+        return limit, "limit"
     if run.returncode == 0:
         return seconds, "done"
     with open(os.path.join(work, "errors")) as errors:
