@@ -217,11 +217,14 @@ fn children_run_beside_each_other(rt: HostRuntime) -> Result<(), Fail> {
     }
     gather(&mut workers, &mut seen)?;
     fs::remove_file(&rt, "tests_of_workers_io.made")?;
-    assert_eq!(rt;
-        (seen.written(), workers.faults()),
-        (b"2= 1=met\n ".as_slice(), 0)
-    );
+    let found = (is_met(seen.written()), workers.faults());
+    assert_eq!(rt; found, (true, 0));
     Ok(())
+}
+
+/// Whether both gave what they were to; they end nearly at once, and either may come first.
+fn is_met(seen: &[u8]) -> bool {
+    seen == b"1=met\n 2= ".as_slice() || seen == b"2= 1=met\n ".as_slice()
 }
 
 /// Writes what the workers give until no attempt is out.
