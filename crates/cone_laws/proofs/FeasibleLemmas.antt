@@ -1,12 +1,13 @@
 -- An H file's system is feasible exactly where it has a vertex.
-use Rattle.std.proofs.Common.{◌≡◌, ◌↔◌, Bool, true, false, cond, ℕ, zero, suc, ◌-◌, ℤ, pos, ◌*ℤ◌, List, [], ◌∷◌, length, replicate, refl, sym, ap, subst, ◌∙◌, arith}
+use Rattle.std.proofs.Common.{◌≡◌, ◌↔◌, Bool, true, false, cond, ℕ, zero, ◌-◌, ℤ, pos, ◌*ℤ◌, List, [], ◌∷◌, length, refl, sym, ap, subst, ◌∙◌, arith}
 use Rattle.std.specs.Prelude.{◌<◌, ◌≤ℤ◌, ◌<ℤ◌}
 use Rattle.std.proofs.lemmas.Int.{ints}
 use Rattle.std.specs.List.{Contains, slice_index_or}
 use Rattle.std.proofs.lemmas.List.Elements.{All-contains, Contains-append_right}
 use Rattle.poly_num.specs.Vectors.{Vector, ◌·◌}
-use Rattle.poly_num.proofs.Ring.{lin, mul_zero, zero_mul}
+use Rattle.poly_num.proofs.Ring.{lin, mul_zero}
 use Rattle.poly_num.proofs.Order.{positive_product, keeps_at_most}
+use Rattle.poly_num.proofs.VectorLemmas.{zeros-dot}
 use Rattle.poly_model.specs.declared.kind.Kind.TheVariants.{H}
 use Rattle.poly_model.specs.Independence.{Follows}
 use Rattle.poly_model.specs.Systems.{Row, System, Polyhedron, first_unit, file_rows, added_row, cone_of}
@@ -96,14 +97,9 @@ module _ (sys : System) where
   )
 
 -- ---- the cone of a file has the row at infinity
-replicate-dot : (m : ℕ) (z : Vector) → replicate m (pos 0) · z ≡ pos 0
-replicate-dot zero z = refl
-replicate-dot (suc m) [] = refl
-replicate-dot (suc m) (x ∷ z) = omega (arith, lin, zero_mul x, replicate-dot m z)
-
 pub first_unit_reads : (n : ℕ) (z : Vector) → first_unit n · z ≡ at 0 z
 first_unit_reads n [] = refl
-first_unit_reads n (x ∷ z) = omega (arith, ints, replicate-dot (n - 1) z)
+first_unit_reads n (x ∷ z) = omega (arith, ints, zeros-dot (n - 1) z)
 
 file_is_flat : (p : Polyhedron) → p.kind ≡ H → IsFlatAtInfinity (cone_of p)
 file_is_flat p kind z l t =

@@ -1,43 +1,24 @@
 -- What a search begins with is one at the root.
-use Rattle.std.proofs.Common.{◌≡◌, ℕ, ◌≤◌, List, [], ◌∷◌, length, refl, sym, subst, None, arith}
-use Rattle.std.specs.List.{range_with_len}
-use Rattle.std.proofs.lemmas.List.FromFn.{length-range_with_len}
+use Rattle.std.proofs.Common.{◌≡◌, ℕ, ◌≤◌, List, ◌∷◌, length, refl, sym, subst, None, arith}
 use Rattle.poly_num.specs.Vectors.{Vector}
-use Rattle.poly_model.specs.FreeColumns.{AreFreeColumns, AreLinesOf}
 use Rattle.poly_model.specs.Spaces.{Space, main_space}
 use Rattle.poly_model.specs.Dictionaries.{IsDictionary}
 use Rattle.poly_model.specs.Subtrees.{IsSubtreeRoot}
 use Rattle.poly_model.specs.Systems.{System, Polyhedron, cone_of}
 use Rattle.poly_model.specs.Tree.{IsRowDictionary, IsFeasibleRoot, IsLexFeasible}
-use Rattle.dictionary_laws.proofs.Filters.{range_has}
-use Rattle.dictionary_laws.proofs.KeyExchange.{ascending_distinct}
 use Rattle.tree_laws.proofs.AscendingRows.{main_rows_ascend}
 use Rattle.tree_laws.proofs.OneList.{same_columns}
 use Rattle.tree_laws.proofs.Roots.{root_is_feasible}
 use Rattle.search_laws.proofs.AnyShown.{serves_too}
-use Rattle.search_laws.proofs.OnceLists.{no_longer}
 use Rattle.search_laws.proofs.SearchRoots.{has_search_root}
+use Rattle.search_laws.proofs.LineCounts.{line_for_each, few_columns}
 use Rattle.dictionary.specs.Views.{Dictionary, table_of}
 use Rattle.linearity.specs.Prepared.{IsPrepared}
 use Rattle.phase_one.specs.Found.{IsFound}
 use Rattle.reverse_step.specs.Walks.{Walk, Stands}
-use Rattle.reverse_step.proofs.DepthLemmas.{once_of}
 use Rattle.convert_core.specs.declared.rays.Rays.{Rays}
 use Rattle.convert_core.specs.Rays.{AreShown}
 use Rattle.convert_core.specs.Searches.{IsSearch, IsAtRoot, IsRootOf}
-
--- ---- the lines are few
-line_for_each : (sys : System) (free : List ℕ) (lines : List Vector) → AreLinesOf sys free lines → length lines ≡ length free
-line_for_each sys [] [] h = refl
-line_for_each sys (j ∷ free) (y ∷ lines) h = let e = line_for_each sys free lines h.1 in omega (arith, e)
-line_for_each sys [] (y ∷ lines) h = absurd h
-line_for_each sys (j ∷ free) [] h = absurd h
-
-few_columns : (sys : System) (free : List ℕ) → AreFreeColumns sys free → length free ≤ sys.n
-few_columns sys free f =
-    let l = no_longer free (range_with_len 0 sys.n) (once_of free (ascending_distinct free f.ascending))
-    (λ j c. let w = ((f.exactly j).1 c).within in range_has 0 sys.n j (omega arith) (omega (arith, w))) in
-    omega (arith, l, length-range_with_len 0 sys.n)
 
 pub is_root_of : (p : Polyhedron) (lines : List Vector) (free : List ℕ) (start : Dictionary) →
     IsPrepared p lines free start → (root : List ℕ) (d : Dictionary) → IsFound p free root d → IsRootOf p root d lines

@@ -5,10 +5,9 @@ use Rattle.std.proofs.Math.Seq.{take-suc}
 use Rattle.std.proofs.lemmas.List.Elements.{Contains-append_left, Contains-get_or}
 use Rattle.poly_model.specs.Keys.{IsAscending}
 use Rattle.poly_model.specs.Labels.{constant_label}
+use Rattle.linear_laws.specs.Distinct.{AreDistinct}
 use Rattle.linear_laws.proofs.Members.{Contains-first, Contains-later, Contains-cons_cases}
 use Rattle.dictionary_laws.proofs.KeyExchange.{ascending_distinct}
-use Rattle.search_laws.specs.Shares.{StandOnce}
-use Rattle.reverse_step.proofs.DepthLemmas.{once_of}
 use Rattle.convert_core.proofs.RowLists.{apart}
 
 -- ---- a label that stands there
@@ -20,7 +19,7 @@ module _ (ks : List ℕ) (i x : ℕ) (lt : i < length ks) (is : x ≡ get_or ks 
   not_taken : IsAscending ks → Contains (take i ks) x → ⊥
   not_taken up c =
       apart (take i ks) (drop i ks)
-      (subst StandOnce (sym (take-append-drop i ks)) (once_of ks (ascending_distinct ks up))) x c
+      (subst AreDistinct (sym (take-append-drop i ks)) (ascending_distinct ks up)) x c
       (subst (λ l. Contains l x) (sym (drop-cons ks i x lt))
       (subst (λ y. Contains (y ∷ drop (suc i) ks) x) is (Contains-first x (drop (suc i) ks))))
 

@@ -4,22 +4,23 @@ use Rattle.std.proofs.Common.{◌≡◌, ⊎_elim, ℕ, List, [], ◌∷◌, ◌
 use Rattle.std.specs.List.{Contains}
 use Rattle.std.proofs.lemmas.List.Elements.{Contains-append_left, Contains-append_right, Contains-append_cases}
 use Rattle.poly_num.specs.Vectors.{Vector}
+use Rattle.linear_laws.specs.Distinct.{AreDistinct}
 use Rattle.linear_laws.proofs.Members.{Contains-nil, Contains-first, Contains-later, Contains-cons_cases}
-use Rattle.listing_laws.specs.Lists.{AreDistinctVectors, Lists}
-use Rattle.search_laws.specs.Shares.{StandOnce, ListsAll}
-use Rattle.search_laws.proofs.OnceLists.{once-append}
+use Rattle.linear_laws.proofs.Distinct.{distinct_append}
+use Rattle.listing_laws.specs.Lists.{Lists}
+use Rattle.search_laws.specs.Shares.{ListsAll}
 
 module _ {X : Type 0} where
   -- ---- joined the other way round
-  once_behind : (xs ys : List X) → StandOnce (xs ++ ys) → StandOnce ys
+  once_behind : (xs ys : List X) → AreDistinct (xs ++ ys) → AreDistinct ys
   once_behind [] ys h = h
   once_behind (x ∷ xs) ys h = once_behind xs ys h.1
 
-  pub once_before : (xs ys : List X) → StandOnce (xs ++ ys) → StandOnce xs
+  pub once_before : (xs ys : List X) → AreDistinct (xs ++ ys) → AreDistinct xs
   once_before [] ys h = tt
   once_before (x ∷ xs) ys h = (λ c. h.0 (Contains-append_left xs ys x c), once_before xs ys h.1)
 
-  pub apart : (xs ys : List X) → StandOnce (xs ++ ys) → (y : X) → Contains xs y → Contains ys y → ⊥
+  pub apart : (xs ys : List X) → AreDistinct (xs ++ ys) → (y : X) → Contains xs y → Contains ys y → ⊥
   apart [] ys h y c d = Contains-nil y c
   apart (x ∷ xs) ys h y c d =
       ⊎_elim (λ (e : x ≡ y). h.0 (Contains-append_right xs ys x (subst (Contains ys) (sym e) d)))
@@ -31,7 +32,7 @@ module _ {X : Type 0} where
 
   pub turned : (P : X → Type 0) (xs ys : List X) → ListsAll P (xs ++ ys) → ListsAll P (ys ++ xs)
   turned P xs ys l = record {
-    once = once-append ys xs (once_behind xs ys l.once) (once_before xs ys l.once)
+    once = distinct_append ys xs (once_behind xs ys l.once) (once_before xs ys l.once)
         (λ y c d. apart xs ys l.once y d c);
     only = λ y c. l.only y (other_way ys xs y c);
     each = λ y p. other_way xs ys y (l.each y p);
@@ -66,8 +67,8 @@ module _ (P : ℕ → Type 0) where
         ⊎_elim (λ (e : c ≡ x). e) (λ (n : Contains [] x). absurd (Contains-nil x n))
         (Contains-cons_cases x c [] (only x k).0)
 
-    pub once_more : StandOnce ys → ((x : ℕ) → Contains ys x → Contains (c ∷ []) x × P x) → StandOnce (xs ++ ys)
-    once_more once only = once-append xs ys v.once once
+    pub once_more : AreDistinct ys → ((x : ℕ) → Contains ys x → Contains (c ∷ []) x × P x) → AreDistinct (xs ++ ys)
+    once_more once only = distinct_append xs ys v.once once
         (λ x k l. new (subst (Contains columns) (sym (only_here only x l)) (v.only x k).0))
 
     pub lists_more : ListsAll (λ x. Contains (c ∷ []) x × P x) ys →
@@ -107,8 +108,8 @@ module _ {X Y : Type 0} (f : X → Y) where
       (Contains-cons_cases y (f z) (map f xs) c)
 
   -- where no two members have one value
-  pub once_values : (xs : List X) → StandOnce xs →
-      ((a b : X) → Contains xs a → Contains xs b → f a ≡ f b → a ≡ b) → StandOnce (map f xs)
+  pub once_values : (xs : List X) → AreDistinct xs →
+      ((a b : X) → Contains xs a → Contains xs b → f a ≡ f b → a ≡ b) → AreDistinct (map f xs)
   once_values [] h one = tt
   once_values (x ∷ xs) h one = (
     λ c. let w = value_of xs (f x) c in
@@ -117,10 +118,6 @@ module _ {X Y : Type 0} (f : X → Y) where
   )
 
 -- ---- vectors
-pub distinct_vectors : (ys : List Vector) → StandOnce ys → AreDistinctVectors ys
-distinct_vectors [] h = tt
-distinct_vectors (y ∷ ys) h = (h.0, distinct_vectors ys h.1)
-
 pub lists_vectors : (P : Vector → Type 0) (ys : List Vector) → ListsAll P ys → Lists P ys
 lists_vectors P ys l =
-    record { distinct = distinct_vectors ys l.once; members = λ y. (λ c. l.only y c, λ p. l.each y p) }
+    record { distinct = l.once; members = λ y. (λ c. l.only y c, λ p. l.each y p) }

@@ -11,9 +11,10 @@ use Rattle.poly_model.specs.Spaces.{main_space}
 use Rattle.poly_model.specs.Subtrees.{IsSubtreeRoot, IsShownAtKey}
 use Rattle.poly_model.specs.Systems.{Polyhedron, cone_of}
 use Rattle.poly_model.specs.Tree.{IsLexFeasible}
+use Rattle.linear_laws.specs.Distinct.{AreDistinct}
 use Rattle.linear_laws.proofs.Members.{Contains-nil, Contains-first, Contains-later, Contains-cons_cases}
 use Rattle.tree_laws.proofs.ListedVectors.{searches_listing}
-use Rattle.search_laws.specs.Shares.{StandOnce, ListsAll}
+use Rattle.search_laws.specs.Shares.{ListsAll}
 use Rattle.search_laws.specs.SharesOfListings.{IsShownAtSome}
 use Rattle.dictionary.specs.Views.{Dictionary, IsDictionaryIn, table_of}
 use Rattle.hull_lift.specs.Facets.{primitive_column, HasPointRows, IsShownAs, IsShownColumn}
@@ -145,8 +146,8 @@ module _ (p : Polyhedron) (free : List ℕ) (columns : AreFreeColumns (cone_of p
               (Contains-cons_cases k d.key [] c)
 
       -- and those of some are some of them
-      pub some_rows : (cs : List ℕ) → StandOnce cs → ((c : ℕ) → Contains cs c → IsListed c) →
-          StandOnce (column_rows (cone_of p) d cs)
+      pub some_rows : (cs : List ℕ) → AreDistinct cs → ((c : ℕ) → Contains cs c → IsListed c) →
+          AreDistinct (column_rows (cone_of p) d cs)
           × ((y : Vector) → Contains (column_rows (cone_of p) d cs) y → IsShownAtSome p root (d.key ∷ []) y)
       some_rows cs once only = (
         once_values row cs once (λ a b c e q. one_column a b (only a c) (only b e) q),

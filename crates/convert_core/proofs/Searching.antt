@@ -13,11 +13,12 @@ use Rattle.poly_model.specs.PhaseOne.{IsSearchRoot}
 use Rattle.poly_model.specs.Spaces.{Space, main_space}
 use Rattle.poly_model.specs.Subtrees.{IsSubtreeRoot, IsSubtreeKey, IsShownAtKey}
 use Rattle.poly_model.specs.Systems.{System, row_of, Polyhedron, cone_of}
+use Rattle.linear_laws.specs.Distinct.{AreDistinct}
 use Rattle.dictionary_laws.proofs.Filters.{filter_only}
 use Rattle.tree_laws.proofs.ListedVectors.{searches_listing}
 use Rattle.tree_laws.proofs.MainLabels.{main_in, other_has}
 use Rattle.tree_laws.proofs.OneList.{same_columns}
-use Rattle.search_laws.specs.Shares.{StandOnce, ListsAll, IsFeasibleUnder}
+use Rattle.search_laws.specs.Shares.{ListsAll, IsFeasibleUnder}
 use Rattle.search_laws.specs.Splits.{IsSplit}
 use Rattle.search_laws.specs.SharesOfListings.{IsShownAtSome, IsRun, IsSubtreeWeight}
 use Rattle.search_laws.proofs.SearchRoots.{has_search_root}
@@ -40,7 +41,7 @@ use Rattle.convert_core.specs.Rays.{HasLinearPoint, AreShown}
 use Rattle.convert_core.specs.Rows.{IsColumnShown, CanTest, columns_of, column_rows}
 use Rattle.convert_core.specs.Searches.{IsSearch, IsAtRoot}
 use Rattle.convert_core.specs.Listed.{TakesSteps}
-use Rattle.convert_core.proofs.RowLists.{turned, distinct_vectors, lists_vectors}
+use Rattle.convert_core.proofs.RowLists.{turned, lists_vectors}
 use Rattle.convert_core.proofs.RowsOf.{lists_rows, some_rows}
 use Rattle.convert_core.proofs.ShownRows.{no_constant}
 
@@ -100,11 +101,11 @@ module _ (p : Polyhedron) (cone : System) (rays : Rays) (walk : Walk) (vector : 
       (subst (λ s. ListsAll (λ c. Contains (columns_of walk.dict) c × IsColumnShown s walk.root walk.dict c) cs)
       x.is_cone l))
 
-  pub some_rows_here : (cs : List ℕ) → StandOnce cs → ((c : ℕ) → Contains cs c → IsListed c) →
-      StandOnce (column_rows cone walk.dict cs)
+  pub some_rows_here : (cs : List ℕ) → AreDistinct cs → ((c : ℕ) → Contains cs c → IsListed c) →
+      AreDistinct (column_rows cone walk.dict cs)
       × ((y : Vector) → Contains (column_rows cone walk.dict cs) y → IsShownAtSome p walk.root (walk.dict.key ∷ []) y)
   some_rows_here cs once only =
-      subst (λ s. StandOnce (column_rows s walk.dict cs) × ((y : Vector) → Contains (column_rows s walk.dict cs) y →
+      subst (λ s. AreDistinct (column_rows s walk.dict cs) × ((y : Vector) → Contains (column_rows s walk.dict cs) y →
       IsShownAtSome p walk.root (walk.dict.key ∷ []) y)) (sym x.is_cone)
       (some_rows p x.free x.columns x.few walk.root walk.dict is_dictionary x.walk_in.stands.feasible rays can_there
       subtree_root cs once
@@ -256,11 +257,11 @@ module _ (p : Polyhedron) (cone : System) (rays : Rays) (first walk : Walk) (vec
     (rows : List Vector) (before now : ℕ)
     (x : IsListedSoFar p cone rays first walk vector left rows before now) where
   -- some of the rows of a new cobasis more are extreme too, each once
-  pub stops_after : (more : List Vector) → StandOnce (rows ++ more) →
+  pub stops_after : (more : List Vector) → AreDistinct (rows ++ more) →
       ((y : Vector) → Contains more y → IsExtreme (cone_of p) y) →
       (rest : List Vector) × AreExtreme (cone_of p) ((rows ++ more) ++ rest)
   stops_after more once extreme =
-      completed p (rows ++ more) (distinct_vectors (rows ++ more) once)
+      completed p (rows ++ more) once
       (λ y c. ⊎_elim
       (λ m. extreme_of_some p cone rays walk vector x.search x.visited y (x.shown.only y m))
       (extreme y) (Contains-append_cases rows more y c))
@@ -286,7 +287,7 @@ module _ (p : Polyhedron) (cone : System) (rays : Rays) (first walk : Walk) (vec
 
   pub stops_here : (rest : List Vector) × AreExtreme (cone_of p) (rows ++ rest)
   stops_here =
-      completed p rows (distinct_vectors rows x.shown.once)
+      completed p rows x.shown.once
       (λ y c. extreme_of_some p cone rays walk vector x.search x.visited y (x.shown.only y c))
 
 -- ---- the steps

@@ -10,10 +10,10 @@ use Rattle.poly_model.specs.Due.{IsDue, IsAskedInMain}
 use Rattle.poly_model.specs.Extreme.{AreExtreme}
 use Rattle.poly_model.specs.ListingText.{row_text}
 use Rattle.poly_model.specs.Systems.{System, Polyhedron, cone_of}
-use Rattle.search_laws.proofs.OnceLists.{once-append}
+use Rattle.linear_laws.proofs.Distinct.{distinct_append}
 use Rattle.listing_laws.proofs.Completions.{completed}
 use Rattle.poly_io.specs.declared.sink.Sink.{Ghosts as Sink}
-use Rattle.poly_io.specs.Causes.{Rose}
+use Rattle.poly_io.specs.Causes.{Rose, RisesAt}
 use Rattle.poly_io.specs.Written.{AppendsPart}
 use Rattle.reverse_step.specs.declared.walker.Visit.TheVariants.{New}
 use Rattle.reverse_step.specs.Walks.{Walk}
@@ -27,8 +27,7 @@ use Rattle.convert_core.specs.declared.walk.Ended.{Ended}
 use Rattle.convert_core.specs.declared.walk.Ended.TheVariants.{Overflow, WriteFault}
 use Rattle.convert_core.specs.Rows.{FailsShown, columns_of, column_rows}
 use Rattle.convert_core.specs.Searches.{IsSearch}
-use Rattle.convert_core.specs.Listed.{RisesAt, EndsStep, ListsRows}
-use Rattle.convert_core.proofs.RowLists.{distinct_vectors}
+use Rattle.convert_core.specs.Listed.{EndsStep, ListsRows}
 use Rattle.convert_core.proofs.RowsWritten.{part_more, part_all}
 use Rattle.convert_core.proofs.Searching.{IsListedSoFar, some_rows_here, extreme_of_some, search_moves, new_apart, stops_after, stops_here}
 
@@ -46,7 +45,7 @@ module _ {O : Type 0} (sink : Sink O) (p : Polyhedron) (cone : System) (rays : R
   stops_first walk vector x s kind o q f result r =
       let ys = column_rows cone walk.dict f.shown in
       let some = some_rows_here p cone rays walk vector x f.shown f.once f.only in
-      let (rest, e) = completed p ys (distinct_vectors ys some.0)
+      let (rest, e) = completed p ys some.0
       (λ y c. extreme_of_some p cone rays walk vector x (walk.dict.key ∷ []) y (some.1 y c)) in
       part_of p (sink.written o) (sink.written q) s.tally result r ys rest e
       (subst (λ k. AppendsPart (sink.written o) (sink.written q) (flat_map (row_text k) ys)) kind f.bytes)
@@ -67,7 +66,7 @@ module _ {O : Type 0} (sink : Sink O) (p : Polyhedron) (cone : System) (rays : R
         let moved = search_moves p cone rays walk vector x.search New new vector v refl in
         let some = some_rows_here p cone rays new vector moved f.shown f.once f.only in
         let (rest, e) = stops_after p cone rays first walk vector left rows before now x ys
-        (once-append rows ys x.shown.once some.0
+        (distinct_append rows ys x.shown.once some.0
         (λ y c d. new_apart p cone rays first walk vector left rows before now x new v y (x.shown.only y c) (some.1 y d)))
         (λ y c. extreme_of_some p cone rays new vector moved (new.dict.key ∷ []) y (some.1 y c)) in
         part_of p (sink.written o) (sink.written q) s.tally result r (rows ++ ys) rest e

@@ -1,5 +1,5 @@
 -- What a search lists, why it ends before its end, and how many pivots it takes.
-use Rattle.std.specs.Prelude.{◌≡◌, ◌⊎◌, ℕ, ◌+◌, ◌*◌, ◌≤◌, List, ◌++◌, Option, Result, IfOk, OnErr, IsErrOf}
+use Rattle.std.specs.Prelude.{◌≡◌, ◌⊎◌, ℕ, ◌+◌, ◌*◌, ◌≤◌, List, ◌++◌, Option, Result, IfOk, OnErr}
 use Rattle.std.specs.List.{flat_map}
 use Rattle.poly_num.specs.Vectors.{Vector}
 use Rattle.poly_model.specs.declared.overflow.Overflow.{Overflow as Passed}
@@ -9,7 +9,6 @@ use Rattle.poly_model.specs.ListingText.{row_text}
 use Rattle.poly_model.specs.PhaseOne.{IsSearchRoot}
 use Rattle.poly_model.specs.Systems.{System, Polyhedron, cone_of}
 use Rattle.search_laws.specs.SharesOfListings.{IsSubtreeWeight}
-use Rattle.poly_io.specs.Causes.{Rose}
 use Rattle.poly_io.specs.Written.{AppendsPart}
 use Rattle.reverse_step.specs.declared.walker.Visit.{Visit}
 use Rattle.reverse_step.specs.declared.walker.Visit.TheVariants.{New, Back, End}
@@ -22,12 +21,6 @@ use Rattle.row_printer.specs.Rows.{HasWritten}
 use Rattle.convert_core.specs.declared.walk.Ended.{Ended}
 use Rattle.convert_core.specs.declared.walk.Ended.TheVariants.{Overflow, WriteFault}
 use Rattle.convert_core.specs.Rows.{WritesShown, FailsShown, columns_of}
-
--- a count of faults never falls, rose where this error is answered, and stands still where it is not
-pub record RisesAt {T E : Type 0} (fault : E) (before now : ℕ) (result : Result T E) : Type 0 where
-  pub later : before ≤ now
-  pub failed : IsErrOf result fault → Rose before now
-  pub same : ¬ (IsErrOf result fault) → now ≡ before
 
 -- ---- one step
 -- what is shown at a new cobasis was written; elsewhere nothing

@@ -7,7 +7,8 @@ use Rattle.poly_model.specs.Labels.{constant_label}
 use Rattle.poly_model.specs.ListingText.{row_text}
 use Rattle.poly_model.specs.Systems.{System}
 use Rattle.poly_model.specs.Tree.{ShowsPoint, ShowsRay}
-use Rattle.search_laws.specs.Shares.{StandOnce, ListsAll}
+use Rattle.linear_laws.specs.Distinct.{AreDistinct}
+use Rattle.search_laws.specs.Shares.{ListsAll}
 use Rattle.dictionary.specs.Views.{Dictionary, table_of}
 use Rattle.hull_lift.specs.Facets.{HasPointRows, IsShownColumn, primitive_column}
 use Rattle.poly_io.specs.Causes.{Rose}
@@ -60,7 +61,7 @@ pub record WritesShown {O : Type 0} (written : O → Option (List ℕ)) (faults 
 pub record FailsShown {O : Type 0} (written : O → Option (List ℕ)) (faults : O → ℕ) (sys : System) (root : List ℕ)
     (d : Dictionary) (columns : List ℕ) (s : Shown) (old new : O) : Type 0 where
   pub shown : List ℕ
-  pub once : StandOnce shown
+  pub once : AreDistinct shown
   pub only : (c : ℕ) → Contains shown c → Contains columns c × IsColumnShown sys root d c
   pub bytes : AppendsPart (written old) (written new) (flat_map (row_text s.listing) (column_rows sys d shown))
   pub later : faults old ≤ faults new

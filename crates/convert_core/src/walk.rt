@@ -1,11 +1,12 @@
 //! The walk, and the rows that are printed on it.
 ghost use Rattle.std.specs.Prelude.{◌≡◌, ◌+◌, ◌≤◌, ◌↔◌, length, IfOk, IfErr, IsErrOf, IsTrue};
+ghost use Rattle.poly_io.specs.Causes.{RisesAt};
 ghost use Rattle.reverse_step.specs.declared.walker.Visit.TheVariants.{End};
 ghost use Rattle.poly_model.specs.declared.overflow.Overflow.{Overflow as Passed};
 ghost use Rattle.poly_model.specs.Due.{IsDue, IsAskedInMain};
 ghost use Rattle.convert_core.specs.Rows.{ShowsColumns, columns_of};
 ghost use Rattle.convert_core.specs.Searches.{IsSearch, IsAtRoot};
-ghost use Rattle.convert_core.specs.Listed.{RisesAt, WritesStep, EndsStep, ListsRows, TakesSteps};
+ghost use Rattle.convert_core.specs.Listed.{WritesStep, EndsStep, ListsRows, TakesSteps};
 
 use crate::rows::{Basis, show_columns};
 use crate::search::Search;

@@ -1,7 +1,6 @@
 -- A count of faults through a call, and other words for why it stopped.
 use Rattle.std.proofs.Common.{ℕ, ◌≡◌, ◌≤◌, ap, ◌∙◌, subst, Err}
-use Rattle.poly_io.specs.Causes.{Rose}
-use Rattle.run_ledger.specs.Stops.{RisesAt}
+use Rattle.poly_io.specs.Causes.{Rose, RisesAt}
 use Rattle.run_ledger.proofs.Errors.{one_error}
 
 -- first nothing was counted, and then an error is told by another word

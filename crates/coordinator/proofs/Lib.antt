@@ -5,5 +5,4 @@ pub mod MoreRecords
 pub mod CallEnds
 pub mod CallFaults
 pub mod CallTexts
-pub mod LineCounts
 pub mod RunsAgain

@@ -5,13 +5,13 @@ ghost use Rattle.poly_model.specs.Due.{IsDue, IsAskedBefore};
 ghost use Rattle.poly_model.specs.FreeColumns.{AreLines};
 ghost use Rattle.poly_model.specs.Limits.{most_columns};
 ghost use Rattle.poly_model.specs.Systems.{cone_of};
+ghost use Rattle.poly_io.specs.Causes.{RisesAt};
 ghost use Rattle.disk_core.specs.Contents.{Told};
 ghost use Rattle.disk_core.specs.Moments.{LeavesOnly};
 ghost use Rattle.job_text.specs.FirstPayloads.{first_payload};
 ghost use Rattle.job_ledger.specs.Ledgers.{IsLedgerAt, IsPastLimit, grown, new_ledger};
 ghost use Rattle.job_ledger.specs.Records.{HasNoRun, IsOpen, Records};
 ghost use Rattle.run_ledger.specs.Recorded.{search_in};
-ghost use Rattle.run_ledger.specs.Stops.{RisesAt};
 ghost use Rattle.coordinator.specs.Calls.{AreTerms, MayRun, state_after};
 
 use crate::going::Going;

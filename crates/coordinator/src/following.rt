@@ -1,6 +1,6 @@
 //! All actions of a call, one after the other.
 ghost use Rattle.std.specs.Prelude.{◌≡◌, ◌≤◌, ℕ, List, IfOk, OnOk, OnErr, IfSome, IsNone, IsErrOf};
-ghost use Rattle.run_ledger.specs.Stops.{RisesAt};
+ghost use Rattle.poly_io.specs.Causes.{RisesAt};
 ghost use Rattle.poly_model.specs.declared.overflow.Overflow.{Overflow as Passed};
 ghost use Rattle.coordinator_core.specs.declared.action.Action.TheVariants.{Finish};
 ghost use Rattle.coordinator_core.specs.Machine.{next_action};

@@ -4,13 +4,13 @@ ghost use Rattle.poly_model.specs.declared.overflow.Overflow.{Overflow as Passed
 ghost use Rattle.poly_model.specs.FreeColumns.{AreLines};
 ghost use Rattle.poly_model.specs.Limits.{most_columns};
 ghost use Rattle.poly_model.specs.Systems.{cone_of};
+ghost use Rattle.poly_io.specs.Causes.{RisesAt};
 ghost use Rattle.work_core.specs.Searches.{Search};
 ghost use Rattle.job_text.specs.declared.reply.Reply.{Reply as TheReply};
 ghost use Rattle.job_ledger.specs.Ledgers.{IsLedgerAt};
 ghost use Rattle.run_state.specs.Payloads.{IsLedgerText};
 ghost use Rattle.coordinator_core.specs.declared.action.Action.TheVariants.{Finish};
 ghost use Rattle.coordinator_core.specs.Machine.{next_action};
-ghost use Rattle.run_ledger.specs.Stops.{RisesAt};
 ghost use Rattle.coordinator.specs.Following.{AreOut, EndsBy, Finishes, GivesUp, LeadsSomewhere};
 ghost use Rattle.coordinator.specs.Leaving.{IsRefusedBy, LeavesFronts};
 ghost use Rattle.coordinator.specs.Ending.{PrintsWith, RestsWith};

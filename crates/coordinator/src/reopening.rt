@@ -6,13 +6,13 @@ ghost use Rattle.poly_model.specs.Equations.{AreConsistent};
 ghost use Rattle.poly_model.specs.FreeColumns.{AreLines};
 ghost use Rattle.poly_model.specs.Limits.{most_columns};
 ghost use Rattle.poly_model.specs.Systems.{cone_of};
+ghost use Rattle.poly_io.specs.Causes.{RisesAt};
 ghost use Rattle.disk_core.specs.Contents.{Told};
 ghost use Rattle.disk_core.specs.Moments.{LeavesOnly};
 ghost use Rattle.job_ledger.specs.Ledgers.{IsLedgerAt};
 ghost use Rattle.job_ledger.specs.Records.{HasNoRun};
 ghost use Rattle.coordinator_core.specs.Machine.{start_of};
 ghost use Rattle.run_ledger.specs.Recorded.{IsBadLedger};
-ghost use Rattle.run_ledger.specs.Stops.{RisesAt};
 ghost use Rattle.coordinator.specs.Calls.{AreTerms, RecordedRun, state_at};
 ghost use Rattle.coordinator.specs.Stops.{IsOfLines};
 

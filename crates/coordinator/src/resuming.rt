@@ -3,12 +3,12 @@ ghost use Rattle.std.specs.Prelude.{◌≡◌, ◌⊎◌, ◌++◌, [], ℕ, Lis
 ghost use Rattle.poly_model.specs.declared.overflow.Overflow.{Overflow as Passed};
 ghost use Rattle.poly_model.specs.Due.{IsDue, IsAskedBefore};
 ghost use Rattle.poly_model.specs.Equations.{AreConsistent};
+ghost use Rattle.poly_io.specs.Causes.{RisesAt};
 ghost use Rattle.disk_core.specs.Contents.{Told};
 ghost use Rattle.disk_core.specs.Moments.{LeavesOnly};
 ghost use Rattle.job_ledger.specs.Ledgers.{new_ledger};
 ghost use Rattle.job_ledger.specs.Records.{HasNoRun};
 ghost use Rattle.run_ledger.specs.Recorded.{IsBadLedger};
-ghost use Rattle.run_ledger.specs.Stops.{RisesAt};
 ghost use Rattle.coordinator.specs.Calls.{AreTerms, PrintsRecords, RecordedRun, state_at};
 ghost use Rattle.coordinator.specs.Following.{EndsBy, Finishes, GivesUp, LeadsSomewhere};
 ghost use Rattle.coordinator.specs.Leaving.{HasFront, IsRefusedBy};

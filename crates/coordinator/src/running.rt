@@ -2,13 +2,13 @@
 ghost use Rattle.std.specs.Prelude.{◌≡◌, ◌⊎◌, ◌∷◌, [], ℕ, List, Some, IfOk, OnErr, IsErrOf};
 ghost use Rattle.poly_model.specs.declared.overflow.Overflow.{Overflow as Passed};
 ghost use Rattle.poly_model.specs.Due.{IsDue, IsAskedBefore};
+ghost use Rattle.poly_io.specs.Causes.{RisesAt};
 ghost use Rattle.disk_core.specs.Contents.{Told};
 ghost use Rattle.disk_core.specs.Moments.{LeavesOnly};
 ghost use Rattle.job_text.specs.FirstPayloads.{first_payload};
 ghost use Rattle.job_ledger.specs.Ledgers.{new_ledger};
 ghost use Rattle.job_ledger.specs.Records.{HasNoRun, IsOpen};
 ghost use Rattle.run_ledger.specs.Recorded.{search_in};
-ghost use Rattle.run_ledger.specs.Stops.{RisesAt};
 ghost use Rattle.coordinator.specs.Calls.{AreTerms, MayRun, PrintsRecords, state_after};
 ghost use Rattle.coordinator.specs.Following.{EndsBy, Finishes, GivesUp, LeadsSomewhere};
 ghost use Rattle.coordinator.specs.Leaving.{HasFront, IsRefusedBy};

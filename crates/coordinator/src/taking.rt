@@ -1,6 +1,6 @@
 //! How what was collected comes to the core.
 ghost use Rattle.std.specs.Prelude.{◌≡◌, ◌⊎◌, ◌≤◌, ◌<◌, ◌^◌, ◌∷◌, [], ℕ, List, length, OnOk, OnErr, IfOk, IsErrOf};
-ghost use Rattle.run_ledger.specs.Stops.{RisesAt};
+ghost use Rattle.poly_io.specs.Causes.{RisesAt};
 ghost use Rattle.poly_model.specs.declared.overflow.Overflow.{Overflow as Passed};
 ghost use Rattle.job_ledger.specs.Ledgers.{IsPastLimit, end_of};
 ghost use Rattle.workers_io.specs.Collects.{happening_of};

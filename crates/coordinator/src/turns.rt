@@ -1,6 +1,6 @@
 //! One action of the machine.
 ghost use Rattle.std.specs.Prelude.{◌≡◌, ◌⊎◌, ◌<◌, ◌≤◌, ℕ, List, IfOk, OnOk, OnErr, IsErrOf};
-ghost use Rattle.run_ledger.specs.Stops.{RisesAt};
+ghost use Rattle.poly_io.specs.Causes.{RisesAt};
 ghost use Rattle.poly_model.specs.declared.overflow.Overflow.{Overflow as Passed};
 ghost use Rattle.coordinator_core.specs.Machine.{next_action};
 ghost use Rattle.coordinator.specs.Following.{AreOut, EndsBy, LeadsSomewhere, StepsTo, IsMove, most_actions};

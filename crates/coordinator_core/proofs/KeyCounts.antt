@@ -2,7 +2,7 @@
 use Rattle.std.proofs.Common.{arith, ℕ, List, ◌≡◌, ◌≢◌, inl, inr, ⊎_elim, ◌+◌, ◌<◌, ◌≤◌, true, false, [], ◌∷◌, ◌++◌, refl, sym, ap, ◌∙◌, subst, cond, not}
 use Rattle.std.specs.List.{Contains}
 use Rattle.std.proofs.lemmas.Bool.{cases_eq, cases_lt, and_parts, or_parts, not-true}
-use Rattle.search_laws.specs.Shares.{StandOnce}
+use Rattle.linear_laws.specs.Distinct.{AreDistinct}
 use Rattle.linear_laws.proofs.Members.{Contains-nil, Contains-first, Contains-later, Contains-cons_cases}
 use Rattle.search_laws.proofs.OnceLists.{one_key_or_not}
 use Rattle.run_state.specs.KeyLists.{is_same_key, holds, without_key, are_new}
@@ -106,7 +106,7 @@ once-next waiting done key keys h waits new k =
     ]
 
 -- ---- lists in which each key stands once
-pub once_counts : (xs : List (List ℕ)) → StandOnce xs → (k : List ℕ) → times k xs ≤ 1
+pub once_counts : (xs : List (List ℕ)) → AreDistinct xs → (k : List ℕ) → times k xs ≤ 1
 once_counts [] h k = omega arith
 once_counts (x ∷ xs) h k = elim (one_key_or_not k x) [
   | inl q ↦
@@ -118,7 +118,7 @@ once_counts (x ∷ xs) h k = elim (one_key_or_not k x) [
   | inr m ↦ omega (arith, times-there k x xs m, once_counts xs h.1 k)
 ]
 
-pub counts_once : (xs : List (List ℕ)) → ((k : List ℕ) → times k xs ≤ 1) → StandOnce xs
+pub counts_once : (xs : List (List ℕ)) → ((k : List ℕ) → times k xs ≤ 1) → AreDistinct xs
 counts_once [] h = tt
 counts_once (x ∷ xs) h = (
   (λ c. omega (arith, h x, times-here x x xs refl, times_of xs x c)),

@@ -5,13 +5,14 @@ use Rattle.std.specs.List.{Contains}
 use Rattle.std.proofs.lemmas.Bool.{cases_eq, eq-eqb, ne_eqb, lt-ltb}
 use Rattle.std.proofs.lemmas.Nat.{mul-add-lt}
 use Rattle.std.proofs.lemmas.List.{length-map, get_or-map, get_or_append_left, get_or-append_right}
-use Rattle.std.proofs.lemmas.List.Elements.{Contains-append_left, Contains-append_right}
+use Rattle.std.proofs.lemmas.List.Elements.{Contains-append_left, Contains-append_right, Contains-append_cases}
 use Rattle.poly_num.proofs.Ring.{mul_one, mul_zero}
 use Rattle.linear_laws.proofs.Members.{Contains-first, Contains-later, Contains-nil}
 use Rattle.poly_model.specs.declared.overflow.Phase.TheVariants.{First}
 use Rattle.poly_model.specs.Keys.{IsAscending, with_label}
 use Rattle.poly_model.specs.Labels.{is_row}
 use Rattle.poly_model.specs.Spaces.{lift_of}
+use Rattle.linear_laws.proofs.Distinct.{distinct_append}
 use Rattle.dictionary_laws.specs.Keys.{place_in}
 use Rattle.dictionary_laws.proofs.Filters.{member_has}
 use Rattle.dictionary_laws.proofs.Members.{contains_cases, contains_or, all_from}
@@ -19,7 +20,6 @@ use Rattle.dictionary.specs.Views.{Dictionary, number, by_columns, IsWhole}
 use Rattle.dictionary.specs.MainPhase.{kept_columns}
 use Rattle.dictionary.specs.FirstPhase.{HasRoomForT, t_entry, cells_with_t, AddsT}
 use Rattle.dictionary.proofs.ByColumns.{length_by_columns, cell_by_columns}
-use Rattle.dictionary.proofs.Joined.{joined_cases, distinct_joined}
 use Rattle.dictionary.proofs.Numbers.{no_member, own_number, other_number, row_number}
 use Rattle.dictionary.proofs.PlaceLemmas.{place_within, at_place, place_at, place_front, place_behind}
 
@@ -61,7 +61,7 @@ last_cases ks P k c old new =
     ⊎_elim old
     (λ (h : Contains (0 ∷ []) k).
     ⊎_elim new (λ (m : Contains [] k). absurd (Contains-nil k m)) (contains_cases 0 [] k h))
-    (joined_cases ks (0 ∷ []) k c)
+    (Contains-append_cases ks (0 ∷ []) k c)
 
 last_there : (ks : List ℕ) → Contains (ks ++ 0 ∷ []) 0
 last_there ks = Contains-append_right ks (0 ∷ []) 0 (Contains-first 0 [])
@@ -130,7 +130,7 @@ module _ (d : Dictionary) (whole : IsWhole d) (room : HasRoomForT d) where
           (λ h. Contains-later k 0 d.key (whole.same.back k h))
           (λ e. subst (λ (i : ℕ). Contains (0 ∷ d.key) i) (sym e) (Contains-first 0 d.key));
     };
-    distinct = distinct_joined d.columns (0 ∷ []) whole.distinct ((λ c. Contains-nil 0 c), tt)
+    distinct = distinct_append d.columns (0 ∷ []) whole.distinct ((λ c. Contains-nil 0 c), tt)
         (λ k c h.
         ⊎_elim (λ (e : k ≡ 0). no_column (subst (λ (i : ℕ). Contains d.columns i) e c))
         (λ (m : Contains [] k). Contains-nil k m)

@@ -5,7 +5,7 @@ use Rattle.std.specs.List.{Contains, range_with_len}
 use Rattle.std.proofs.lemmas.Bool.{cases_eq, eq-eqb, ne_eqb}
 use Rattle.std.proofs.lemmas.Int.{ints}
 use Rattle.std.proofs.lemmas.List.FromFn.{length-map-range_with_len}
-use Rattle.std.proofs.lemmas.List.Elements.{Contains-append_left, Contains-append_right}
+use Rattle.std.proofs.lemmas.List.Elements.{Contains-append_left, Contains-append_right, Contains-append_cases}
 use Rattle.linear_laws.proofs.Members.{Contains-nil}
 use Rattle.poly_model.specs.Limits.{most_columns, most_cone_rows}
 use Rattle.poly_model.specs.declared.overflow.Phase.{Phase}
@@ -26,7 +26,7 @@ use Rattle.dictionary_laws.proofs.SameLabels.{agreeing_dictionary}
 use Rattle.dictionary.specs.Positions.{label_count, AreBelow}
 use Rattle.dictionary.specs.Views.{Dictionary, number, table_of, IsDictionaryIn, IsWhole}
 use Rattle.dictionary.specs.New.{first_label, first_width, first_number}
-use Rattle.dictionary.proofs.Joined.{joined_cases, ascending_joined}
+use Rattle.dictionary.proofs.Joined.{ascending_joined}
 use Rattle.dictionary.proofs.Numbers.{own_number, other_number, row_number}
 use Rattle.dictionary.proofs.PlaceLemmas.{place_within}
 use Rattle.dictionary.proofs.FirstNumbers.{first_cells, first_length, first_cell}
@@ -80,7 +80,7 @@ first_below b n m some narrow few k c =
     (λ (h : Contains (range_with_len 1 m) k). let l = (range_only 1 m k h).1 in omega (arith, l, few))
     (λ (h : Contains (coordinate_key (first_label b) n) k).
     let l = upper_of_key b n k some h in omega (arith, l, narrow))
-    (joined_cases (range_with_len 1 m) (coordinate_key (first_label b) n) k c)
+    (Contains-append_cases (range_with_len 1 m) (coordinate_key (first_label b) n) k c)
 
 module _ (phase : Phase) (rows : List Row) (b : Bool) (n m : ℕ) (some : 0 < n) (narrow : n ≤ most_columns) (few : m ≤ most_cone_rows) where
   abbrev pub columns : List ℕ
@@ -115,7 +115,7 @@ module _ (phase : Phase) (rows : List Row) (b : Bool) (n m : ℕ) (some : 0 < n)
   row_there : (i : ℕ) → Contains labels i → (Contains columns i → ⊥) → Contains (range_with_len 1 m) i
   row_there i c n =
       ⊎_elim (λ (d : Contains (range_with_len 1 m) i). d) (λ (d : Contains columns i). absurd (n d))
-      (joined_cases (range_with_len 1 m) columns i c)
+      (Contains-append_cases (range_with_len 1 m) columns i c)
 
   pub first_whole : IsWhole first
   first_whole = record {
@@ -128,7 +128,7 @@ module _ (phase : Phase) (rows : List Row) (b : Bool) (n m : ℕ) (some : 0 < n)
     below = λ i c. ⊎_elim
         (λ (d : Contains (range_with_len 1 m) i). let h = (range_only 1 m i d).1 in omega (arith, h))
         (λ (d : Contains columns i). let h = upper_of_key b n i some d in omega (arith, h))
-        (joined_cases (range_with_len 1 m) columns i c);
+        (Contains-append_cases (range_with_len 1 m) columns i c);
     key = record {
       room = let l = room_of_key b n in omega (arith, l);
       ascending = (coordinate_keys (first_label b) n).ascending;
@@ -166,7 +166,7 @@ module _ (phase : Phase) (rows : List Row) (b : Bool) (n m : ℕ) (some : 0 < n)
         ∙ sym (row_number first i j (no_column i d)
         ∙ first_cell (first_number b rows) m (first_width b n) i j r.0 below (subst (λ (w : ℕ). j < w) same_width hj)))
         (λ (d : Contains columns i). coordinate_is i j d)
-        (joined_cases (range_with_len 1 m) columns i (subst (λ (ks : List ℕ). Contains ks i) (sym same) l))
+        (Contains-append_cases (range_with_len 1 m) columns i (subst (λ (ks : List ℕ). Contains ks i) (sym same) l))
 
     agrees : Agree space columns (coordinate_table space columns) (table_of first)
     agrees = record {

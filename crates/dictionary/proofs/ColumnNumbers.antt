@@ -1,7 +1,7 @@
 -- A column of cells has the constants, or the entries at its label.
 use Rattle.std.proofs.Common.{◌≡◌, ℕ, zero, suc, ◌<◌, length, arith, refl, sym, ap}
 use Rattle.poly_model.specs.Dictionaries.{Table}
-use Rattle.dictionary_laws.specs.Keys.{AreDistinct}
+use Rattle.linear_laws.specs.Distinct.{AreDistinct}
 use Rattle.dictionary.specs.Views.{Dictionary, number, table_of, column_label}
 use Rattle.dictionary.proofs.PlaceLemmas.{place_at}
 

@@ -2,13 +2,14 @@
 use Rattle.std.proofs.Common.{◌≡◌, ℕ, suc, ◌+◌, ◌*◌, pos, List, [], ◌∷◌, ◌++◌, length, arith, refl, ap, ◌∙◌, ⊎_elim, length-append}
 use Rattle.std.specs.List.{Contains}
 use Rattle.std.proofs.lemmas.Int.{ints}
-use Rattle.std.proofs.lemmas.List.Elements.{Contains-append_left, Contains-append_right}
+use Rattle.std.proofs.lemmas.List.Elements.{Contains-append_left, Contains-append_right, Contains-append_cases}
 use Rattle.poly_model.specs.Dictionaries.{sum_over}
-use Rattle.dictionary_laws.specs.Keys.{AreDistinct, HaveSameLabels}
+use Rattle.linear_laws.specs.Distinct.{AreDistinct}
+use Rattle.linear_laws.proofs.Distinct.{distinct_append}
+use Rattle.dictionary_laws.specs.Keys.{HaveSameLabels}
 use Rattle.dictionary_laws.proofs.KeyExchange.{ascending_distinct}
 use Rattle.dictionary_laws.proofs.Members.{contains_or, sum_members}
 use Rattle.dictionary.specs.Views.{Dictionary, IsWhole}
-use Rattle.dictionary.proofs.Joined.{joined_cases, distinct_joined}
 
 count_by_ones : (ks : List ℕ) → sum_over ks (λ _. pos 1) ≡ pos (length ks)
 count_by_ones [] = refl
@@ -24,7 +25,7 @@ same_count ks ls d e same =
 pub label_count : (d : Dictionary) → IsWhole d → length d.labels ≡ length d.rows + length d.columns
 label_count d whole =
     same_count d.labels (d.rows ++ d.columns) (ascending_distinct d.labels whole.labels)
-    (distinct_joined d.rows d.columns whole.distinct_rows whole.distinct (λ k r c. (whole.row_back k r).1 c))
+    (distinct_append d.rows d.columns whole.distinct_rows whole.distinct (λ k r c. (whole.row_back k r).1 c))
     (record {
       there = λ k l.
           ⊎_elim (λ (c : Contains d.columns k). Contains-append_right d.rows d.columns k c)
@@ -32,7 +33,7 @@ label_count d whole =
           (contains_or d.columns k);
       back = λ k m.
           ⊎_elim (λ (r : Contains d.rows k). (whole.row_back k r).0) (λ (c : Contains d.columns k). whole.inside k c)
-          (joined_cases d.rows d.columns k m);
+          (Contains-append_cases d.rows d.columns k m);
     })
     ∙ length-append d.rows d.columns
 

@@ -4,14 +4,15 @@ use Rattle.std.specs.Prelude.{not, ◌&&◌}
 use Rattle.std.specs.List.{All, Contains, filter}
 use Rattle.std.proofs.lemmas.Bool.{cases_eq}
 use Rattle.std.proofs.lemmas.List.{length-map, get_or-map}
-use Rattle.std.proofs.lemmas.List.Elements.{Contains-get_or, Contains-append_left, Contains-append_right}
-use Rattle.dictionary_laws.specs.Keys.{place_in, AreDistinct}
+use Rattle.std.proofs.lemmas.List.Elements.{Contains-get_or, Contains-append_left, Contains-append_right, Contains-append_cases}
+use Rattle.linear_laws.specs.Distinct.{AreDistinct}
+use Rattle.linear_laws.proofs.Distinct.{distinct_append}
+use Rattle.dictionary_laws.specs.Keys.{place_in}
 use Rattle.dictionary_laws.proofs.Filters.{filter_only, filter_kept, distinct_filter, ascending_filter}
 use Rattle.dictionary_laws.proofs.Members.{contains_or}
 use Rattle.dictionary.specs.Views.{Dictionary, number, IsWhole}
 use Rattle.dictionary.specs.MainPhase.{kept_rows, kept_columns, kept}
 use Rattle.dictionary.proofs.ByColumns.{length_by_columns, cell_by_columns}
-use Rattle.dictionary.proofs.Joined.{joined_cases, distinct_joined}
 use Rattle.dictionary.proofs.KeptLabels.{key_filter, same_filter}
 use Rattle.dictionary.proofs.Numbers.{own_number, other_number, row_number}
 use Rattle.dictionary.proofs.PlaceLemmas.{place_within, at_place, one_at_place}
@@ -58,7 +59,7 @@ module _ (d : Dictionary) (left stays : ℕ → Bool) (whole : IsWhole d) where
         filter_kept left d.labels i (whole.inside i p.0) b.0,
         λ s. let e : true ≡ false = sym (filter_only stays d.columns i s).1 ∙ b.1 in absurd cc,
       ))
-      (joined_cases (filter left d.rows) (filter leaves d.columns) i m)
+      (Contains-append_cases (filter left d.rows) (filter leaves d.columns) i m)
 
   pub rows_are_labels : All (λ l. Contains d.labels l) rows
   rows_are_labels =
@@ -85,7 +86,7 @@ module _ (d : Dictionary) (left stays : ℕ → Bool) (whole : IsWhole d) where
 
   distinct_rows : AreDistinct rows
   distinct_rows =
-      distinct_joined (filter left d.rows) (filter leaves d.columns) (distinct_filter left d.rows whole.distinct_rows)
+      distinct_append (filter left d.rows) (filter leaves d.columns) (distinct_filter left d.rows whole.distinct_rows)
       (distinct_filter leaves d.columns whole.distinct)
       (λ k m c. (whole.row_back k (filter_only left d.rows k m).0).1 (filter_only leaves d.columns k c).0)
 

@@ -3,8 +3,9 @@ use Rattle.std.proofs.Common.{◌≡◌, ◌≢◌, ◌⊎◌, ℕ, zero, suc, �
 use Rattle.std.specs.List.{Contains}
 use Rattle.std.proofs.lemmas.Bool.{eq-eqb, ne_eqb, cases_eq}
 use Rattle.std.proofs.lemmas.List.Elements.{Contains-get_or}
+use Rattle.linear_laws.specs.Distinct.{AreDistinct}
 use Rattle.linear_laws.proofs.Members.{Contains-first, Contains-later, Contains-nil}
-use Rattle.dictionary_laws.specs.Keys.{place_in, AreDistinct, HaveSameLabels, Exchanges}
+use Rattle.dictionary_laws.specs.Keys.{place_in, HaveSameLabels, Exchanges}
 use Rattle.dictionary_laws.proofs.Members.{contains_cases}
 
 place_here : (x : ℕ) (ks : List ℕ) (k : ℕ) → x ≡ k → place_in (x ∷ ks) k ≡ zero

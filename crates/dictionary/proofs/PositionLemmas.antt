@@ -5,7 +5,8 @@ use Rattle.std.proofs.lemmas.Bool.{cases_eq}
 use Rattle.std.proofs.lemmas.Nat.{mul-add-lt}
 use Rattle.std.proofs.lemmas.List.{get_or-set_same, get_or-set_other}
 use Rattle.std.proofs.lemmas.List.Elements.{Contains-get_or}
-use Rattle.dictionary_laws.specs.Keys.{place_in, AreDistinct}
+use Rattle.linear_laws.specs.Distinct.{AreDistinct}
+use Rattle.dictionary_laws.specs.Keys.{place_in}
 use Rattle.dictionary_laws.proofs.Members.{contains_or}
 use Rattle.columns.specs.Cells.{place as at_row, cell_at}
 use Rattle.dictionary.specs.declared.positions.Position.{Position}

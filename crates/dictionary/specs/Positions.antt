@@ -3,7 +3,8 @@ use Rattle.std.specs.Prelude.{◌≡◌, ◌≢◌, ℕ, suc, ◌<◌, ◌≤◌
 use Rattle.std.specs.List.{Contains, slice_index_or}
 use Rattle.poly_model.specs.Labels.{coordinates_from}
 use Rattle.poly_model.specs.Limits.{most_columns}
-use Rattle.dictionary_laws.specs.Keys.{place_in, AreDistinct}
+use Rattle.linear_laws.specs.Distinct.{AreDistinct}
+use Rattle.dictionary_laws.specs.Keys.{place_in}
 use Rattle.dictionary.specs.declared.positions.Position.{Position}
 use Rattle.dictionary.specs.declared.positions.Position.TheVariants.{Row, Column}
 use Rattle.dictionary.specs.Views.{Dictionary, number, column_label}

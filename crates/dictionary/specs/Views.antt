@@ -8,7 +8,8 @@ use Rattle.poly_model.specs.Keys.{IsAscending, IsKey}
 use Rattle.poly_model.specs.Spaces.{Space, HasPoints, is_member}
 use Rattle.poly_model.specs.Dictionaries.{Table, IsDictionary}
 use Rattle.poly_model.specs.Overflows.{IsPassing}
-use Rattle.dictionary_laws.specs.Keys.{place_in, AreDistinct, HaveSameLabels}
+use Rattle.linear_laws.specs.Distinct.{AreDistinct}
+use Rattle.dictionary_laws.specs.Keys.{place_in, HaveSameLabels}
 use Rattle.dictionary_laws.specs.Laws.{IsExchangedKey}
 use Rattle.columns.specs.declared.exchange.Exchange.{Exchange}
 use Rattle.columns.specs.Cells.{cell_at}

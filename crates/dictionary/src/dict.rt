@@ -3,7 +3,8 @@ ghost use Rattle.std.specs.Prelude.{◌≡◌, ◌≢◌, ◌<◌, ◌<ℤ◌, �
 ghost use Rattle.std.specs.List.{Contains};
 ghost use Rattle.poly_model.specs.Dictionaries.{Table};
 ghost use Rattle.poly_model.specs.Keys.{IsAscending};
-ghost use Rattle.dictionary_laws.specs.Keys.{place_in, AreDistinct, HaveSameLabels};
+ghost use Rattle.linear_laws.specs.Distinct.{AreDistinct};
+ghost use Rattle.dictionary_laws.specs.Keys.{place_in, HaveSameLabels};
 ghost use Rattle.dictionary.specs.Cobases.{HasUnits, AreOutside};
 ghost use Rattle.dictionary.specs.Views.{number, table_of};
 ghost use Rattle.dictionary.specs.Positions.{IsPosition, IsCellColumn};

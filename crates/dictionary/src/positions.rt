@@ -1,7 +1,8 @@
 //! Where the labels of a dictionary stand, in a list by labels.
 ghost use Rattle.std.specs.Prelude.{◌≡◌, ◌<◌, ◌↔◌, ℕ, suc, IsTrue, IfOk, length, set};
 ghost use Rattle.std.specs.List.{Contains, slice_index_or};
-ghost use Rattle.dictionary_laws.specs.Keys.{place_in, AreDistinct};
+ghost use Rattle.linear_laws.specs.Distinct.{AreDistinct};
+ghost use Rattle.dictionary_laws.specs.Keys.{place_in};
 ghost use Rattle.dictionary.specs.declared.positions.Position.TheVariants.{Row, Column};
 ghost use Rattle.dictionary.specs.Positions.{index_of, label_count, position_at, StandOnce, AreBelow, ArePositions, HaveRows, HaveColumns};
 

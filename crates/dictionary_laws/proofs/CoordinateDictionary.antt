@@ -12,10 +12,11 @@ use Rattle.poly_model.specs.Independence.{Vanish}
 use Rattle.poly_model.specs.Cones.{at, coordinate}
 use Rattle.poly_model.specs.Spaces.{Space, IsInside}
 use Rattle.poly_model.specs.Dictionaries.{IsCobasis, Writes, IsDictionary, sum_over}
+use Rattle.linear_laws.specs.Distinct.{AreDistinct}
 use Rattle.linear_laws.proofs.Members.{Contains-first, Contains-later, Contains-nil, all_at}
 use Rattle.linear_laws.proofs.Entries.{at-nil, coordinate_reads}
 use Rattle.linear_laws.proofs.Signs.{at_least_one}
-use Rattle.dictionary_laws.specs.Keys.{AreDistinct, place_in}
+use Rattle.dictionary_laws.specs.Keys.{place_in}
 use Rattle.dictionary_laws.specs.Coordinates.{HasCoordinates, coordinate_table}
 use Rattle.dictionary_laws.proofs.Members.{contains_other, sum_same, sum_zero}
 use Rattle.dictionary_laws.proofs.Directions.{zero_times}

@@ -7,7 +7,7 @@ use Rattle.poly_num.specs.Vectors.{Vector, ◌·◌}
 use Rattle.poly_num.proofs.Order.{mul_nonzero}
 use Rattle.poly_model.specs.Spaces.{Space, IsDirection}
 use Rattle.poly_model.specs.Dictionaries.{AreIndependent, IsCobasis}
-use Rattle.dictionary_laws.specs.Keys.{AreDistinct}
+use Rattle.linear_laws.specs.Distinct.{AreDistinct}
 use Rattle.linear_laws.proofs.Members.{Contains-first, Contains-later, Contains-nil, all_at}
 use Rattle.dictionary_laws.proofs.Members.{by_cases, all_from}
 use Rattle.linear_laws.proofs.Combinations.{combination, dot-combination, cancels}

@@ -9,8 +9,8 @@ use Rattle.poly_model.specs.Spaces.{is_member, labels_of}
 use Rattle.poly_model.specs.Dictionaries.{sum_over}
 use Rattle.poly_model.specs.Keys.{IsAscending}
 use Rattle.poly_model.specs.Labels.{coordinate_label}
+use Rattle.linear_laws.specs.Distinct.{AreDistinct}
 use Rattle.linear_laws.proofs.Members.{Contains-nil, Contains-first, Contains-later, all_at}
-use Rattle.dictionary_laws.specs.Keys.{AreDistinct}
 use Rattle.dictionary_laws.proofs.Members.{contains_cases, by_cases, all_from}
 
 -- ---- filters

@@ -8,8 +8,9 @@ use Rattle.std.proofs.lemmas.List.Edits.{length-remove}
 use Rattle.std.proofs.lemmas.List.Elements.{Contains-get_or}
 use Rattle.poly_model.specs.Keys.{IsAscending, IsKey, with_label}
 use Rattle.poly_model.proofs.KeyLemmas.{key_with, key_without}
+use Rattle.linear_laws.specs.Distinct.{AreDistinct}
 use Rattle.dictionary_laws.specs.Laws.{IsExchangedKey}
-use Rattle.dictionary_laws.specs.Keys.{AreDistinct, Exchanges}
+use Rattle.dictionary_laws.specs.Keys.{Exchanges}
 use Rattle.linear_laws.proofs.Members.{Contains-first, Contains-later, Contains-nil, all_at}
 use Rattle.dictionary_laws.proofs.Members.{contains_cases, by_cases, without, without_only, without_kept, without_step, without_none, distinct_without}
 

@@ -1,12 +1,15 @@
 -- Members of a list of labels, lists whose labels stand once, and sums over them.
-use Rattle.std.proofs.Common.{◌≡◌, ◌≢◌, ℕ, ◌⊎◌, Bool, true, false, cond, List, [], ◌∷◌, ℤ, pos, ◌+ℤ◌, ◌*ℤ◌, refl, sym, ap, subst, ◌∙◌, inl, inr, ⊎_elim, arith}
+use Rattle.std.proofs.Common.{◌≡◌, ◌≢◌, ℕ, ◌⊎◌, Bool, true, false, cond, List, [], ◌∷◌, ℤ, pos, ◌+ℤ◌, ◌*ℤ◌, refl, sym, ap, subst, ◌∙◌, inl, inr, ⊎_elim, arith, zero, suc, ◌<◌, ◌≤◌, length, get_or}
 use Rattle.std.specs.Prelude.{◌==◌, if◌then◌else◌}
 use Rattle.std.specs.List.{AllByRecursion, Contains}
 use Rattle.std.proofs.lemmas.Bool.{eqb-true, eqb-false, cases_eq}
+use Rattle.std.proofs.lemmas.List.Elements.{Contains-get_or}
 use Rattle.poly_num.proofs.Ring.{expand, lin, mul_zero}
 use Rattle.poly_model.specs.Dictionaries.{sum_over}
-use Rattle.linear_laws.proofs.Members.{Contains-nil, Contains-first, Contains-later, Contains-cons_cases}
-use Rattle.dictionary_laws.specs.Keys.{AreDistinct, HaveSameLabels}
+use Rattle.poly_model.specs.Keys.{IsAscending}
+use Rattle.linear_laws.specs.Distinct.{AreDistinct}
+use Rattle.linear_laws.proofs.Members.{Contains-nil, Contains-first, Contains-later, Contains-cons_cases, all_at}
+use Rattle.dictionary_laws.specs.Keys.{HaveSameLabels}
 
 pub contains_cases : (x : ℕ) (ks : List ℕ) (k : ℕ) → Contains (x ∷ ks) k → (k ≡ x) ⊎ Contains ks k
 contains_cases x ks k c =
@@ -150,3 +153,13 @@ sum_members (x ∷ ks) ls f h g m =
           (contains_cases x ks k (m.back k d.0));
     }) in
     omega (arith, lin)
+
+-- ---- ascending lists
+-- a later place has no lesser number
+pub ascending_places : (xs : List ℕ) → IsAscending xs → (i j : ℕ) → i ≤ j → j < length xs → get_or xs i 0 ≤ get_or xs j 0
+ascending_places [] a i j l m = absurd (omega arith)
+ascending_places (x ∷ xs) a zero zero l m = omega arith
+ascending_places (x ∷ xs) a zero (suc j) l m =
+    let above = all_at (λ y. x < y) xs a.0 (get_or xs j 0) (Contains-get_or xs j 0 (omega arith)) in omega arith
+ascending_places (x ∷ xs) a (suc i) zero l m = absurd (omega arith)
+ascending_places (x ∷ xs) a (suc i) (suc j) l m = ascending_places xs a.1 i j (omega arith) (omega arith)

@@ -9,7 +9,8 @@ use Rattle.poly_num.proofs.Ring.{lin}
 use Rattle.poly_num.proofs.Order.{cancel, positive_nonzero}
 use Rattle.poly_model.specs.Spaces.{Space, IsInside}
 use Rattle.poly_model.specs.Dictionaries.{Table, IsCobasis, Writes, IsDictionary, sum_over}
-use Rattle.dictionary_laws.specs.Keys.{AreDistinct, HaveSameLabels}
+use Rattle.linear_laws.specs.Distinct.{AreDistinct}
+use Rattle.dictionary_laws.specs.Keys.{HaveSameLabels}
 use Rattle.dictionary_laws.specs.Numbers.{Agree}
 use Rattle.linear_laws.proofs.Members.{all_at}
 use Rattle.linear_laws.proofs.Signs.{zero_or}

@@ -9,7 +9,8 @@ use Rattle.poly_model.specs.Cones.{at, coordinate}
 use Rattle.poly_model.specs.Spaces.{Space, cone_space, prepare_space}
 use Rattle.poly_model.specs.Labels.{coordinate_label, IsCoordinate}
 use Rattle.poly_model.specs.Dictionaries.{Table}
-use Rattle.dictionary_laws.specs.Keys.{AreDistinct, place_in}
+use Rattle.linear_laws.specs.Distinct.{AreDistinct}
+use Rattle.dictionary_laws.specs.Keys.{place_in}
 
 -- the labels of the coordinates from j up to and without n
 abbrev pub coordinate_key : ℕ → ℕ → List ℕ

@@ -1,16 +1,12 @@
 -- Keys as sets of labels, and one label put in the place of another.
 use Rattle.std.specs.Prelude.{◌≡◌, ◌≢◌, ◌⊎◌, ℕ, zero, suc, ◌==◌, if◌then◌else◌, List, [], ◌∷◌}
 use Rattle.std.specs.List.{Contains}
+use Rattle.linear_laws.specs.Distinct.{AreDistinct}
 
 -- how many labels stand before the first one that is k
 abbrev pub place_in : List ℕ → ℕ → ℕ
 place_in [] k = zero
 place_in (x ∷ xs) k = if x == k then zero else suc (place_in xs k)
-
--- each label stands once
-abbrev pub AreDistinct : List ℕ → Type 0
-AreDistinct [] = Unit {0}
-AreDistinct (k ∷ ks) = (Contains ks k → ⊥) × AreDistinct ks
 
 -- the two lists have the same labels
 pub record HaveSameLabels (key other : List ℕ) : Type 0 where

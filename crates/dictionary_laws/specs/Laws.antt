@@ -5,7 +5,8 @@ use Rattle.poly_model.specs.Keys.{IsKey, with_label}
 use Rattle.poly_model.specs.Systems.{Polyhedron}
 use Rattle.poly_model.specs.Spaces.{Space, IsStartCobasis, prepare_space, HasPoints}
 use Rattle.poly_model.specs.Dictionaries.{Table, IsCobasis, Writes, IsDictionary}
-use Rattle.dictionary_laws.specs.Keys.{AreDistinct, HaveSameLabels, Exchanges}
+use Rattle.linear_laws.specs.Distinct.{AreDistinct}
+use Rattle.dictionary_laws.specs.Keys.{HaveSameLabels, Exchanges}
 use Rattle.poly_model.specs.Equations.{HasPointOn}
 use Rattle.poly_model.specs.Labels.{IsRow}
 use Rattle.dictionary_laws.specs.Points.{AreSettled, RowsDetermine, ArePhasePoints}

@@ -1,12 +1,12 @@
 -- Each example has a point: the origin, where it is given by inequalities.
-use Rattle.std.proofs.Common.{◌≡◌, false, ℕ, ◌+◌, ◌-◌, ◌*◌, ◌<◌, ℤ, pos, zero, suc, List, [], ◌∷◌, ◌++◌, map, replicate, refl, sym, subst, ◌∙◌, arith}
+use Rattle.std.proofs.Common.{◌≡◌, false, ℕ, ◌+◌, ◌-◌, ◌*◌, ◌<◌, ℤ, pos, List, [], ◌∷◌, ◌++◌, map, replicate, refl, sym, subst, ◌∙◌, arith}
 use Rattle.std.specs.Prelude.{◌≤ℤ◌}
 use Rattle.std.specs.List.{AllByRecursion}
 use Rattle.std.proofs.lemmas.Int.{ints}
 use Rattle.std.proofs.lemmas.List.{length-replicate}
 use Rattle.std.proofs.lemmas.List.Elements.{All-from_recursion}
 use Rattle.poly_num.specs.Vectors.{Vector, ◌·◌}
-use Rattle.poly_num.proofs.VectorLemmas.{dot_comm}
+use Rattle.poly_num.proofs.VectorLemmas.{dot_comm, zeros-dot}
 use Rattle.poly_model.specs.declared.kind.Kind.TheVariants.{H}
 use Rattle.poly_model.specs.Cones.{at, Meets}
 use Rattle.poly_model.specs.Extreme.{HasPoint, IsFeasible}
@@ -20,15 +20,10 @@ use Rattle.example_polys.proofs.EachRow.{all_both, all_rows, all_groups}
 abbrev AllowsOrigin : Vector → Type 0
 AllowsOrigin row = pos 0 ≤ℤ at 0 row
 
-zeros_dot : (m : ℕ) (z : Vector) → replicate m (pos 0) · z ≡ pos 0
-zeros_dot zero z = refl
-zeros_dot (suc m) [] = refl
-zeros_dot (suc m) (x ∷ z) = omega (arith, ints, zeros_dot m z)
-
 row_at_origin : (n : ℕ) (row : Vector) → row · first_unit n ≡ at 0 row
 row_at_origin n [] = refl
 row_at_origin n (x ∷ v) =
-    let rest = dot_comm v (replicate (n - 1) (pos 0)) ∙ zeros_dot (n - 1) v in omega (arith, ints, rest)
+    let rest = dot_comm v (replicate (n - 1) (pos 0)) ∙ zeros-dot (n - 1) v in omega (arith, ints, rest)
 
 each_meets : (n : ℕ) (rows : List Vector) → AllByRecursion AllowsOrigin rows →
     AllByRecursion (Meets (first_unit n)) (map (cone_row H) (map plain_row rows))

@@ -1,19 +1,18 @@
 //! The entries of a row, read into place.
-ghost use Rattle.std.specs.Prelude.{◌≡◌, ◌↔◌, ℤ, List, length, IsTrue, IsFalse};
+ghost use Rattle.std.specs.Prelude.{◌≡◌, ℤ, List, length, IsTrue, IsFalse};
 ghost use Rattle.std.specs.List.{AllByRecursion};
 ghost use Rattle.poly_num.specs.Numbers.{IsNum};
-ghost use Rattle.poly_num.specs.Vectors.{IsPrimitive};
 ghost use Rattle.poly_model.specs.ListingText.{entries_text};
 ghost use Rattle.plain_text.specs.Cuts.{GoesOnWith};
 ghost use Rattle.work_core.specs.ReplyLines.{row_line};
 ghost use Rattle.job_text.specs.LineTexts.{IsReplyLine};
 
 use plain_text::{next_word, read_num};
-use poly_num::{Num, gcd};
+use poly_num::{Num, is_primitive};
 
-/// Whether as many numbers as the row has stand there, each behind one blank, and nothing behind them. Then the row has
-/// them; else it may have anything.
-pub(crate) fn read_entries(row: &mut [Num], text: &[u8]) -> bool
+/// Whether the text is as many numbers as the row has, each behind one blank. Then the row has them; else it may have
+/// anything.
+pub fn read_entries(row: &mut [Num], text: &[u8]) -> bool
     requires { GoesOnWith 32 text.now }
     ensures size { length row.new ≡ length row.old }
     ensures yes { IsTrue result → AllByRecursion IsNum row.new × (text.now ≡ entries_text row.new) }
@@ -34,17 +33,6 @@ pub(crate) fn read_entries(row: &mut [Num], text: &[u8]) -> bool
         rest = behind;
     }
     rest.is_empty()
-}
-
-// Whether 1 is the greatest common divisor of the entries.
-fn is_primitive(v: &[Num]) -> bool
-    ensures { IsTrue result ↔ IsPrimitive v.now }
-{
-    let mut divisor = Num::ZERO;
-    for x in v {
-        divisor = gcd(divisor, *x);
-    }
-    divisor.size() == 1
 }
 
 /// Whether a primitive vector of as many entries as the row has stands there, each entry behind one blank. Then the row

@@ -1,7 +1,8 @@
 //! A job and a reply that were written out by hand, and texts that are none.
 use crate::{
-    JobHead, JobReadStop, PayloadStop, Reply, ReplyReader, ReplyStop, Tail, read_first_payload,
-    read_job, read_key, write_first_payload, write_job, write_reply_head, write_tail,
+    JobHead, JobReadStop, PayloadStop, Reply, ReplyReader, ReplyStop, Tail, read_entries,
+    read_first_payload, read_job, read_key, write_first_payload, write_job, write_reply_head,
+    write_tail,
 };
 use poly_io::MemSink;
 use poly_model::{Count, Key, Label, Overflow, Phase, Place, Root, WorkKind};
@@ -277,18 +278,19 @@ fn reads_a_reply(rt: HostRuntime) {
 }
 
 #[test]
-fn reads_rows_one_by_one(rt: HostRuntime) {
+fn rows_are_taken_one_by_one(rt: HostRuntime) {
     let reply = ReplyReader::read(rt.alloc(), &Key::empty(), 3, ROWS.as_bytes()).expect(
         &rt, "a reply",
     );
     let Reply { mut rows, .. } = reply;
     let mut row = [Num::ZERO; 3];
-    assert!(rt; rows.next(&mut row));
+    let text = rows.next_text().expect(&rt, "a row");
+    assert_eq!(rt; text, b" 1 0 -12".as_slice());
+    assert!(rt; read_entries(&mut row, text));
     assert_eq!(rt; row.map(Num::get), [1, 0, -12]);
     assert_eq!(rt; rows.len(), 1);
-    assert!(rt; rows.next(&mut row));
-    assert_eq!(rt; row.map(Num::get), [0, 1, 0]);
-    assert!(rt; !rows.next(&mut row));
+    assert_eq!(rt; rows.next_text(), Some(b" 0 1 0".as_slice()));
+    assert_eq!(rt; rows.next_text(), None);
 }
 
 #[test]

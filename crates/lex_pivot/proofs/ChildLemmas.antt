@@ -8,7 +8,7 @@ use Rattle.poly_model.specs.Keys.{IsAscending}
 use Rattle.poly_model.specs.Dictionaries.{Table}
 use Rattle.poly_model.specs.LexOrder.{rows_in}
 use Rattle.poly_model.specs.Tree.{Leaves}
-use Rattle.dictionary_laws.specs.Keys.{AreDistinct}
+use Rattle.linear_laws.specs.Distinct.{AreDistinct}
 use Rattle.search_laws.specs.ChildTest.{IsDown, WouldEnter, neighbour_entry}
 use Rattle.search_laws.proofs.ChildTest.{child_by_test}
 use Rattle.dictionary.specs.Views.{Dictionary, table_of}

@@ -10,8 +10,9 @@ use Rattle.poly_model.specs.Labels.{is_row}
 use Rattle.poly_model.specs.Spaces.{Space, is_member}
 use Rattle.poly_model.specs.LexOrder.{rows_in, outside, within, IsEarlier}
 use Rattle.poly_model.specs.Tree.{IsRowOutside}
-use Rattle.linear_laws.proofs.Members.{less_or_equal}
-use Rattle.dictionary_laws.specs.Keys.{AreDistinct, place_in}
+use Rattle.linear_laws.specs.Distinct.{AreDistinct}
+use Rattle.linear_laws.proofs.Members.{less_or_equal, both_true}
+use Rattle.dictionary_laws.specs.Keys.{place_in}
 use Rattle.dictionary_laws.proofs.Filters.{filter_only, filter_kept, ascending_filter, member_has, member_only}
 use Rattle.dictionary_laws.proofs.KeyExchange.{ascending_distinct}
 use Rattle.dictionary.proofs.PlaceLemmas.{place_within, at_place}
@@ -21,10 +22,6 @@ use Rattle.lex_pivot.specs.Earlier.{is_before_root, is_earlier}
 -- a space with these labels: laws of rows speak of spaces
 abbrev pub space_of : List ℕ → Space
 space_of labels = record { n = 0; fixed = []; infinity = []; labels = labels; form = λ k. [] }
-
-both_true : (a b : Bool) → cond a b false ≡ true → (a ≡ true) × (b ≡ true)
-both_true true b h = (refl, h)
-both_true false b h = absurd (true≢false (sym h))
 
 module _ (labels : List ℕ) where
   pub row_has : (k : ℕ) → Contains labels k → is_row k ≡ true → Contains (rows_in labels) k

@@ -11,7 +11,7 @@ use Rattle.poly_model.specs.Tree.{MayEnter, Enters, Leaves, IsParent, exchanged_
 use Rattle.linear_laws.proofs.Signs.{minus_negative}
 use Rattle.dictionary_laws.specs.Keys.{place_in}
 use Rattle.dictionary_laws.proofs.Filters.{member_has, member_only}
-use Rattle.dictionary_laws.proofs.Members.{contains_or}
+use Rattle.dictionary_laws.proofs.Members.{contains_or, ascending_places}
 use Rattle.std.proofs.lemmas.Bool.{cases_eq}
 use Rattle.tree_laws.specs.Parents.{IsRootOrChild}
 use Rattle.tree_laws.proofs.LexLemmas.{positive_value}
@@ -24,7 +24,6 @@ use Rattle.lex_pivot.specs.Ratios.{NoneLeaves}
 use Rattle.lex_pivot.specs.Above.{IsOfRows, NoneEnters, EntersAt, LeadsToParent, IsRootExactly, EntersOn, IsLeastOn, NoneOn}
 use Rattle.lex_pivot.specs.declared.parents.Pivot.{Pivot}
 use Rattle.lex_pivot.proofs.EarlierLemmas.{space_of, rows_ascend}
-use Rattle.lex_pivot.proofs.FirstSigns.{not_below}
 
 -- ---- the first of the key
 module _ (d : Dictionary) (root : List ℕ) (inside : Bool) where
@@ -44,7 +43,7 @@ module _ (d : Dictionary) (root : List ℕ) (inside : Bool) where
       by q c y (inl a) =
           absurd (h (place_in d.key q) a (subst (λ i. EntersOn d root inside i) (sym (at_place d.key q 0 c)) y))
       by q c y (inr a) =
-          let g = not_below d.key asc n (place_in d.key q) a (place_within d.key q c) in
+          let g = ascending_places d.key asc n (place_in d.key q) a (place_within d.key q c) in
           let p = at_place d.key q 0 c in
           omega arith
 

@@ -5,14 +5,14 @@ use Rattle.std.specs.Ordering.{MatchOrdering}
 use Rattle.std.specs.Cmp.{int_ranks, int_cmp_is}
 use Rattle.std.specs.declared.cmp.Ordering.TheVariants.{Less, Equal, Greater}
 use Rattle.std.proofs.lemmas.List.{get_or_default}
-use Rattle.std.proofs.lemmas.List.Elements.{Contains-get_or}
 use Rattle.poly_num.proofs.Ring.{lin}
 use Rattle.poly_num.specs.Signs.{sign_of, lex_sign_of}
 use Rattle.poly_model.specs.Keys.{IsAscending}
 use Rattle.poly_model.specs.LexOrder.{IsPositive, IsNonnegative, Precedes, backwards}
-use Rattle.linear_laws.proofs.Members.{Contains-nil, Contains-first, Contains-later, Contains-cons_cases, all_at}
+use Rattle.linear_laws.proofs.Members.{Contains-nil, Contains-first, Contains-later, Contains-cons_cases}
 use Rattle.dictionary_laws.specs.Keys.{place_in}
 use Rattle.dictionary_laws.proofs.KeyExchange.{ascending_distinct}
+use Rattle.dictionary_laws.proofs.Members.{ascending_places}
 use Rattle.dictionary.proofs.PlaceLemmas.{place_within, at_place}
 use Rattle.tree_laws.proofs.LexLemmas.{map_negative}
 use Rattle.tree_laws.proofs.ListOrder.{precedes_members, before_is_smaller, before_backwards, backwards_has, backwards_only}
@@ -73,23 +73,13 @@ not_less (pos (suc k) ∷ xs) n = inl (omega (arith, lin))
 not_less (negsuc k ∷ xs) n = absurd (n refl)
 
 -- ---- places in an ascending list
-pub not_below : (xs : List ℕ) → IsAscending xs → (i j : ℕ) → i ≤ j → j < length xs → get_or xs i 0 ≤ get_or xs j 0
-not_below [] h i j l m = absurd (omega arith)
-not_below (x ∷ xs) h zero zero l m = omega arith
-not_below (x ∷ xs) h zero (suc j) l m =
-    let a : x < get_or xs j 0 =
-    all_at (λ y. x < y) xs h.0 (get_or xs j 0) (Contains-get_or xs j 0 (omega arith)) in
-    omega arith
-not_below (x ∷ xs) h (suc i) zero l m = absurd (omega arith)
-not_below (x ∷ xs) h (suc i) (suc j) l m = not_below xs h.1 i j (omega arith) (omega arith)
-
 split_at : (a b : ℕ) → (a ≤ b) ⊎ (b < a)
 split_at a b = grind arith
 
 -- what is greater stands behind
 pub place_behind : (xs : List ℕ) → IsAscending xs → (i j : ℕ) → i < length xs → get_or xs i 0 < get_or xs j 0 → i < j
 place_behind xs h i j l m =
-    ⊎_elim (λ (a : j ≤ i). let b = not_below xs h j i a l in absurd (omega arith)) (λ (a : i < j). a) (split_at j i)
+    ⊎_elim (λ (a : j ≤ i). let b = ascending_places xs h j i a l in absurd (omega arith)) (λ (a : i < j). a) (split_at j i)
 
 module _ (f : ℕ → ℤ) where
   pub no_sign : (ks : List ℕ) → ((k : ℕ) → Contains ks k → f k ≡ pos 0) → lex_sign_of (map f ks) ≡ Equal

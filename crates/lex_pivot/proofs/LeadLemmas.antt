@@ -10,8 +10,9 @@ use Rattle.poly_num.specs.Signs.{sign_of, lex_sign_of}
 use Rattle.poly_model.specs.Keys.{IsAscending}
 use Rattle.poly_model.specs.Dictionaries.{Table}
 use Rattle.poly_model.specs.LexOrder.{rows_in, within}
+use Rattle.linear_laws.specs.Distinct.{AreDistinct}
 use Rattle.search_laws.specs.ChildTest.{downward}
-use Rattle.dictionary_laws.specs.Keys.{place_in, AreDistinct, HaveSameLabels}
+use Rattle.dictionary_laws.specs.Keys.{place_in, HaveSameLabels}
 use Rattle.dictionary.proofs.PlaceLemmas.{place_at, place_within, at_place}
 use Rattle.dictionary.specs.Cobases.{HasUnits}
 use Rattle.dictionary.specs.Views.{Dictionary, number, table_of}

@@ -14,7 +14,7 @@ use Rattle.poly_model.specs.Dictionaries.{Table}
 use Rattle.poly_model.specs.LexOrder.{gaps, outside, listed_at}
 use Rattle.poly_model.specs.Spaces.{is_member}
 use Rattle.dictionary_laws.specs.Keys.{place_in}
-use Rattle.dictionary_laws.proofs.Members.{contains_or}
+use Rattle.dictionary_laws.proofs.Members.{contains_or, ascending_places}
 use Rattle.dictionary_laws.proofs.Filters.{filter_kept, filter_only, ascending_filter}
 use Rattle.dictionary.specs.Views.{Dictionary, table_of}
 use Rattle.dictionary.proofs.PlaceLemmas.{place_within, at_place}
@@ -25,7 +25,7 @@ use Rattle.lex_pivot.specs.Pairs.{ArePair, pair_gaps, constant_gap, gap_at, IsEn
 use Rattle.lex_pivot.specs.declared.ties.Pair.{Pair}
 use Rattle.lex_pivot.proofs.EarlierLemmas.{before_has, before_only, row_only, outside_ascending}
 use Rattle.lex_pivot.proofs.SignLemmas.{turned_sign, listed_elsewhere, listed_inside}
-use Rattle.lex_pivot.proofs.FirstSigns.{IsZeroBelow, zero_first, ascending_sign, no_sign, not_below, sign_zero}
+use Rattle.lex_pivot.proofs.FirstSigns.{IsZeroBelow, zero_first, ascending_sign, no_sign, sign_zero}
 
 positive_gap : (p q x y : ℤ) → pos 0 <ℤ p → pos 0 <ℤ x → y ≡ pos 0 → pos 0 <ℤ (p *ℤ x -ℤ q *ℤ y)
 positive_gap p q x y h l e =
@@ -109,7 +109,7 @@ module _ (d : Dictionary) (root : List ℕ) (pair : Pair) (two : ArePair d pair)
       where
         passed : (p : ℕ) → get_or (before_root d root) p 0 ≡ k → p < length (before_root d root) → n ≤ p → ⊥
         passed p e w s =
-            let f = far (omega arith) in let g = not_below (before_root d root) ascends n p s w in omega arith
+            let f = far (omega arith) in let g = ascending_places (before_root d root) ascends n p s w in omega arith
 
         inside : Contains (before_root d root) k → gap_at d.key (table_of d) pair k ≡ pos 0
         inside m =

@@ -12,11 +12,12 @@ use Rattle.poly_num.specs.Signs.{lex_sign_of}
 use Rattle.poly_model.specs.Dictionaries.{Table}
 use Rattle.poly_model.specs.LexOrder.{IsNonnegative, gaps, list_of}
 use Rattle.poly_model.specs.Tree.{ratio_gaps, Leaves}
+use Rattle.linear_laws.specs.Distinct.{AreDistinct}
 use Rattle.linear_laws.proofs.Members.{Contains-nil, Contains-first, Contains-cons_cases}
 use Rattle.tree_laws.proofs.LexLemmas.{zero_is_nonnegative, positive_is_nonnegative}
 use Rattle.tree_laws.proofs.GapLemmas.{gaps_turned, gaps_of_itself}
 use Rattle.tree_laws.proofs.Least.{at_most_transitive, length_lists}
-use Rattle.dictionary_laws.specs.Keys.{AreDistinct, place_in}
+use Rattle.dictionary_laws.specs.Keys.{place_in}
 use Rattle.dictionary.proofs.PlaceLemmas.{place_within, at_place}
 use Rattle.dictionary.specs.Cobases.{AreOutside}
 use Rattle.dictionary.specs.Positions.{IsCellColumn}

@@ -1,6 +1,7 @@
 pub mod Signs
 pub mod AllLemmas
 pub mod Members
+pub mod Distinct
 pub mod Proportions
 pub mod Combinations
 pub mod Columns

@@ -1,6 +1,6 @@
 -- The members of a list, from its first element on; ascending lists with the same members are equal; equal lists have
 -- equal first elements and equal others.
-use Rattle.std.proofs.Common.{◌≡◌, ◌⊎◌, inl, inr, ⊎_elim, ℕ, zero, suc, ◌<◌, ◌≤◌, List, [], ◌∷◌, refl, sym, subst, arith}
+use Rattle.std.proofs.Common.{◌≡◌, ◌⊎◌, inl, inr, ⊎_elim, ℕ, zero, suc, ◌<◌, ◌≤◌, List, [], ◌∷◌, refl, sym, subst, arith, Bool, true, false, cond}
 use Rattle.std.proofs.lemmas.Bool.{cases_lt}
 use Rattle.std.specs.List.{Contains, AllByRecursion}
 use Rattle.poly_model.specs.Keys.{IsAscending}
@@ -69,3 +69,8 @@ ascending_is_one (x ∷ xs) (y ∷ ys) a b h g =
     let back = others_are_others y x ys xs (sym e) b g in
     let f = ascending_is_one xs ys a.1 b.1 to back in
     cc
+
+-- ---- tests
+pub both_true : (a b : Bool) → cond a b false ≡ true → (a ≡ true) × (b ≡ true)
+both_true true b h = (refl, h)
+both_true false b h = absurd (cc)

@@ -1,3 +1,4 @@
+pub mod Distinct
 pub mod Frames
 pub mod NewRows
 pub mod Slots

@@ -10,7 +10,7 @@ use Rattle.poly_model.specs.Systems.{Row, System}
 use Rattle.poly_model.specs.FreeColumns.{AreFreeColumns}
 use Rattle.poly_model.specs.Extreme.{TouchesPoint, IsShown}
 use Rattle.linear_laws.specs.NewRows.{AreNew}
-use Rattle.linear_laws.proofs.Members.{Contains-nil}
+use Rattle.linear_laws.proofs.Members.{Contains-nil, both_true}
 use Rattle.linear_laws.proofs.FirstBases.{taken_enough, taken_of}
 use Rattle.cone_laws.specs.Faces.{is_zero, fixed_rows}
 use Rattle.cone_laws.proofs.RowLemmas.{is_zero-true, fixed_vanish, zero_at_fixed, linear_from_fixed}
@@ -25,10 +25,6 @@ first_basis_is_new n before (g ∷ gs) (true ∷ marks) a f = first_basis_is_new
 first_basis_is_new n before (g ∷ gs) (false ∷ marks) a f = first_basis_is_new n before gs marks a f.1
 
 -- ---- what is shown
-both_from_cond : (b c : Bool) → cond b c false ≡ true → (b ≡ true) × (c ≡ true)
-both_from_cond true c e = (refl, e)
-both_from_cond false c e = absurd (cc)
-
 cond_from_both : (b c : Bool) → b ≡ true → c ≡ true → cond b c false ≡ true
 cond_from_both true c e f = f
 cond_from_both false c e f = absurd (cc)
@@ -43,7 +39,7 @@ shows_is_shown V sys y = (λ e. touches (Any-from_list_any (is_tight_point y) sy
   where
     touches : Any (λ row. is_tight_point y row ≡ true) sys.rows → TouchesPoint sys y
     touches (k, row, l, e, p) =
-        let h = both_from_cond row.point (is_zero (row.entries · y)) p in
+        let h = both_true row.point (is_zero (row.entries · y)) p in
         record { row = row; within = (k, l, e); point = h.0; tight = is_zero-true (row.entries · y) h.1 }
 
     passes : TouchesPoint sys y → list_any (is_tight_point y) sys.rows ≡ true

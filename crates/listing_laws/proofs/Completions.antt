@@ -7,12 +7,13 @@ use Rattle.poly_num.specs.Vectors.{Vector}
 use Rattle.poly_model.specs.Independence.{taken}
 use Rattle.poly_model.specs.Systems.{Polyhedron, cone_of}
 use Rattle.poly_model.specs.Extreme.{IsExtreme, AreExtreme}
+use Rattle.linear_laws.specs.Distinct.{AreDistinct}
 use Rattle.linear_laws.proofs.FirstBases.{first_basis}
 use Rattle.linear_laws.proofs.Members.{Contains-nil, Contains-first, Contains-later, Contains-cons_cases}
 use Rattle.cone_laws.specs.Faces.{fixed_rows}
 use Rattle.cone_laws.proofs.ColumnLemmas.{one_list_of_columns}
 use Rattle.listing_laws.specs.ListedCone.{cone_over}
-use Rattle.listing_laws.specs.Lists.{AreDistinctVectors, Lists}
+use Rattle.listing_laws.specs.Lists.{Lists}
 use Rattle.listing_laws.proofs.BaseLemmas.{first_basis_is_base}
 use Rattle.listing_laws.proofs.ConeLemmas.{is_listable}
 use Rattle.listing_laws.proofs.ListLemmas.{lists_same, lists-append}
@@ -39,7 +40,7 @@ member_or_not (x ∷ xs) y = by (same_or_not x y) (member_or_not xs y)
 abbrev IsOther : List Vector → List Vector → Vector → Type 0
 IsOther shown all y = Contains all y × (Contains shown y → ⊥)
 
-others : (shown all : List Vector) → AreDistinctVectors all → (rest : List Vector) × Lists (IsOther shown all) rest
+others : (shown all : List Vector) → AreDistinct all → (rest : List Vector) × Lists (IsOther shown all) rest
 others shown [] d = ([], record { distinct = tt; members = λ y. (λ c. absurd (Contains-nil y c), λ o. o.0) })
 others shown (x ∷ all) d = by (member_or_not shown x) (others shown all d.1)
   where
@@ -87,7 +88,7 @@ some_extremes p =
     (all.0, lists_extreme (cone_of p) cone is all.0 all.1)
 
 -- what was shown, if it is extreme vectors, each once, and the others
-pub completed : (p : Polyhedron) (shown : List Vector) → AreDistinctVectors shown →
+pub completed : (p : Polyhedron) (shown : List Vector) → AreDistinct shown →
     ((y : Vector) → Contains shown y → IsExtreme (cone_of p) y) →
     (rest : List Vector) × AreExtreme (cone_of p) (shown ++ rest)
 completed p shown d only =

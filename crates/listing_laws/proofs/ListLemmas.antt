@@ -4,8 +4,9 @@ use Rattle.std.proofs.lemmas.List.{append-nil}
 use Rattle.std.specs.List.{AllByRecursion, Contains}
 use Rattle.std.proofs.lemmas.List.Elements.{Contains-append_left, Contains-append_right, Contains-append_cases}
 use Rattle.poly_num.specs.Vectors.{Vector}
+use Rattle.linear_laws.specs.Distinct.{AreDistinct}
 use Rattle.linear_laws.proofs.Members.{Contains-nil, Contains-first, Contains-later, Contains-cons_cases}
-use Rattle.listing_laws.specs.Lists.{AreDistinctVectors, Lists, Goes}
+use Rattle.listing_laws.specs.Lists.{Lists, Goes}
 
 -- what holds of each member holds of all
 pub all_members : {X : Type 0} (P : X → Type 0) (xs : List X) → ((x : X) → Contains xs x → P x) → AllByRecursion P xs
@@ -13,8 +14,8 @@ all_members P [] h = tt
 all_members P (x ∷ xs) h = (h x (Contains-first x xs), all_members P xs (λ y c. h y (Contains-later y x xs c)))
 
 -- ---- joined
-pub distinct-append : (xs ys : List Vector) → AreDistinctVectors xs → AreDistinctVectors ys →
-    ((y : Vector) → Contains xs y → Contains ys y → ⊥) → AreDistinctVectors (xs ++ ys)
+pub distinct-append : (xs ys : List Vector) → AreDistinct xs → AreDistinct ys →
+    ((y : Vector) → Contains xs y → Contains ys y → ⊥) → AreDistinct (xs ++ ys)
 distinct-append [] ys a b h = b
 distinct-append (x ∷ xs) ys a b h = (
   λ c. ⊎_elim a.0 (h x (Contains-first x xs)) (Contains-append_cases xs ys x c),

@@ -6,16 +6,17 @@ use Rattle.poly_num.specs.Vectors.{Vector}
 use Rattle.poly_model.specs.declared.kind.Kind.TheVariants.{H}
 use Rattle.poly_model.specs.Systems.{Polyhedron, System, cone_of}
 use Rattle.poly_model.specs.Extreme.{IsExtreme, IsFeasible, AreExtreme}
+use Rattle.linear_laws.specs.Distinct.{AreDistinct}
 use Rattle.cone_laws.specs.FeasibilityLaws.{HasVertex, IsFlatAtInfinity}
 use Rattle.cone_laws.proofs.FeasibleLemmas.{feasible_by_vertex, feasible_file_by_vertex}
 use Rattle.listing_laws.specs.ConeLaws.{HasShownVertex, HasListedVertex}
 use Rattle.listing_laws.specs.ListedCone.{ListedCone, IsConeOf}
-use Rattle.listing_laws.specs.Lists.{AreDistinctVectors, Lists}
+use Rattle.listing_laws.specs.Lists.{Lists}
 use Rattle.listing_laws.specs.Prefixes.{IsCornerUnder}
 use Rattle.listing_laws.proofs.ConeLemmas.{extreme_is_shown_corner}
 use Rattle.listing_laws.proofs.ListLemmas.{all_members, lists_same}
 
-once_at : (ys : List Vector) → AreDistinctVectors ys → (i j : ℕ) → i < j → j < length ys →
+once_at : (ys : List Vector) → AreDistinct ys → (i j : ℕ) → i < j → j < length ys →
     slice_index_or ys i [] ≢ slice_index_or ys j []
 once_at [] d i j a b e = absurd (omega arith)
 once_at (y ∷ ys) d i zero a b e = absurd (omega arith)

@@ -1,16 +1,12 @@
 -- Lists without repeats whose members are told, and how one is made piece by piece.
-use Rattle.std.specs.Prelude.{◌↔◌, List, [], ◌∷◌, ◌++◌}
+use Rattle.std.specs.Prelude.{◌↔◌, List, ◌∷◌, ◌++◌}
 use Rattle.std.specs.List.{Contains}
 use Rattle.poly_num.specs.Vectors.{Vector}
-
--- no vector stands twice
-abbrev pub AreDistinctVectors : List Vector → Type 0
-AreDistinctVectors [] = Unit {0}
-AreDistinctVectors (x ∷ xs) = (Contains xs x → ⊥) × AreDistinctVectors xs
+use Rattle.linear_laws.specs.Distinct.{AreDistinct}
 
 -- the members of xs are exactly the vectors with P, each once
 pub record Lists (P : Vector → Type 0) (xs : List Vector) : Type 0 where
-  pub distinct : AreDistinctVectors xs
+  pub distinct : AreDistinct xs
   pub members : (y : Vector) → Contains xs y ↔ P y
 
 -- what is still to be listed are the vectors with Q: any list of them completes xs to one of those with P

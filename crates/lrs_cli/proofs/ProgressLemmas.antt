@@ -1,11 +1,11 @@
 -- The answer of `status`, where its ledger is attached first; and counts of faults.
 use Rattle.std.specs.Result.{IsErrOf}
 use Rattle.std.proofs.Common.{ℕ, List, ◌≡◌, refl, subst, Option, Result}
+use Rattle.poly_io.specs.Causes.{RisesAt}
 use Rattle.disk_core.specs.declared.disk.Disk.{Ghosts as Disk}
 use Rattle.disk_core.specs.Images.{NothingNew}
 use Rattle.disk_core.specs.Moments.{LeavesOnly}
 use Rattle.disk_core.proofs.Moments.{joined}
-use Rattle.run_ledger.specs.Stops.{RisesAt}
 use Rattle.lrs_cli.specs.declared.status.Status.{Status}
 use Rattle.lrs_cli.specs.declared.status.Status.TheVariants.{DiskFault}
 use Rattle.lrs_cli.specs.Ledgers.{RoseAt}

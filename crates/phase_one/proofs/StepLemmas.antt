@@ -10,7 +10,7 @@ use Rattle.poly_model.specs.Dictionaries.{Table, IsDictionary}
 use Rattle.poly_model.specs.LexOrder.{rows_in, IsEarlier}
 use Rattle.poly_model.specs.Tree.{IsRowDictionary, Leaves, IsNeighbour, exchanged_key}
 use Rattle.poly_model.specs.Lowering.{IsLoweringStep, IsLowest, IsDescent}
-use Rattle.dictionary_laws.specs.Keys.{AreDistinct}
+use Rattle.linear_laws.specs.Distinct.{AreDistinct}
 use Rattle.dictionary_laws.proofs.Members.{contains_or}
 use Rattle.tree_laws.proofs.ExchangedKeys.{exchanges, ascending_exchanged}
 use Rattle.tree_laws.proofs.Neighbours.{neighbour_dictionary, neighbour_feasible}

@@ -15,9 +15,9 @@ use Rattle.poly_model.specs.Spaces.{IsSpaceOf, is_member, cone_space}
 use Rattle.poly_model.specs.Labels.{coordinates_from, IsRow, IsCoordinate, is_row, coordinate_label, coordinate_index}
 use Rattle.poly_model.specs.Dictionaries.{Table}
 use Rattle.poly_model.proofs.RowLemmas.{row_from_one}
+use Rattle.linear_laws.specs.Distinct.{AreDistinct}
 use Rattle.linear_laws.proofs.AllLemmas.{all_from_map, all_to_map}
 use Rattle.linear_laws.proofs.Members.{all_at}
-use Rattle.dictionary_laws.specs.Keys.{AreDistinct}
 use Rattle.dictionary_laws.proofs.Directions.{times_zero, zero_times}
 use Rattle.dictionary_laws.proofs.Duals.{distinct}
 use Rattle.dictionary_laws.proofs.Filters.{filter_only, filter_kept, distinct_filter, member_only, member_has}

@@ -10,12 +10,12 @@ use Rattle.poly_model.specs.Spaces.{cone_space}
 use Rattle.poly_model.specs.Dictionaries.{IsCobasis}
 use Rattle.linear_laws.specs.Frames.{Column, IsFrame}
 use Rattle.linear_laws.specs.NewRows.{AreNew}
+use Rattle.linear_laws.specs.Distinct.{AreDistinct}
 use Rattle.linear_laws.proofs.AllLemmas.{all_right, all_from_map, all_to_map}
 use Rattle.linear_laws.proofs.Columns.{rows_vanish_at}
 use Rattle.linear_laws.proofs.Elimination.{Reached, vanish_from_rest}
 use Rattle.linear_laws.proofs.FirstBases.{reach}
 use Rattle.linear_laws.proofs.Members.{Contains-first, Contains-later, all_at}
-use Rattle.dictionary_laws.specs.Keys.{AreDistinct}
 use Rattle.dictionary_laws.proofs.Duals.{distinct}
 use Rattle.dictionary_laws.proofs.Members.{all_from}
 use Rattle.plain_enum.specs.Standing.{form_of}

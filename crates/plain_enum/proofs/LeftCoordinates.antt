@@ -1,24 +1,15 @@
 -- The last coordinate that is not free, among the first labels of a key.
-use Rattle.std.proofs.Common.{◌≡◌, false, ℕ, zero, suc, ◌+◌, ◌<◌, ◌≤◌, List, [], ◌∷◌, length, sym, subst, ◌∙◌, get_or, arith}
+use Rattle.std.proofs.Common.{◌≡◌, false, ℕ, ◌+◌, ◌<◌, ◌≤◌, List, ◌∷◌, length, sym, subst, ◌∙◌, get_or, arith}
 use Rattle.std.proofs.lemmas.List.{get_or_default}
 use Rattle.std.proofs.lemmas.List.Elements.{Contains-get_or}
 use Rattle.std.specs.List.{Contains}
 use Rattle.poly_model.specs.Labels.{IsCoordinate, coordinate_index}
 use Rattle.poly_model.specs.Keys.{IsAscending}
 use Rattle.poly_model.specs.Spaces.{is_member}
-use Rattle.linear_laws.proofs.Members.{all_at}
+use Rattle.dictionary_laws.proofs.Members.{ascending_places}
 use Rattle.dictionary.specs.Views.{Dictionary}
 use Rattle.plain_enum.specs.Columns.{IsLeftCoordinate, LeavesNoCoordinate}
 use Rattle.plain_enum.proofs.Parts.{with_next}
-
--- a later place of an ascending list has no lesser number
-ascending_places : (xs : List ℕ) → IsAscending xs → (i j : ℕ) → i ≤ j → j < length xs → get_or xs i 0 ≤ get_or xs j 0
-ascending_places [] a i j l m = absurd (omega arith)
-ascending_places (x ∷ xs) a zero zero l m = omega arith
-ascending_places (x ∷ xs) a zero (suc j) l m =
-    let above = all_at (λ y. x < y) xs a.0 (get_or xs j 0) (Contains-get_or xs j 0 (omega arith)) in omega arith
-ascending_places (x ∷ xs) a (suc i) zero l m = absurd (omega arith)
-ascending_places (x ∷ xs) a (suc i) (suc j) l m = ascending_places xs a.1 i j (omega arith) (omega arith)
 
 at_most : (xs : List ℕ) → IsAscending xs → (i : ℕ) → i < length xs → (k : ℕ) (c : Contains xs k) →
     c.0 ≤ i → k ≤ get_or xs i 0

@@ -4,8 +4,8 @@ use Rattle.std.proofs.lemmas.Bool.{cases_lt}
 use Rattle.std.proofs.lemmas.List.{get_or_default}
 use Rattle.std.specs.List.{Contains}
 use Rattle.std.proofs.lemmas.List.Elements.{Contains-append_left, Contains-append_right, Contains-append_cases}
+use Rattle.linear_laws.specs.Distinct.{AreDistinct}
 use Rattle.linear_laws.proofs.Members.{Contains-nil, Contains-first, Contains-later}
-use Rattle.dictionary_laws.specs.Keys.{AreDistinct}
 use Rattle.dictionary_laws.proofs.Members.{by_cases}
 
 -- no label stands in both

@@ -7,8 +7,9 @@ use Rattle.poly_num.specs.Vectors.{◌·◌}
 use Rattle.poly_num.proofs.VectorLemmas.{dot-zero}
 use Rattle.poly_model.specs.Systems.{Polyhedron}
 use Rattle.poly_model.specs.Spaces.{cone_space}
+use Rattle.linear_laws.specs.Distinct.{AreDistinct}
 use Rattle.linear_laws.proofs.Members.{Contains-nil, Contains-first}
-use Rattle.dictionary_laws.specs.Keys.{AreDistinct, HaveSameLabels, Exchanges}
+use Rattle.dictionary_laws.specs.Keys.{HaveSameLabels, Exchanges}
 use Rattle.dictionary_laws.proofs.Members.{contains_cases, without, without_only, without_kept, distinct_without}
 use Rattle.dictionary_laws.proofs.PhasePoints.{phase_points}
 use Rattle.dictionary.specs.Views.{Dictionary, IsDictionaryIn, IsPivot}

@@ -1,5 +1,5 @@
 -- The dot product is linear in both vectors and symmetric, for lists of any lengths.
-use Rattle.std.proofs.Common.{◌≡◌, ◌≢◌, ℕ, ◌+◌, suc, zero, ◌<◌, ℤ, pos, ◌+ℤ◌, ◌*ℤ◌, neg_ℤ, [], ◌∷◌, map, length, take, get_or, add-one, refl, sym, ap, ◌∙◌, arith}
+use Rattle.std.proofs.Common.{◌≡◌, ◌≢◌, ℕ, ◌+◌, suc, zero, ◌<◌, ℤ, pos, ◌+ℤ◌, ◌*ℤ◌, neg_ℤ, [], ◌∷◌, map, length, take, get_or, add-one, refl, sym, ap, ◌∙◌, arith, replicate}
 use Rattle.std.proofs.lemmas.Int.{ints}
 use Rattle.poly_num.specs.Vectors.{Vector, ◌·◌, scale, sum_of, IsZero}
 use Rattle.poly_num.proofs.Ring.{expand, lin, mul_assoc, mul_zero, one_mul, add_zero, zero_add, zero_mul}
@@ -8,6 +8,11 @@ use Rattle.poly_num.proofs.Order.{zero_factor, cancel}
 pub dot-nil : (u : Vector) → u · [] ≡ pos 0
 dot-nil [] = refl
 dot-nil (x ∷ u) = refl
+
+pub zeros-dot : (m : ℕ) (z : Vector) → replicate m (pos 0) · z ≡ pos 0
+zeros-dot zero z = refl
+zeros-dot (suc m) [] = refl
+zeros-dot (suc m) (x ∷ z) = omega (arith, lin, zero_mul x, zeros-dot m z)
 
 pub dot_comm : (u v : Vector) → u · v ≡ v · u
 dot_comm [] [] = refl

@@ -27,5 +27,5 @@ pub use number::Num;
 pub use products::{cross, known_cross, known_product, mul};
 pub use signs::{dot_sign, lex_sign, sign};
 pub use sums::{add, neg, sub};
-pub use vectors::{negate, primitive};
+pub use vectors::{is_primitive, negate, primitive};
 pub use words::{are_words, is_word, word_cross, word_product};

@@ -1,5 +1,6 @@
 // Vectors in place: the sign turned, the greatest common divisor taken out.
 ghost use Rattle.std.specs.Prelude.{◌≡◌, ◌↔◌, ◌<ℤ◌, IsTrue, map, neg_ℤ, pos};
+ghost use Rattle.poly_num.specs.Vectors.{IsPrimitive};
 ghost use Rattle.poly_num.specs.Divisors.{MakesPrimitive, quotients, gcd_of_all};
 
 use crate::divisors::common_divisor;
@@ -24,6 +25,13 @@ pub fn primitive(v: &mut [Num])
     if g.is_positive() {
         divide(v, g);
     }
+}
+
+/// Whether 1 is the greatest common divisor of the entries.
+pub fn is_primitive(v: &[Num]) -> bool
+    ensures { IsTrue result ↔ IsPrimitive v.now }
+{
+    is_one(common_divisor(v))
 }
 
 // Divides each entry, rounded toward zero; by 1 nothing changes.

@@ -6,13 +6,14 @@ use Rattle.poly_model.specs.Spaces.{Space}
 use Rattle.poly_model.specs.Dictionaries.{Table}
 use Rattle.poly_model.specs.LexOrder.{rows_in}
 use Rattle.poly_model.specs.Tree.{IsFeasibleRoot, IsLexFeasible, IsNeighbour}
+use Rattle.linear_laws.specs.Distinct.{AreDistinct}
 use Rattle.linear_laws.proofs.Members.{Contains-nil, Contains-first, Contains-later, Contains-cons_cases}
-use Rattle.dictionary_laws.specs.Keys.{AreDistinct, Exchanges}
+use Rattle.dictionary_laws.specs.Keys.{Exchanges}
 use Rattle.dictionary_laws.proofs.KeyExchange.{ascending_distinct}
 use Rattle.tree_laws.proofs.ExchangedKeys.{leaving_outside}
 use Rattle.tree_laws.proofs.Neighbours.{neighbour_exchanges, one_neighbour}
 use Rattle.tree_laws.proofs.AnyTable.{neighbour_too}
-use Rattle.search_laws.specs.Shares.{StandOnce, ListsAll, IsChild}
+use Rattle.search_laws.specs.Shares.{ListsAll, IsChild}
 use Rattle.search_laws.proofs.Children.{child_column, child_or_none}
 use Rattle.reverse_step.specs.Waiting.{AreAlong}
 use Rattle.reverse_step.specs.Walks.{IsChildAt}
@@ -96,11 +97,11 @@ module _ (space : Space) (root : List ℕ) (home : Table) (h : IsFeasibleRoot sp
       (λ (m : Contains ss s). Contains-later one child rest (along_each ss rest a s m one d))
       (Contains-cons_cases s r ss c))
 
-  along_once : (ss : List ℕ) (cs : List (List ℕ)) → AreDistinct ss → Along ss cs → StandOnce cs
-  along_once [] cs d a = subst (λ ks. StandOnce ks) (sym a) tt
+  along_once : (ss : List ℕ) (cs : List (List ℕ)) → AreDistinct ss → Along ss cs → AreDistinct cs
+  along_once [] cs d a = subst (λ ks. AreDistinct ks) (sym a) tt
   along_once (s ∷ ss) cs d (inl (n, a)) = along_once ss cs d.1 a
   along_once (s ∷ ss) cs d (inr (child, rest, b, a, e)) =
-      subst (λ ks. StandOnce ks) (sym e) (
+      subst (λ ks. AreDistinct ks) (sym e) (
         λ c. let w = along_only ss rest a child c in
             d.0 (subst (λ k. Contains ss k) (sym (one_column s w.0 child b w.2)) w.1),
         along_once ss rest d.1 a,

@@ -6,10 +6,9 @@ use Rattle.poly_model.specs.LexOrder.{rows_in}
 use Rattle.poly_model.specs.Spaces.{Space}
 use Rattle.poly_model.specs.Dictionaries.{Table}
 use Rattle.poly_model.specs.Tree.{IsFeasibleRoot, IsLexFeasible, IsAbove}
-use Rattle.dictionary_laws.specs.Keys.{AreDistinct}
 use Rattle.dictionary_laws.proofs.KeyExchange.{ascending_distinct}
 use Rattle.tree_laws.proofs.Numbers.{key_row}
-use Rattle.search_laws.specs.Shares.{StandOnce, ListsAll, IsChild}
+use Rattle.search_laws.specs.Shares.{ListsAll, IsChild}
 use Rattle.search_laws.proofs.OnceLists.{no_longer}
 use Rattle.search_laws.proofs.StepBounds.{few_rows}
 use Rattle.reverse_step.specs.Waiting.{AreAlong, Wait}
@@ -37,10 +36,6 @@ pub child_depth : (space : Space) (root job key child : List ℕ) (depth : ℕ) 
 child_depth space root job key child depth c above = (c.0, c.1.dictionary.dictionary, key, c.2, above)
 
 -- ---- children
-pub once_of : (ks : List ℕ) → AreDistinct ks → StandOnce ks
-once_of [] h = tt
-once_of (k ∷ ks) h = (h.0, once_of ks h.1)
-
 along_few : (space : Space) (root key ss : List ℕ) (cs : List (List ℕ)) → AreAlong (IsChildAt space root) key ss cs →
     length cs ≤ length ss
 along_few space root key [] cs e = let l = ap length e in omega (arith, l)
@@ -54,7 +49,7 @@ module _ (space : Space) (root : List ℕ) (home : Table) (h : IsFeasibleRoot sp
   pub few_labels : length key ≤ coordinates_from
   few_labels =
       le_trans
-      (no_longer key (rows_in space.labels) (once_of key (ascending_distinct key f.dictionary.ascending))
+      (no_longer key (rows_in space.labels) (ascending_distinct key f.dictionary.ascending)
       (key_row space key t f.dictionary))
       (few_rows space up)
 

@@ -4,8 +4,9 @@ use Rattle.poly_model.specs.LexOrder.{rows_in}
 use Rattle.poly_model.specs.Spaces.{Space}
 use Rattle.poly_model.specs.Dictionaries.{Table}
 use Rattle.poly_model.specs.Tree.{IsUnder, IsParent, MayEnter}
+use Rattle.linear_laws.specs.Distinct.{AreDistinct}
 use Rattle.linear_laws.proofs.Members.{less_or_equal}
-use Rattle.dictionary_laws.specs.Keys.{place_in, AreDistinct}
+use Rattle.dictionary_laws.specs.Keys.{place_in}
 use Rattle.dictionary_laws.proofs.KeyExchange.{ascending_distinct}
 use Rattle.dictionary.specs.Views.{Dictionary, table_of, IsPivot}
 use Rattle.dictionary.proofs.PlaceLemmas.{place_at}

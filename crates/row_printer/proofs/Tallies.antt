@@ -1,15 +1,18 @@
 -- Rows that were counted, and more rows.
-use Rattle.std.proofs.Common.{◌≡◌, ℕ, ◌+◌, ◌%◌, ◌^◌, List, [], ◌++◌, length, sym, ap, ◌∙◌, length-append, arith}
+use Rattle.std.proofs.Common.{◌≡◌, ℕ, ◌+◌, ◌%◌, ◌^◌, List, [], ◌++◌, length, sym, ap, ◌∙◌, length-append, arith, ◌<◌}
 use Rattle.std.proofs.lemmas.List.Sums.{sum_by-append}
 use Rattle.poly_num.specs.Vectors.{Vector}
 use Rattle.row_printer.specs.declared.tally.Tally.{Tally}
 use Rattle.row_printer.specs.Rows.{counted, entries_size, sum_of_sizes, Counts}
 
 -- no rows
-pub counts_none : (a : Tally) → Counts a a []
-counts_none a = let few = a.few in let small = a.small in record { rows = omega (arith, few); sum = omega (arith, small) }
+pub counted_none : (rows : ℕ) → rows < 2 ^ 64 → rows ≡ counted rows 0
+counted_none rows few = omega (arith, few)
 
-counted_more : (rows m n : ℕ) → counted (counted rows m) n ≡ counted rows (m + n)
+pub counts_none : (a : Tally) → Counts a a []
+counts_none a = let small = a.small in record { rows = counted_none a.rows a.few; sum = omega (arith, small) }
+
+pub counted_more : (rows m n : ℕ) → counted (counted rows m) n ≡ counted rows (m + n)
 counted_more rows m n = omega arith
 
 summed_more : (sum m n : ℕ) → ((sum + m) % 2 ^ 64 + n) % 2 ^ 64 ≡ (sum + (m + n)) % 2 ^ 64

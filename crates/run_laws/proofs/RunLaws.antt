@@ -6,8 +6,6 @@ use Rattle.poly_model.specs.Extreme.{AreExtreme, IsExtreme}
 use Rattle.poly_model.specs.Systems.{cone_of}
 use Rattle.linear_laws.proofs.Members.{Contains-nil}
 use Rattle.search_laws.specs.Partitions.{Partition}
-use Rattle.search_laws.specs.Shares.{StandOnce}
-use Rattle.listing_laws.specs.Lists.{AreDistinctVectors}
 use Rattle.listing_laws.proofs.ListingLemmas.{are_extreme}
 use Rattle.work_core.specs.Searches.{Search, meaning_of}
 use Rattle.job_text.specs.declared.reply.Reply.{Reply}
@@ -49,15 +47,11 @@ module _ (options : Options) (s : Search) (replies : List Reply) where
       (events_keep_legal c payloads honest.0 h.in_range (is_course last old new texts g) h.legal honest.1)
 
 -- ---- rows that are the whole
-distinct : (ys : List Vector) → StandOnce ys → AreDistinctVectors ys
-distinct [] o = tt
-distinct (y ∷ ys) o = (o.0, distinct ys o.1)
-
 whole_is_extreme : (s : Search) (rows : List Vector) (keys : List (List ℕ)) → Partition (IsExtreme (cone_of s.polyhedron)) (meaning_of s).in_share rows keys → keys ≡ [] →
     AreExtreme (cone_of s.polyhedron) rows
 whole_is_extreme s rows keys p none =
     are_extreme (cone_of s.polyhedron) rows (record {
-      distinct = distinct rows p.rows_once;
+      distinct = p.rows_once;
       members = λ y. (
         p.rows_within y,
         λ x. elim (p.covers y x) [

@@ -2,10 +2,10 @@
 use Rattle.std.proofs.Common.{◌≡◌, ℕ, Result, Ok, Err, IsErrAnd, ap, sym, ◌∙◌}
 use Rattle.std.specs.Result.{IsErrOf, OnErr}
 use Rattle.std.proofs.lemmas.Result.{err_from_is_err_and}
+use Rattle.poly_io.specs.Causes.{RisesAt}
 use Rattle.job_ledger.specs.Stops.{IsCaused}
 use Rattle.job_ledger.specs.declared.stop.LedgerStop.{LedgerStop}
 use Rattle.job_ledger.specs.declared.stop.LedgerStop.TheVariants.{DiskFault as LedgerFault}
-use Rattle.run_ledger.specs.Stops.{RisesAt}
 
 pub one_error : {T E : Type 0} (a b : E) → ◌≡◌ {A = Result T E} (Err a) (Err b) → a ≡ b
 one_error a b e = cc

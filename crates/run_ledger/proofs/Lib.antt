@@ -3,3 +3,4 @@ pub mod RowsOwed
 pub mod RepliesInOrder
 pub mod LedgerReads
 pub mod RunListings
+pub mod EntryLines

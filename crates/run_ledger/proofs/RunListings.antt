@@ -11,8 +11,7 @@ use Rattle.poly_model.specs.ListingText.{head_text, vector_text, row_text, end_t
 use Rattle.poly_model.specs.Systems.{Polyhedron, cone_of}
 use Rattle.poly_io.specs.Written.{AppendsPart}
 use Rattle.poly_io.proofs.Parts.{part_after, part_before}
-use Rattle.row_printer.specs.declared.tally.Tally.{Tally}
-use Rattle.row_printer.specs.Rows.{HasWritten, counted}
+use Rattle.row_printer.specs.Rows.{counted}
 use Rattle.work_core.specs.Searches.{Search}
 use Rattle.job_text.specs.declared.reply.Reply.{Reply}
 use Rattle.run_state.specs.Runs.{recorded_rows}
@@ -71,20 +70,20 @@ module _ (s : Search) (replies : List Reply) (p : Polyhedron) (lines : List Vect
 
   -- ---- where it ends
   pub ends_whole : {E : Type 0} (old mid then new : Option (List ℕ)) (listed : Listed) → listed.lines ≡ length lines →
-      Appends old mid front → (before now : Tally) → before.rows ≡ 0 → now.rows ≡ listed.rows →
-      HasWritten p.kind mid then before now (recorded_rows replies) → Appends then new end_text →
+      listed.rows ≡ counted 0 (length (recorded_rows replies)) → Appends old mid front →
+      Appends mid then (flat_map (row_text p.kind) (recorded_rows replies)) → Appends then new end_text →
       WritesRun {E = E} s replies old new (Ok listed)
   unfolding is_listing
-  ends_whole old mid then new listed count head before now none all h a = record {
+  ends_whole old mid then new listed count rows head h a = record {
     whole = (
       whole_text,
       record {
         listing = is_listing;
-        rows = sym all ∙ h.counts.rows ∙ ap (λ n. counted n (length (recorded_rows replies))) none;
+        rows = rows;
         lines = count;
       },
       Appends-trans old mid new front (rows_text ++ end_text) head
-          (Appends-trans mid then new rows_text end_text h.bytes a),
+          (Appends-trans mid then new rows_text end_text h a),
     );
     part = tt;
   }

@@ -1,4 +1,3 @@
 pub mod Printing
 pub mod Progress
 pub mod Recorded
-pub mod Stops

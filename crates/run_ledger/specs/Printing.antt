@@ -9,11 +9,11 @@ use Rattle.poly_model.specs.Listing.{listing_text}
 use Rattle.poly_model.specs.ListingText.{row_text}
 use Rattle.poly_model.specs.Systems.{cone_of}
 use Rattle.poly_io.specs.Written.{AppendsPart}
-use Rattle.row_printer.specs.declared.shown.Shown.{Shown}
-use Rattle.row_printer.specs.Rows.{HasWritten, counted}
+use Rattle.row_printer.specs.Rows.{counted}
 use Rattle.work_core.specs.Searches.{Search}
 use Rattle.job_text.specs.declared.reply.Reply.{Reply}
 use Rattle.run_state.specs.Runs.{recorded_rows}
+use Rattle.run_ledger.specs.declared.printed.Printed.{Printed}
 
 -- the text lists the lines of the file, and then the recorded rows
 pub record IsRunListing (s : Search) (replies : List Reply) (text : List ℕ) : Type 0 where
@@ -34,7 +34,8 @@ pub record WritesRun {E : Type 0} (s : Search) (replies : List Reply) (old new :
   pub part : OnErr result ((text : List ℕ) × IsRunListing s replies text × AppendsPart old new text)
 
 -- rows were written and counted at Ok, and first bytes of them at Err
-pub record PrintsRows {E : Type 0} (rows : List Vector) (before : Shown) (old new : Option (List ℕ))
-    (result : Result Shown E) : Type 0 where
-  pub whole : IfOk result (λ s. HasWritten before.listing old new before.tally s.tally rows)
+pub record PrintsRows {E : Type 0} (rows : List Vector) (before : Printed) (old new : Option (List ℕ))
+    (result : Result Printed E) : Type 0 where
+  pub count : IfOk result (λ now. now.rows ≡ counted before.rows (length rows))
+  pub whole : IfOk result (λ now. Appends old new (flat_map (row_text before.listing) rows))
   pub part : OnErr result (AppendsPart old new (flat_map (row_text before.listing) rows))

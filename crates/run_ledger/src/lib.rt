@@ -2,6 +2,7 @@
 #![tactic(auto)]
 
 mod begin;
+mod printed;
 mod printing;
 mod progress;
 mod reopen;

@@ -1,5 +1,6 @@
 //! The recorded rows of a run, printed as a listing.
 ghost use Rattle.std.specs.Prelude.{◌≡◌, ◌<◌, ◌≤◌, ◌+◌, ◌^◌, List, ℕ, Some, length, slice_get, IfOk, IsErrOf};
+ghost use Rattle.poly_io.specs.Causes.{RisesAt};
 ghost use Rattle.disk_core.specs.Moments.{IsQuiet};
 ghost use Rattle.poly_model.specs.FreeColumns.{AreLines};
 ghost use Rattle.poly_model.specs.Limits.{most_columns};
@@ -13,9 +14,9 @@ ghost use Rattle.run_state.specs.Payloads.{IsLedgerText, SaysEnd};
 ghost use Rattle.run_state.specs.Runs.{recorded_rows};
 ghost use Rattle.run_ledger.specs.Printing.{PrintsRows, WritesRun};
 ghost use Rattle.run_ledger.specs.Recorded.{IsNoReplyAt, IsReplyAt};
-ghost use Rattle.run_ledger.specs.Stops.{RisesAt};
 
 use crate::PrintStop;
+use crate::printed::Printed;
 use crate::rows::print_rows;
 use disk_core::Disk;
 use job_ledger::{Ledger, LedgerStop};
@@ -23,7 +24,7 @@ use job_text::{PayloadStop, Reply, ReplyRows};
 use poly_io::{Bytes, Sink};
 use poly_model::{Listed, Poly, Vector};
 use poly_num::Num;
-use row_printer::{Listing, Shown};
+use row_printer::Listing;
 use run_state::read_next_payload;
 use std::alloc::{AllocError, Global};
 
@@ -102,18 +103,18 @@ fn rows_at<'a>(records: &Records, place: u64, payload: &'a [u8]) -> Result<Reply
 fn print_record<D: Disk, O: Sink>(
     records: &Records,
     i: u64,
-    shown: Shown,
+    printed: Printed,
     disk: &mut D,
     out: &mut O,
-) -> Result<Shown, PrintStop>
+) -> Result<Printed, PrintStop>
     requires at { i < length records.now.ledger.now.sizes }
     requires small { i + 1 < 2 ^ 64 }
     ensures quiet { IsQuiet D.seen D.images D.moment D.since disk.old disk.new }
     ensures rows { (payloads : List (List ℕ)) (r : TheReply)
         → IsLedgerAt records.now.ledger.now payloads (D.seen disk.old) (D.images disk.old)
         → IsReplyAt records.now.n payloads i r
-        → PrintsRows r.rows shown (O.written out.old) (O.written out.new) result }
-    ensures kind { IfOk result (λ s. s.listing ≡ shown.listing) }
+        → PrintsRows r.rows printed (O.written out.old) (O.written out.new) result }
+    ensures kind { IfOk result (λ s. s.listing ≡ printed.listing) }
     ensures bad { (place : ℕ) (payloads : List (List ℕ)) → IsErrOf result (PrintStop.BadLedger place)
         → IsLedgerAt records.now.ledger.now payloads (D.seen disk.old) (D.images disk.old)
         → (place ≡ i + 1) × ((r : TheReply) → IsReplyAt records.now.n payloads i r → ⊥) }
@@ -123,33 +124,33 @@ fn print_record<D: Disk, O: Sink>(
     let payload = read_payload(records.ledger, disk, i)?;
     let rows = rows_at(records, i + 1, payload.as_slice())?;
     let mut row = zeros(records.alloc, records.n)?;
-    Ok(print_rows(rows, &mut row, shown, out)?)
+    Ok(print_rows(rows, &mut row, printed, out)?)
 }
 
 // Prints the rows of all records behind the first.
 fn print_records<D: Disk, O: Sink>(
     records: &Records,
-    shown: Shown,
+    printed: Printed,
     disk: &mut D,
     out: &mut O,
-) -> Result<Shown, PrintStop>
+) -> Result<Printed, PrintStop>
     ensures quiet { IsQuiet D.seen D.images D.moment D.since disk.old disk.new }
     ensures rows { (s : Search) (replies : List TheReply) (payloads : List (List ℕ))
         → IsLedgerAt records.now.ledger.now payloads (D.seen disk.old) (D.images disk.old)
         → IsLedgerText s replies payloads → s.polyhedron.n ≡ records.now.n
-        → PrintsRows (recorded_rows replies) shown (O.written out.old) (O.written out.new) result }
-    ensures kind { IfOk result (λ s. s.listing ≡ shown.listing) }
+        → PrintsRows (recorded_rows replies) printed (O.written out.old) (O.written out.new) result }
+    ensures kind { IfOk result (λ s. s.listing ≡ printed.listing) }
     ensures bad { (place : ℕ) (payloads : List (List ℕ)) → IsErrOf result (PrintStop.BadLedger place)
         → IsLedgerAt records.now.ledger.now payloads (D.seen disk.old) (D.images disk.old)
         → IsNoReplyAt records.now.n payloads place }
     ensures disk_cause { RisesAt PrintStop.DiskFault (D.faults disk.old) (D.faults disk.new) result }
     ensures sink_cause { RisesAt PrintStop.WriteFault (O.faults out.old) (O.faults out.new) result }
 {
-    let mut shown = shown;
+    let mut printed = printed;
     for i in 1..records.ledger.count() {
-        shown = print_record(records, i, shown, disk, out)?;
+        printed = print_record(records, i, printed, disk, out)?;
     }
-    Ok(shown)
+    Ok(printed)
 }
 
 /// Prints a run as a listing: the lines, and the rows of each record behind the first, of which one payload is in
@@ -185,10 +186,15 @@ pub fn print_run<D: Disk, O: Sink>(
         n: run.poly.n(),
     };
     let listing = Listing::begin(out, run.poly.kind(), run.poly.n(), run.lines)?;
-    let Shown { listing, tally } = print_records(&records, Shown::none(listing), disk, out)?;
+    let Printed { listing, rows } = print_records(
+        &records,
+        Printed { listing, rows: 0 },
+        disk,
+        out,
+    )?;
     listing.finish(out)?;
     Ok(Listed {
-        rows: tally.rows,
+        rows,
         lines: run.lines.len() as u32,
     })
 }

@@ -1,5 +1,6 @@
 //! A run that is read again from its ledger.
 ghost use Rattle.std.specs.Prelude.{◌≡◌, ◌<◌, ◌≤◌, ◌+◌, ◌^◌, ◌∷◌, ◌++◌, [], List, ℕ, Some, length, slice_get, take, IfOk, OnOk, IsErrOf};
+ghost use Rattle.poly_io.specs.Causes.{RisesAt};
 ghost use Rattle.disk_core.specs.Contents.{Told};
 ghost use Rattle.disk_core.specs.Moments.{IsQuiet, LeavesOnly};
 ghost use Rattle.job_ledger.specs.Ledgers.{IsLedgerAt};
@@ -7,7 +8,6 @@ ghost use Rattle.job_ledger.specs.Records.{HasNoRun, IsBrokenAt, Records};
 ghost use Rattle.run_state.specs.Payloads.{IsBrokenPayload};
 ghost use Rattle.run_state.specs.Runs.{IsRunOf};
 ghost use Rattle.run_ledger.specs.Recorded.{IsBadLedger, IsPayloadAt, IsRunOfFirst};
-ghost use Rattle.run_ledger.specs.Stops.{RisesAt};
 
 use crate::ReopenStop;
 use disk_core::Disk;

@@ -1,30 +1,100 @@
 //! The rows of a reply, printed.
-ghost use Rattle.std.specs.Prelude.{◌≡◌, length, IfOk};
+ghost use Rattle.std.specs.Prelude.{◌≡◌, IfOk, IsTrue, length};
+ghost use Rattle.std.specs.List.{AllByRecursion};
+ghost use Rattle.poly_num.specs.Numbers.{IsNum};
+ghost use Rattle.poly_num.specs.Vectors.{Vector};
+ghost use Rattle.poly_model.specs.ListingText.{entries_text, row_text, vector_text};
 ghost use Rattle.poly_io.specs.Causes.{HasCause};
+ghost use Rattle.poly_io.specs.Written.{Prints};
+ghost use Rattle.plain_text.specs.Cuts.{GoesOnWith};
 ghost use Rattle.job_text.specs.RowTexts.{AreWide};
+ghost use Rattle.row_printer.specs.Rows.{counted};
 ghost use Rattle.run_ledger.specs.Printing.{PrintsRows};
 
-use job_text::ReplyRows;
+use crate::printed::Printed;
+use job_text::{ReplyRows, read_entries};
+use plain_text::{is_text, next_word};
 use poly_io::{Sink, WriteFault};
+use poly_model::Kind;
 use poly_num::Num;
-use row_printer::Shown;
+use row_printer::Listing;
 
-/// Prints the rows of a reply that are left to read, and counts them. Each is read into `row`.
+// Whether the line of a row has its entries as they stand in this text: in the listing for a V file each, in that for an H
+// file one whose first entry is 0 or 1.
+fn is_line(kind: Kind, entries: &[u8]) -> bool
+    ensures { IsTrue result → (v : Vector) → AllByRecursion IsNum v → entries.now ≡ entries_text v
+        → row_text kind v ≡ vector_text v }
+{
+    match kind {
+        Kind::V => true,
+        Kind::H => match next_word(entries) {
+            Some((first, _)) => is_text(first, b"0") || is_text(first, b"1"),
+            None => false,
+        },
+    }
+}
+
+// Writes the row whose entries this text is; `row` is room for it.
+fn write_row<O: Sink>(
+    text: &[u8],
+    row: &mut [Num],
+    listing: Listing,
+    out: &mut O,
+) -> Result<Listing, WriteFault>
+    requires { GoesOnWith 32 text.now }
+    ensures prints { (v : Vector) → length v ≡ length row.old → AllByRecursion IsNum v → text.now ≡ entries_text v
+        → Prints O.Sink out.old out.new result (row_text listing v) }
+    ensures size { length row.new ≡ length row.old }
+    ensures kind { IfOk result (λ l. l ≡ listing) }
+    ensures cause { HasCause (O.faults out.old) (O.faults out.new) result }
+{
+    if is_line(listing.kind(), text) {
+        listing.entries(out, text)
+    } else {
+        read_entries(row, text);
+        listing.row(out, row)
+    }
+}
+
+// The same, and counts it.
+fn print_row<O: Sink>(
+    text: &[u8],
+    row: &mut [Num],
+    printed: Printed,
+    out: &mut O,
+) -> Result<Printed, WriteFault>
+    requires { GoesOnWith 32 text.now }
+    ensures prints { (v : Vector) → length v ≡ length row.old → AllByRecursion IsNum v → text.now ≡ entries_text v
+        → Prints O.Sink out.old out.new result (row_text printed.listing v) }
+    ensures size { length row.new ≡ length row.old }
+    ensures kind { IfOk result (λ s. s.listing ≡ printed.listing) }
+    ensures count { IfOk result (λ s. s.rows ≡ counted printed.rows 1) }
+    ensures cause { HasCause (O.faults out.old) (O.faults out.new) result }
+{
+    let Printed { listing, rows } = printed;
+    let listing = write_row(text, row, listing, out)?;
+    Ok(Printed {
+        listing,
+        rows: rows.saturating_add(1),
+    })
+}
+
+/// Prints the rows of a reply that are left to read, and counts them; `row` is room for one.
 pub(crate) fn print_rows<O: Sink>(
     rows: ReplyRows,
     row: &mut [Num],
-    shown: Shown,
+    printed: Printed,
     out: &mut O,
-) -> Result<Shown, WriteFault>
+) -> Result<Printed, WriteFault>
     requires { AreWide (length row.old) rows }
-    ensures rows { PrintsRows rows.entry shown (O.written out.old) (O.written out.new) result }
-    ensures kind { IfOk result (λ s. s.listing ≡ shown.listing) }
+    ensures rows { PrintsRows rows.entry printed (O.written out.old) (O.written out.new) result }
+    ensures kind { IfOk result (λ s. s.listing ≡ printed.listing) }
     ensures cause { HasCause (O.faults out.old) (O.faults out.new) result }
 {
     let mut rows = rows;
-    let mut shown = shown;
-    'rows: while rows.next(row) {
-        shown = shown.row(out, row)?;
+    let mut printed = printed;
+    'rows: while let Some(text) = rows.next_text() {
+        printed = print_row(text, row, printed, out)?;
     }
-    Ok(shown)
+    Ok(printed)
 }

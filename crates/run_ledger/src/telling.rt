@@ -2,12 +2,12 @@
 ghost use Rattle.std.specs.Prelude.{◌≡◌, ◌≤◌, ◌^◌, ℕ, Some, IfOk, OnErr, IsErrOf};
 ghost use Rattle.std.specs.Io.KnownBytes.{Appends};
 ghost use Rattle.poly_io.specs.Written.{AppendsPart, Prints};
+ghost use Rattle.poly_io.specs.Causes.{RisesAt};
 ghost use Rattle.disk_core.specs.Contents.{Told};
 ghost use Rattle.disk_core.specs.Moments.{LeavesOnly};
 ghost use Rattle.job_ledger.specs.Records.{HasNoRun};
 ghost use Rattle.run_ledger.specs.Progress.{IsProgressOf, number_line, progress_text};
 ghost use Rattle.run_ledger.specs.Recorded.{IsBadLedger};
-ghost use Rattle.run_ledger.specs.Stops.{RisesAt};
 ghost use Rattle.run_ledger.specs.declared.progress.Progress.{Progress as Numbers};
 
 use crate::progress::Progress;

@@ -18,7 +18,7 @@ const FIRST: &str =
 
 const SPLIT: &str = "reply 0\nrow 1 0 0\njob 1 1\njob 1 2\nend 1 2 1\n";
 
-const ROWS: &str = "reply 1 2\nrow 0 1 0\nrow 0 0 1\nend 2 0 3\n";
+const ROWS: &str = "reply 1 2\nrow 0 1 0\nrow 2 0 1\nend 2 0 3\n";
 
 const CUT: &str = "reply 1 1\nrow 0 1 0\nmemory\n";
 
@@ -55,7 +55,7 @@ const CASES: [Case; 6] = [
         told: Ok(3),
         told_text: "done 2\nwaiting 1\nrows 3\n",
         printed: Ok(Listed { rows: 3, lines: 1 }),
-        printed_text: "V-representation\nlinearity 1 1\nbegin\n***** 3 rational\n 0 1 0\n 1 0 0\n 0 1 0\n 0 0 1\nend\n",
+        printed_text: "V-representation\nlinearity 1 1\nbegin\n***** 3 rational\n 0 1 0\n 1 0 0\n 0 1 0\n 1 0 1/2\nend\n",
     },
     Case {
         name: "a reply that ends in memory",

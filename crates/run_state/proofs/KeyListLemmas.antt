@@ -8,8 +8,8 @@ use Rattle.std.proofs.lemmas.Map.Views.{Contains-from_any, list_any-from_Contain
 use Rattle.std.proofs.lemmas.List.{append-nil}
 use Rattle.std.proofs.lemmas.List.Elements.{Contains-append_left, Contains-append_right, Contains-append_cases, Contains-push, Contains-push_cases}
 use Rattle.std.proofs.lemmas.List.Folds.{list_any-append}
+use Rattle.linear_laws.specs.Distinct.{AreDistinct}
 use Rattle.linear_laws.proofs.Members.{Contains-nil, Contains-first, Contains-later, Contains-cons_cases}
-use Rattle.search_laws.specs.Shares.{StandOnce}
 use Rattle.run_state.specs.KeyLists.{is_same_key, holds, without_key, are_new, IsFirstClash}
 
 -- ---- equal keys
@@ -62,7 +62,7 @@ without_keeps key (y ∷ ys) x c n = elim (cases_Bool (is_same_key key y)) [
       (λ (d : Contains ys x). Contains-later x y (without_key key ys) (without_keeps key ys x d n)) (Contains-cons_cases x y ys c))
 ]
 
-pub once-without : (key : List ℕ) (keys : List (List ℕ)) → StandOnce keys → StandOnce (without_key key keys)
+pub once-without : (key : List ℕ) (keys : List (List ℕ)) → AreDistinct keys → AreDistinct (without_key key keys)
 once-without key [] o = tt
 once-without key (y ∷ ys) o = elim (cases_Bool (is_same_key key y)) [
   | inl e ↦ rw e (once-without key ys o.1)
@@ -85,13 +85,13 @@ new_are_unknown known (x ∷ ks) e k c d =
     (λ (b : Contains ks k). new_are_unknown (known ++ x ∷ []) ks p.1 k b (Contains-append_left known (x ∷ []) k d))
     (Contains-cons_cases k x ks c)
 
-pub new_stand_once : (known ks : List (List ℕ)) → are_new known ks ≡ true → StandOnce ks
+pub new_stand_once : (known ks : List (List ℕ)) → are_new known ks ≡ true → AreDistinct ks
 new_stand_once known [] e = tt
 new_stand_once known (k ∷ ks) e =
     let p = and_parts (not (holds known k)) (are_new (known ++ k ∷ []) ks) e in
     (λ c. new_are_unknown (known ++ k ∷ []) ks p.1 k c (Contains-push known k), new_stand_once (known ++ k ∷ []) ks p.1)
 
-pub are_new_from : (known ks : List (List ℕ)) → StandOnce ks → ((k : List ℕ) → Contains ks k → Contains known k → ⊥) → are_new known ks ≡ true
+pub are_new_from : (known ks : List (List ℕ)) → AreDistinct ks → ((k : List ℕ) → Contains ks k → Contains known k → ⊥) → are_new known ks ≡ true
 are_new_from known [] o n = refl
 are_new_from known (x ∷ ks) o n =
     rw (holds_not known x (n x (Contains-first x ks)))
@@ -111,7 +111,7 @@ new-push known (x ∷ ks) k a h = elim (cases_Bool (holds known x)) [
 pub holds-append : (known ks : List (List ℕ)) (k : List ℕ) → holds (known ++ ks) k ≡ (holds known k || holds ks k)
 holds-append known ks k = list_any-append (is_same_key k) known ks
 
-once-split : (before behind : List (List ℕ)) (k : List ℕ) → StandOnce (before ++ k ∷ behind) → Contains before k → ⊥
+once-split : (before behind : List (List ℕ)) (k : List ℕ) → AreDistinct (before ++ k ∷ behind) → Contains before k → ⊥
 once-split [] behind k o c = Contains-nil k c
 once-split (x ∷ before) behind k o c = ⊎_elim
     (λ (e : x ≡ k). o.0 (Contains-append_right before (k ∷ behind) x (subst (λ (z : List ℕ). Contains (k ∷ behind) z) (sym e) (Contains-first k behind))))
@@ -120,7 +120,7 @@ once-split (x ∷ before) behind k o c = ⊎_elim
 -- where there is a first clash, not all are new
 pub clash_not_new : (known keys : List (List ℕ)) (k : List ℕ) → IsFirstClash known keys k → are_new known keys ≡ true → ⊥
 clash_not_new known keys k c n =
-    let once : StandOnce (c.before ++ k ∷ c.behind) = subst (λ (l : List (List ℕ)). StandOnce l) c.split (new_stand_once known keys n) in
+    let once : AreDistinct (c.before ++ k ∷ c.behind) = subst (λ (l : List (List ℕ)). AreDistinct l) c.split (new_stand_once known keys n) in
     let there : Contains keys k = subst (λ (l : List (List ℕ)). Contains l k) (sym c.split) (Contains-append_right c.before (k ∷ c.behind) k (Contains-first k c.behind)) in
     ⊎_elim (new_are_unknown known keys n k there) (once-split c.before c.behind k once)
     (Contains-append_cases known c.before k (held (known ++ c.before) k c.clashes))

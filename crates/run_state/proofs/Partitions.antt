@@ -3,11 +3,12 @@ use Rattle.std.proofs.Common.{◌≡◌, ◌≢◌, ◌⊎◌, inl, inr, ⊎_eli
 use Rattle.std.specs.List.{Contains}
 use Rattle.std.proofs.lemmas.List.{append-nil}
 use Rattle.std.proofs.lemmas.List.Elements.{Contains-append_left, Contains-append_right, Contains-append_cases}
+use Rattle.linear_laws.specs.Distinct.{AreDistinct}
 use Rattle.linear_laws.proofs.Members.{Contains-nil, Contains-first, Contains-cons_cases}
 use Rattle.poly_num.specs.Vectors.{Vector}
+use Rattle.linear_laws.proofs.Distinct.{distinct_append}
 use Rattle.search_laws.specs.Partitions.{Partition}
-use Rattle.search_laws.specs.Shares.{StandOnce}
-use Rattle.search_laws.proofs.OnceLists.{one_key_or_not, once-append}
+use Rattle.search_laws.proofs.OnceLists.{one_key_or_not}
 use Rattle.job_text.specs.declared.reply.Reply.{Reply}
 use Rattle.work_core.specs.Searches.{Search, meaning_of}
 use Rattle.run_state.specs.KeyLists.{KnownKeys, without_key}
@@ -37,8 +38,8 @@ module _ (s : Search) (whole : Vector → Type 0) (rows : List Vector) (keys : K
   given_key : (k : List ℕ) → Contains r.keys k → Contains (keys_after keys r).waiting k
   given_key k c = Contains-append_right (without_key r.key keys.waiting) r.keys k c
 
-  once : StandOnce (keys_after keys r).waiting
-  once = once-append (without_key r.key keys.waiting) r.keys (once-without r.key keys.waiting p.keys_once) l.parts.keys_once
+  once : AreDistinct (keys_after keys r).waiting
+  once = distinct_append (without_key r.key keys.waiting) r.keys (once-without r.key keys.waiting p.keys_once) l.parts.keys_once
       (λ k a b. new_are_unknown (keys.waiting ++ keys.done) r.keys n.new_keys k b
       (Contains-append_left keys.waiting keys.done k (in_without r.key keys.waiting k a).0))
 
@@ -93,7 +94,7 @@ module _ (s : Search) (whole : Vector → Type 0) (rows : List Vector) (keys : K
 
   pub partition-next : Partition whole (meaning_of s).in_share (rows ++ r.rows) (keys_after keys r).waiting
   partition-next = record {
-    rows_once = once-append rows r.rows p.rows_once l.parts.rows_once (λ y a b. p.apart r.key y n.waits (l.parts.rows_within y b) a);
+    rows_once = distinct_append rows r.rows p.rows_once l.parts.rows_once (λ y a b. p.apart r.key y n.waits (l.parts.rows_within y b) a);
     keys_once = once;
     covers = covered;
     rows_within = within;

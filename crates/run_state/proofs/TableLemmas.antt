@@ -6,10 +6,10 @@ use Rattle.std.proofs.lemmas.List.{map-append, length-append, length-replicate}
 use Rattle.std.proofs.lemmas.List.Elements.{Contains-append_left, Contains-append_right, Contains-append_cases, Contains-push, Contains-push_cases, filter-append}
 use Rattle.std.proofs.lemmas.Option.{slice_get_within, slice_get-get_or, get_or_from_slice_get}
 use Rattle.std.proofs.Math.ListN.{length-set}
+use Rattle.linear_laws.specs.Distinct.{AreDistinct}
 use Rattle.linear_laws.proofs.Members.{Contains-nil, Contains-first, Contains-later, Contains-cons_cases}
 use Rattle.poly_model.specs.Keys.{IsKey}
-use Rattle.search_laws.specs.Shares.{StandOnce}
-use Rattle.search_laws.proofs.OnceLists.{once-append}
+use Rattle.linear_laws.proofs.Distinct.{distinct_append}
 use Rattle.run_state.specs.declared.stops.AcceptStop.{AcceptStop}
 use Rattle.run_state.specs.declared.stops.AcceptStop.TheVariants.{Clash, Done, Memory, Stranger}
 use Rattle.run_state.specs.KeyLists.{IsFirstClash, KnownKeys, are_new, is_same_key, key_at, keys_with, without_key}
@@ -56,7 +56,7 @@ unmarked-has (x ∷ keys) (b ∷ marks) (suc i) k e m = elim (cases_Bool b) [
   | inr n ↦ rw n (Contains-later k x (unmarked keys marks) (unmarked-has keys marks i k e m))
 ]
 
-unmarked-not : (keys : List (List ℕ)) (marks : List Bool) (i : ℕ) (k : List ℕ) → StandOnce keys → slice_get keys i ≡ Some k → slice_get marks i ≡ Some true →
+unmarked-not : (keys : List (List ℕ)) (marks : List Bool) (i : ℕ) (k : List ℕ) → AreDistinct keys → slice_get keys i ≡ Some k → slice_get marks i ≡ Some true →
     Contains (unmarked keys marks) k → ⊥
 unmarked-not [] marks i k o e m c = absurd (cc)
 unmarked-not (x ∷ keys) [] i k o e m c = absurd (cc)
@@ -73,7 +73,7 @@ unmarked-not (x ∷ keys) (b ∷ marks) (suc i) k o e m c = elim (cases_Bool b) 
       (λ (f : Contains (unmarked keys marks) k). unmarked-not keys marks i k o.1 e m f) (Contains-cons_cases k x (unmarked keys marks) d)
 ]
 
-unmarked-set : (keys : List (List ℕ)) (marks : List Bool) (i : ℕ) (k : List ℕ) → StandOnce keys → slice_get keys i ≡ Some k →
+unmarked-set : (keys : List (List ℕ)) (marks : List Bool) (i : ℕ) (k : List ℕ) → AreDistinct keys → slice_get keys i ≡ Some k →
     length marks ≡ length keys → unmarked keys (slice_set marks i true) ≡ without_key k (unmarked keys marks)
 unmarked-set [] marks i k o e h = refl
 unmarked-set (x ∷ keys) [] i k o e h = absurd (omega (arith, h))
@@ -210,8 +210,8 @@ module _ (keys : List (List ℕ)) (marks : List Bool) (places : List ℕ) (t : I
     abbrev places' : List ℕ
     places' = places ++ m.place ∷ []
 
-    once' : StandOnce keys'
-    once' = once-append keys more t.once (new_stand_once keys more n) (λ k a b. new_are_unknown keys more n k b a)
+    once' : AreDistinct keys'
+    once' = distinct_append keys more t.once (new_stand_once keys more n) (λ k a b. new_are_unknown keys more n k b a)
 
     long : length (marks ++ replicate (length more) false) ≡ length keys'
     long = omega (arith, length-append marks (replicate (length more) false), length-append keys more, length-replicate (length more) false, t.size)

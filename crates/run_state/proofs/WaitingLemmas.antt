@@ -2,12 +2,12 @@
 use Rattle.std.proofs.Common.{ℕ, List, ◌≡◌, ◌∙◌, inl, inr, Bool, [], ◌∷◌, ap, Some, slice_get}
 use Rattle.std.proofs.lemmas.Bool.{cases_Bool}
 use Rattle.std.proofs.lemmas.Option.{slice_get-get_or}
-use Rattle.search_laws.specs.Shares.{StandOnce}
+use Rattle.linear_laws.specs.Distinct.{AreDistinct}
 use Rattle.run_state.specs.KeyLists.{StandApart}
 use Rattle.run_state.specs.Known.{IsKeyTable, keys_in, unmarked}
 use Rattle.run_state.proofs.TableLemmas.{done_only, keys_at-in, place_within, unmarked-in}
 
-unmarked-once : (keys : List (List ℕ)) (marks : List Bool) → StandOnce keys → StandOnce (unmarked keys marks)
+unmarked-once : (keys : List (List ℕ)) (marks : List Bool) → AreDistinct keys → AreDistinct (unmarked keys marks)
 unmarked-once [] marks h = tt
 unmarked-once (k ∷ keys) [] h = tt
 unmarked-once (k ∷ keys) (m ∷ marks) h = elim (cases_Bool m) [

@@ -2,7 +2,7 @@
 use Rattle.std.specs.Prelude.{◌≡◌, ℕ, Bool, true, not, nat_eq, ◌&&◌, List, [], ◌∷◌, ◌++◌}
 use Rattle.std.specs.List.{Contains, list_any, filter, slice_index_or}
 use Rattle.std.specs.Cmp.Lexicographic.{pointwise}
-use Rattle.search_laws.specs.Shares.{StandOnce}
+use Rattle.linear_laws.specs.Distinct.{AreDistinct}
 
 -- the same labels
 abbrev pub is_same_key : List ℕ → List ℕ → Bool
@@ -40,7 +40,7 @@ pub record KnownKeys : Type 0 where
 
 -- no key waits twice, and none that waits is done
 pub record StandApart (keys : KnownKeys) : Type 0 where
-  pub once : StandOnce keys.waiting
+  pub once : AreDistinct keys.waiting
   pub not_done : (key : List ℕ) → Contains keys.waiting key → Contains keys.done key → ⊥
 
 -- this key is done, and more keys wait behind the others

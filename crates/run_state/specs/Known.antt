@@ -3,7 +3,7 @@
 use Rattle.std.specs.Prelude.{◌≡◌, ℕ, ◌+◌, Bool, true, false, if◌then◌else◌, List, [], ◌∷◌, ◌++◌, length, map, Some, slice_get, vec_items, replicate, slice_set, Vec}
 use Rattle.std.specs.List.{Contains}
 use Rattle.poly_model.specs.Keys.{IsKey}
-use Rattle.search_laws.specs.Shares.{StandOnce}
+use Rattle.linear_laws.specs.Distinct.{AreDistinct}
 use Rattle.run_state.specs.declared.stops.AcceptStop.{AcceptStop}
 use Rattle.run_state.specs.declared.stops.AcceptStop.TheVariants.{Done, Stranger, Clash, Memory}
 use Rattle.run_state.specs.KeyLists.{IsFirstClash, KnownKeys, are_new, key_at}
@@ -33,7 +33,7 @@ key_table keys marks places = record { came = keys; keys = keys_in keys marks pl
 -- each key stands once and has a mark, and the marked places are those of the keys that are done, of which there are as
 -- many as keys with a mark
 pub record IsKeyTable (keys : List (List ℕ)) (marks : List Bool) (places : List ℕ) : Type 0 where
-  pub once : StandOnce keys
+  pub once : AreDistinct keys
   pub size : length marks ≡ length keys
   pub marked : (i : ℕ) → Contains places i → slice_get marks i ≡ Some true
   pub listed : (i : ℕ) → slice_get marks i ≡ Some true → Contains places i

@@ -8,8 +8,9 @@ use Rattle.poly_model.specs.Spaces.{Space}
 use Rattle.poly_model.specs.Dictionaries.{Table}
 use Rattle.poly_model.specs.LexOrder.{rows_in, IsEarlier}
 use Rattle.poly_model.specs.Tree.{IsRowDictionary, IsLexFeasible, Leaves, MayEnter, IsNeighbour, IsParent, exchanged_key}
+use Rattle.linear_laws.specs.Distinct.{AreDistinct}
 use Rattle.linear_laws.proofs.Signs.{minus_positive}
-use Rattle.dictionary_laws.specs.Keys.{AreDistinct, Exchanges}
+use Rattle.dictionary_laws.specs.Keys.{Exchanges}
 use Rattle.search_laws.specs.Shares.{IsChild}
 use Rattle.search_laws.specs.ChildTest.{neighbour_entry, downward, LeadsUp, WouldEnter, IsDown}
 use Rattle.tree_laws.proofs.Numbers.{key_row}

@@ -7,10 +7,10 @@ use Rattle.poly_model.specs.Spaces.{Space}
 use Rattle.poly_model.specs.Dictionaries.{Table}
 use Rattle.poly_model.specs.LexOrder.{rows_in}
 use Rattle.poly_model.specs.Tree.{IsRowDictionary, IsRowOutside, IsFeasibleRoot, IsLexFeasible, Leaves, IsNeighbour, IsParent, exchanged_key}
+use Rattle.linear_laws.specs.Distinct.{AreDistinct}
 use Rattle.linear_laws.proofs.Members.{Contains-nil, Contains-first, Contains-later}
-use Rattle.dictionary_laws.specs.Keys.{AreDistinct}
 use Rattle.tree_laws.specs.Parents.{IsRootOrChild}
-use Rattle.search_laws.specs.Shares.{StandOnce, ListsAll, IsChild, HasChildren}
+use Rattle.search_laws.specs.Shares.{ListsAll, IsChild, HasChildren}
 use Rattle.tree_laws.proofs.Least.{none_or_leaves}
 use Rattle.tree_laws.proofs.Neighbours.{neighbour_dictionary, neighbour_feasible, one_neighbour}
 use Rattle.tree_laws.proofs.Back.{child_is_neighbour}
@@ -88,7 +88,7 @@ module _ (space : Space) (root : List ℕ) (home : Table) (h : IsFeasibleRoot sp
     -- the children in these columns
     record Found (columns : List ℕ) : Type 0 where
       children : List (List ℕ)
-      once : StandOnce children
+      once : AreDistinct children
       only : (child : List ℕ) → Contains children child → IsChild space root key child
       each : (child : List ℕ) (s : ℕ) → Contains columns s → IsChild space root key child →
           IsNeighbour space.labels root key t s child → Contains children child

@@ -4,7 +4,7 @@ use Rattle.poly_model.specs.Spaces.{Space}
 use Rattle.poly_model.specs.Dictionaries.{Table, IsDictionary}
 use Rattle.poly_model.specs.LexOrder.{rows_in}
 use Rattle.poly_model.specs.Tree.{IsFeasibleRoot, IsParent, IsAbove, IsUnder}
-use Rattle.dictionary_laws.specs.Keys.{AreDistinct}
+use Rattle.linear_laws.specs.Distinct.{AreDistinct}
 use Rattle.search_laws.specs.Shares.{IsFeasibleKey, IsChild}
 use Rattle.tree_laws.proofs.AnyTable.{parent_too}
 use Rattle.tree_laws.proofs.Parents.{one_parent}

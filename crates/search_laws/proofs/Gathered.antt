@@ -6,12 +6,12 @@ use Rattle.poly_model.specs.Spaces.{Space}
 use Rattle.poly_model.specs.Dictionaries.{Table}
 use Rattle.poly_model.specs.LexOrder.{rows_in}
 use Rattle.poly_model.specs.Tree.{IsFeasibleRoot, IsUnder}
+use Rattle.linear_laws.specs.Distinct.{AreDistinct}
 use Rattle.linear_laws.proofs.Members.{Contains-nil, Contains-first, Contains-later, Contains-cons_cases}
-use Rattle.dictionary_laws.specs.Keys.{AreDistinct}
-use Rattle.search_laws.specs.Shares.{StandOnce, ListsAll, IsFeasibleKey, IsChild, IsFeasibleUnder, IsTree}
+use Rattle.linear_laws.proofs.Distinct.{distinct_append}
+use Rattle.search_laws.specs.Shares.{ListsAll, IsFeasibleKey, IsChild, IsFeasibleUnder, IsTree}
 use Rattle.search_laws.specs.Weights.{IsTotal, IsUnderSome, AreIncomparable, IsAntichain}
 use Rattle.search_laws.proofs.Depths.{above_twice, child_above, one_length}
-use Rattle.search_laws.proofs.OnceLists.{once-append}
 use Rattle.search_laws.proofs.ShareParts.{is_tree}
 
 module _ (space : Space) (root : List ℕ) where
@@ -72,7 +72,7 @@ module _ (space : Space) (root : List ℕ) (home : Table) (h : IsFeasibleRoot sp
       by g = record {
         ones = ks ++ g.ones;
         lists = record {
-          once = once-append ks g.ones l.once g.lists.once
+          once = distinct_append ks g.ones l.once g.lists.once
               (λ one c d. let p = l.only one c in let q = g.lists.only one d in
               not_under_both one key q.key p.0 (a.0 q.key q.member) p.1 q.under);
           only = λ one c. ⊎_elim (λ d. under_some_first space root key keys one (l.only one d))
@@ -96,7 +96,7 @@ module _ (space : Space) (root : List ℕ) (home : Table) (h : IsFeasibleRoot sp
       (child_above space root key b p) in
       absurd (omega (arith, e))
 
-  pub children_apart : (key : List ℕ) (cs : List (List ℕ)) → StandOnce cs →
+  pub children_apart : (key : List ℕ) (cs : List (List ℕ)) → AreDistinct cs →
       ((c : List ℕ) → Contains cs c → IsChild space root key c) → IsAntichain space root cs
   children_apart key [] n a = tt
   children_apart key (c ∷ cs) n a = (

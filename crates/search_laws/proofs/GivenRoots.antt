@@ -9,8 +9,8 @@ use Rattle.poly_model.specs.LexOrder.{rows_in, IsEarlier}
 use Rattle.poly_model.specs.Tree.{IsRowDictionary, IsFeasibleRoot, IsLexFeasible, exchanged_key}
 use Rattle.poly_model.specs.Lowering.{IsDescent}
 use Rattle.poly_model.specs.PhaseOne.{IsWorst, IsFirstWorst, lowering_root, IsLastColumn, IsLastExchange, IsLowered, GivesByPhaseOne}
+use Rattle.linear_laws.specs.Distinct.{AreDistinct}
 use Rattle.linear_laws.proofs.Members.{Contains-first}
-use Rattle.dictionary_laws.specs.Keys.{AreDistinct}
 use Rattle.dictionary_laws.specs.Numbers.{Agree}
 use Rattle.search_laws.specs.PhaseOne.{HasNoRowZero}
 use Rattle.search_laws.specs.PhaseEnds.{IsWithT}

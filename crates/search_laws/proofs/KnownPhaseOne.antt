@@ -11,9 +11,9 @@ use Rattle.poly_model.specs.LexOrder.{rows_in, IsEarlier}
 use Rattle.poly_model.specs.Tree.{IsRowOutside, Leaves, exchanged_key}
 use Rattle.poly_model.specs.PhaseOne.{lowering_root, IsFirstWorst}
 use Rattle.poly_model.specs.Lowering.{IsLoweringStep}
+use Rattle.linear_laws.specs.Distinct.{AreDistinct}
 use Rattle.linear_laws.proofs.Members.{Contains-first, Contains-later, all_at}
 use Rattle.linear_laws.proofs.Signs.{not_both}
-use Rattle.dictionary_laws.specs.Keys.{AreDistinct}
 use Rattle.dictionary_laws.proofs.KeyExchange.{ascending_distinct}
 use Rattle.dictionary_laws.proofs.PhasePoints.{point_of_lifted}
 use Rattle.tree_laws.proofs.OrderLemmas.{row_outside}

@@ -12,6 +12,7 @@ pub mod Decided
 pub mod FeasibleFiles
 pub mod Depths
 pub mod OnceLists
+pub mod LineCounts
 pub mod Children
 pub mod ShareParts
 pub mod Gathered

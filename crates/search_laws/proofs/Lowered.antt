@@ -9,9 +9,9 @@ use Rattle.poly_model.specs.Spaces.{Space}
 use Rattle.poly_model.specs.Dictionaries.{Table}
 use Rattle.poly_model.specs.LexOrder.{IsPositive, gaps, rows_in, order, IsEarlier, list_of}
 use Rattle.poly_model.specs.Tree.{IsRowDictionary, IsLexFeasible, IsNeighbour, exchanged_key}
+use Rattle.linear_laws.specs.Distinct.{AreDistinct}
 use Rattle.linear_laws.proofs.Members.{Contains-nil}
 use Rattle.linear_laws.proofs.Signs.{not_both, minus_positive}
-use Rattle.dictionary_laws.specs.Keys.{AreDistinct}
 use Rattle.dictionary_laws.proofs.Members.{contains_or, contains_cases}
 use Rattle.poly_model.specs.Lowering.{IsLoweringStep, IsLowest}
 use Rattle.search_laws.specs.Lowering.{LowersRow}

@@ -5,8 +5,8 @@ use Rattle.poly_model.specs.Spaces.{Space}
 use Rattle.poly_model.specs.Dictionaries.{Table, IsDictionary}
 use Rattle.poly_model.specs.LexOrder.{rows_in}
 use Rattle.poly_model.specs.Tree.{IsRowDictionary, IsLexFeasible}
-use Rattle.dictionary_laws.specs.Keys.{AreDistinct}
 use Rattle.poly_model.specs.Lowering.{IsLoweringStep, IsLowest, IsDescent}
+use Rattle.linear_laws.specs.Distinct.{AreDistinct}
 use Rattle.search_laws.specs.Lowering.{EndsWithin, HasEnd}
 use Rattle.tree_laws.proofs.Neighbours.{neighbour_dictionary, neighbour_feasible}
 use Rattle.tree_laws.proofs.Chains.{State, by_falls_within, other_table}

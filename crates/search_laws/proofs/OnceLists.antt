@@ -4,8 +4,9 @@ use Rattle.std.proofs.Common.{◌≡◌, ◌≢◌, ◌⊎◌, inl, inr, ⊎_eli
 use Rattle.std.specs.List.{Contains}
 use Rattle.std.proofs.lemmas.Bool.{cases_eq}
 use Rattle.std.proofs.lemmas.List.Elements.{Contains-append_cases}
+use Rattle.linear_laws.specs.Distinct.{AreDistinct}
 use Rattle.linear_laws.proofs.Members.{same_first, same_others, Contains-nil, Contains-first, Contains-later, Contains-cons_cases}
-use Rattle.search_laws.specs.Shares.{StandOnce, ListsAll}
+use Rattle.search_laws.specs.Shares.{ListsAll}
 use Rattle.tree_laws.proofs.Descents.{take_out}
 
 -- ---- keys are equal or not
@@ -40,16 +41,8 @@ module _ {X : Type 0} where
       ((y : X) → Contains ys y → P y) → (y : X) → Contains (xs ++ ys) y → P y
   at_either P xs ys h k y c = ⊎_elim (h y) (k y) (Contains-append_cases xs ys y c)
 
-  pub once-append : (xs ys : List X) → StandOnce xs → StandOnce ys →
-      ((x : X) → Contains xs x → Contains ys x → ⊥) → StandOnce (xs ++ ys)
-  once-append [] ys a b n = b
-  once-append (x ∷ xs) ys a b n = (
-    λ c. ⊎_elim a.0 (n x (Contains-first x xs)) (Contains-append_cases xs ys x c),
-    once-append xs ys a.1 b (λ y c d. n y (Contains-later y x xs c) d),
-  )
-
   -- a list whose members stand once and in another is not longer
-  pub no_longer : (xs ys : List X) → StandOnce xs → ((x : X) → Contains xs x → Contains ys x) → length xs ≤ length ys
+  pub no_longer : (xs ys : List X) → AreDistinct xs → ((x : X) → Contains xs x → Contains ys x) → length xs ≤ length ys
   no_longer [] ys a h = omega arith
   no_longer (x ∷ xs) ys a h =
       let t = take_out ys x (h x (Contains-first x xs)) in
@@ -57,7 +50,7 @@ module _ {X : Type 0} where
       (λ y c. t.others y (h y (Contains-later y x xs c)) (λ e. a.0 (subst (λ z. Contains xs z) e c))) in
       omega (arith, l, t.shorter)
 
-  pub one_count : (xs ys : List X) → StandOnce xs → StandOnce ys → ((x : X) → Contains xs x → Contains ys x) →
+  pub one_count : (xs ys : List X) → AreDistinct xs → AreDistinct ys → ((x : X) → Contains xs x → Contains ys x) →
       ((x : X) → Contains ys x → Contains xs x) → length xs ≡ length ys
   one_count xs ys a b h k = omega (arith, no_longer xs ys a h, no_longer ys xs b k)
 

@@ -5,7 +5,7 @@ use Rattle.poly_model.specs.Spaces.{Space}
 use Rattle.poly_model.specs.Dictionaries.{Table}
 use Rattle.poly_model.specs.LexOrder.{rows_in}
 use Rattle.poly_model.specs.Tree.{IsFeasibleRoot, IsExtremeIn}
-use Rattle.dictionary_laws.specs.Keys.{AreDistinct}
+use Rattle.linear_laws.specs.Distinct.{AreDistinct}
 use Rattle.tree_laws.proofs.ShownOnce.{shown_once, only_extreme}
 use Rattle.tree_laws.proofs.OneRay.{one_key}
 use Rattle.search_laws.specs.Shares.{InShare, IsShownBy}

@@ -10,12 +10,13 @@ use Rattle.poly_model.specs.Spaces.{Space}
 use Rattle.poly_model.specs.Dictionaries.{Table}
 use Rattle.poly_model.specs.LexOrder.{rows_in}
 use Rattle.poly_model.specs.Tree.{IsFeasibleRoot, IsLexFeasible, IsUnder, IsShownAt}
+use Rattle.linear_laws.specs.Distinct.{AreDistinct}
 use Rattle.linear_laws.proofs.Members.{Contains-first, Contains-later, Contains-cons_cases}
-use Rattle.dictionary_laws.specs.Keys.{AreDistinct}
+use Rattle.linear_laws.proofs.Distinct.{distinct_append}
 use Rattle.search_laws.specs.Shares.{ListsAll, IsChild, IsShownBy, InShare, IsTree}
 use Rattle.search_laws.specs.Splits.{IsSplit, IsShownBySome, InSomeShare}
 use Rattle.tree_laws.proofs.OnePoint.{one_key}
-use Rattle.search_laws.proofs.OnceLists.{at_either, once-append}
+use Rattle.search_laws.proofs.OnceLists.{at_either}
 use Rattle.search_laws.proofs.ShareParts.{is_tree}
 
 -- a vector is shown along columns of one lexicographically feasible cobasis at most
@@ -75,7 +76,7 @@ module _ (space : Space) (root : List ℕ) (rays : RaysAreOne space root) where
       ListsAll (IsShownBySome space root visited) rows →
       ListsAll (IsShownBySome space root (one ∷ visited)) (ys ++ rows)
   more_shown one visited ys rows new a b = record {
-    once = once-append ys rows a.once b.once
+    once = distinct_append ys rows a.once b.once
         (λ y c d. let w = b.only y d in
         new (subst (λ k. Contains visited k) (one_place w.0 one y w.2 (a.only y c)) w.1));
     only = at_either (λ y. IsShownBySome space root (one ∷ visited) y) ys rows

@@ -5,7 +5,7 @@ use Rattle.poly_model.specs.Spaces.{Space}
 use Rattle.poly_model.specs.Dictionaries.{Table}
 use Rattle.poly_model.specs.LexOrder.{rows_in}
 use Rattle.poly_model.specs.Tree.{IsFeasibleRoot, IsAbove, IsUnder}
-use Rattle.dictionary_laws.specs.Keys.{AreDistinct}
+use Rattle.linear_laws.specs.Distinct.{AreDistinct}
 use Rattle.search_laws.specs.Shares.{IsFeasibleKey, IsChild, IsFeasibleUnder, IsShownBy, InShare, IsTree, HasShare}
 use Rattle.tree_laws.proofs.Chains.{under_the_root}
 use Rattle.search_laws.proofs.Depths.{above_twice, child_above, above_feasible, last_step, either_above, no_cycle, not_under_child, children_meet}

@@ -9,17 +9,19 @@ use Rattle.poly_model.specs.Extreme.{IsShown}
 use Rattle.poly_model.specs.Spaces.{Space, main_space, in_main}
 use Rattle.poly_model.specs.Tree.{IsUnder}
 use Rattle.poly_model.specs.Subtrees.{IsSubtreeRoot, IsSubtreeKey, IsShownAtKey, InSubtree}
+use Rattle.linear_laws.specs.Distinct.{AreDistinct}
 use Rattle.linear_laws.proofs.Members.{Contains-nil, Contains-first, Contains-later, Contains-cons_cases}
+use Rattle.linear_laws.proofs.Distinct.{distinct_append}
 use Rattle.tree_laws.proofs.AscendingRows.{main_rows_ascend}
 use Rattle.tree_laws.proofs.OneList.{same_columns}
 use Rattle.tree_laws.proofs.ListedVectors as listed
-use Rattle.search_laws.specs.Shares.{StandOnce, ListsAll, IsFeasibleUnder, IsChild}
+use Rattle.search_laws.specs.Shares.{ListsAll, IsFeasibleUnder, IsChild}
 use Rattle.search_laws.specs.Weights.{IsAntichain}
 use Rattle.search_laws.specs.Splits.{IsSplit, IsShownBySome, InSomeShare, AreSplit}
 use Rattle.search_laws.specs.Partitions.{PartsShare}
 use Rattle.search_laws.specs.SharesOfListings.{LiesUnder, IsKeyUnder, IsSubtreeChild, IsShownAtSome, InSomeSubtree, IsRun, RunsPartSubtrees}
 use Rattle.search_laws.proofs.Depths.{child_above, last_step}
-use Rattle.search_laws.proofs.OnceLists.{same_lists, at_either, once-append}
+use Rattle.search_laws.proofs.OnceLists.{same_lists, at_either}
 use Rattle.search_laws.proofs.ShareParts.{under_itself}
 use Rattle.search_laws.proofs.Visits.{are_split}
 use Rattle.search_laws.proofs.SubtreeShares as words
@@ -40,7 +42,7 @@ module _ (space : Space) (root : List ℕ) where
       (Contains-cons_cases c key keys n))
       (Contains-cons_cases b key keys m)
 
-  apart_once : (keys : List (List ℕ)) → IsAntichain space root keys → StandOnce keys
+  apart_once : (keys : List (List ℕ)) → IsAntichain space root keys → AreDistinct keys
   apart_once [] a = tt
   apart_once (key ∷ keys) a = (λ c. (a.0 key c).above (under_itself space root key), apart_once keys a.1)
 
@@ -118,7 +120,7 @@ module _ (p : Polyhedron) (root : List ℕ) (h : IsSubtreeRoot p root) where
       ListsAll (IsShownAtSome p root (one ∷ [])) ys → ListsAll (IsShownAtSome p root visited) rows →
       ListsAll (IsShownAtSome p root (one ∷ visited)) (ys ++ rows)
   more_rows one visited ys rows new a b = record {
-    once = once-append ys rows a.once b.once (λ y c d. apart y (a.only y c) (b.only y d));
+    once = distinct_append ys rows a.once b.once (λ y c d. apart y (a.only y c) (b.only y d));
     only = at_either (IsShownAtSome p root (one ∷ visited)) ys rows (λ y c. from_own y (a.only y c))
         (λ y c. from_earlier y (b.only y c));
     each = λ y s. ⊎_elim

@@ -7,12 +7,13 @@ use Rattle.poly_model.specs.Spaces.{Space}
 use Rattle.poly_model.specs.Dictionaries.{Table}
 use Rattle.poly_model.specs.LexOrder.{rows_in}
 use Rattle.poly_model.specs.Tree.{IsFeasibleRoot}
+use Rattle.linear_laws.specs.Distinct.{AreDistinct}
 use Rattle.linear_laws.proofs.Members.{Contains-nil, Contains-first, Contains-later}
-use Rattle.dictionary_laws.specs.Keys.{AreDistinct}
+use Rattle.linear_laws.proofs.Distinct.{distinct_append}
 use Rattle.search_laws.specs.Shares.{ListsAll, IsFeasibleKey, IsChild, IsFeasibleUnder, InShare, IsTree}
 use Rattle.search_laws.specs.Weights.{IsWeight, IsTotal, IsUnderSome, AreIncomparable}
 use Rattle.search_laws.specs.Splits.{IsSplit, IsShownBySome, InSomeShare, AreSplit}
-use Rattle.search_laws.proofs.OnceLists.{at_first_or_later, at_either, once-append}
+use Rattle.search_laws.proofs.OnceLists.{at_first_or_later, at_either}
 use Rattle.search_laws.proofs.ShareParts.{under_twice, child_under, under_itself, is_tree}
 use Rattle.search_laws.proofs.Gathered.{Gathers, gather, under_some_first, under_some_later, under_some_cases, children_apart}
 use Rattle.search_laws.proofs.Weights.{key_or_under_some, not_itself_under, weight_of_children, one_total, some_total_of}
@@ -144,7 +145,7 @@ module _ (space : Space) (root : List ℕ) (home : Table) (h : IsFeasibleRoot sp
       by g = (
         visited ++ g.ones,
         record {
-          once = once-append visited g.ones s.once g.lists.once (λ k c d. s.not_both k c (g.lists.only k d));
+          once = distinct_append visited g.ones s.once g.lists.once (λ k c d. s.not_both k c (g.lists.only k d));
           only = at_either (λ k. IsFeasibleUnder space root key k) visited g.ones s.only
               (λ k c. let u = g.lists.only k c in
               (u.feasible, under_twice space root k u.key key u.under (s.waits u.key u.member).1));

@@ -5,7 +5,7 @@ use Rattle.poly_model.specs.Spaces.{Space}
 use Rattle.poly_model.specs.Dictionaries.{Table}
 use Rattle.poly_model.specs.LexOrder.{IsPositive, rows_in, within, backwards, IsEarlier}
 use Rattle.poly_model.specs.Tree.{IsRowDictionary, IsLexFeasible, Leaves, MayEnter, exchanged_key}
-use Rattle.dictionary_laws.specs.Keys.{AreDistinct}
+use Rattle.linear_laws.specs.Distinct.{AreDistinct}
 use Rattle.search_laws.specs.Shares.{IsChild}
 
 -- the rows of the root, the greatest first

@@ -10,7 +10,7 @@ use Rattle.poly_model.specs.Tree.{IsRowDictionary, IsFeasibleRoot}
 use Rattle.poly_model.specs.PhaseOne.{GivesByPhaseOne, IsSearchRoot}
 use Rattle.poly_model.specs.Subtrees.{IsSubtreeRoot}
 use Rattle.poly_model.specs.Labels.{IsRow}
-use Rattle.dictionary_laws.specs.Keys.{AreDistinct}
+use Rattle.linear_laws.specs.Distinct.{AreDistinct}
 use Rattle.search_laws.specs.PhaseOne.{HasNoRowZero, MeetsRows}
 
 -- what phase one gives has a dictionary at which no constant is negative

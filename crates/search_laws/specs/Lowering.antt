@@ -6,7 +6,7 @@ use Rattle.poly_model.specs.Dictionaries.{Table, IsDictionary}
 use Rattle.poly_model.specs.LexOrder.{IsPositive, gaps, rows_in, list_of}
 use Rattle.poly_model.specs.Tree.{IsRowDictionary, IsLexFeasible, IsNeighbour}
 use Rattle.poly_model.specs.Lowering.{IsLoweringStep, IsLowest, IsDescent}
-use Rattle.dictionary_laws.specs.Keys.{AreDistinct}
+use Rattle.linear_laws.specs.Distinct.{AreDistinct}
 
 -- in a column in which row q is negative there is a neighbour. Where it is feasible, q is in its key, or the list of q
 -- over the denominator is less there

@@ -3,12 +3,12 @@
 use Rattle.std.specs.Prelude.{◌≡◌, ◌⊎◌, ℕ, List}
 use Rattle.std.specs.List.{Contains}
 use Rattle.poly_num.specs.Vectors.{Vector}
-use Rattle.search_laws.specs.Shares.{StandOnce}
+use Rattle.linear_laws.specs.Distinct.{AreDistinct}
 
 pub record Partition (whole : Vector → Type 0) (share : List ℕ → Vector → Type 0) (rows : List Vector)
     (keys : List (List ℕ)) : Type 0 where
-  pub rows_once : StandOnce rows
-  pub keys_once : StandOnce keys
+  pub rows_once : AreDistinct rows
+  pub keys_once : AreDistinct keys
   -- the rows and the shares are the whole
   pub covers : (y : Vector) → whole y → Contains rows y ⊎ ((key : List ℕ) × Contains keys key × share key y)
   pub rows_within : (y : Vector) → Contains rows y → whole y

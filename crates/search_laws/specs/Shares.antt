@@ -1,22 +1,17 @@
 -- The children of a cobasis, the cobases under it, and its share: the vectors that are shown at them.
-use Rattle.std.specs.Prelude.{◌≡◌, ◌⊎◌, ◌↔◌, ℕ, List, [], ◌∷◌, Option}
+use Rattle.std.specs.Prelude.{◌≡◌, ◌⊎◌, ◌↔◌, ℕ, List, ◌∷◌, Option}
 use Rattle.std.specs.List.{Contains}
 use Rattle.poly_num.specs.Vectors.{Vector}
 use Rattle.poly_model.specs.Spaces.{Space}
 use Rattle.poly_model.specs.Dictionaries.{Table}
 use Rattle.poly_model.specs.LexOrder.{rows_in}
 use Rattle.poly_model.specs.Tree.{IsRowDictionary, IsFeasibleRoot, IsLexFeasible, IsNeighbour, IsParent, IsUnder, IsShownAt}
-use Rattle.dictionary_laws.specs.Keys.{AreDistinct}
+use Rattle.linear_laws.specs.Distinct.{AreDistinct}
 
 module _ {X : Type 0} where
-  -- no member stands twice
-  abbrev pub StandOnce : List X → Type 0
-  StandOnce [] = Unit {0}
-  StandOnce (x ∷ xs) = (Contains xs x → ⊥) × StandOnce xs
-
   -- the members are those with P, each once
   pub record ListsAll (P : X → Type 0) (xs : List X) : Type 0 where
-    pub once : StandOnce xs
+    pub once : AreDistinct xs
     pub only : (x : X) → Contains xs x → P x
     pub each : (x : X) → P x → Contains xs x
 

@@ -7,7 +7,7 @@ use Rattle.poly_model.specs.Spaces.{Space}
 use Rattle.poly_model.specs.Dictionaries.{Table}
 use Rattle.poly_model.specs.LexOrder.{rows_in}
 use Rattle.poly_model.specs.Tree.{IsFeasibleRoot, IsUnder, IsExtremeIn}
-use Rattle.dictionary_laws.specs.Keys.{AreDistinct}
+use Rattle.linear_laws.specs.Distinct.{AreDistinct}
 use Rattle.search_laws.specs.Shares.{ListsAll, IsChild, IsShownBy, InShare}
 use Rattle.search_laws.specs.Splits.{IsSplit, IsShownBySome, InSomeShare}
 

@@ -7,14 +7,14 @@ use Rattle.poly_model.specs.Spaces.{Space}
 use Rattle.poly_model.specs.Dictionaries.{Table}
 use Rattle.poly_model.specs.LexOrder.{rows_in}
 use Rattle.poly_model.specs.Tree.{IsFeasibleRoot}
-use Rattle.dictionary_laws.specs.Keys.{AreDistinct}
-use Rattle.search_laws.specs.Shares.{StandOnce, ListsAll, IsFeasibleKey, IsChild, IsFeasibleUnder, IsShownBy, InShare}
+use Rattle.linear_laws.specs.Distinct.{AreDistinct}
+use Rattle.search_laws.specs.Shares.{ListsAll, IsFeasibleKey, IsChild, IsFeasibleUnder, IsShownBy, InShare}
 use Rattle.search_laws.specs.Weights.{IsWeight, IsTotal, IsUnderSome, IsAntichain}
 
 module _ (space : Space) (root : List ℕ) where
   -- each lexicographically feasible cobasis under the key is visited or under a key that waits, and not both
   pub record IsSplit (key : List ℕ) (visited waiting : List (List ℕ)) : Type 0 where
-    pub once : StandOnce visited
+    pub once : AreDistinct visited
     pub only : (one : List ℕ) → Contains visited one → IsFeasibleUnder space root key one
     pub each : (one : List ℕ) → IsFeasibleUnder space root key one →
         Contains visited one ⊎ IsUnderSome space root waiting one

@@ -5,7 +5,7 @@ use Rattle.poly_model.specs.Spaces.{Space}
 use Rattle.poly_model.specs.Dictionaries.{Table}
 use Rattle.poly_model.specs.LexOrder.{rows_in}
 use Rattle.poly_model.specs.Tree.{IsFeasibleRoot, IsLexFeasible, IsUnder}
-use Rattle.dictionary_laws.specs.Keys.{AreDistinct}
+use Rattle.linear_laws.specs.Distinct.{AreDistinct}
 use Rattle.search_laws.specs.Shares.{ListsAll, IsFeasibleKey, IsChild, IsFeasibleUnder}
 
 module _ (space : Space) (root : List ℕ) where

@@ -4,8 +4,9 @@ use Rattle.std.specs.List.{Contains}
 use Rattle.poly_num.specs.Vectors.{Vector}
 use Rattle.poly_model.specs.declared.listed.Count.{Count}
 use Rattle.poly_model.specs.Systems.{System}
+use Rattle.linear_laws.specs.Distinct.{AreDistinct}
 use Rattle.dictionary.specs.Views.{Dictionary}
-use Rattle.search_laws.specs.Shares.{StandOnce, ListsAll}
+use Rattle.search_laws.specs.Shares.{ListsAll}
 use Rattle.convert_core.specs.Rows.{IsColumnShown, column_rows}
 use Rattle.work_core.specs.ReplyLines.{ReplyLine, row_line, WritesLines, WritesPartOfLines}
 
@@ -28,6 +29,6 @@ module _ (sys : System) (root : List ℕ) (d : Dictionary) (columns : List ℕ) 
   -- first bytes of the rows of some of them, each once
   pub record TearsRows (old new : Option (List ℕ)) : Type 0 where
     pub shown : List ℕ
-    pub once : StandOnce shown
+    pub once : AreDistinct shown
     pub only : (c : ℕ) → Contains shown c → IsShownOf c
     pub written : WritesPartOfLines old new (lines_of_rows (column_rows sys d shown))

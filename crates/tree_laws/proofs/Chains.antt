@@ -6,7 +6,7 @@ use Rattle.poly_model.specs.Spaces.{Space}
 use Rattle.poly_model.specs.Dictionaries.{Table, IsDictionary}
 use Rattle.poly_model.specs.LexOrder.{IsPositive, rows_in, within, backwards}
 use Rattle.poly_model.specs.Tree.{IsRowDictionary, IsFeasibleRoot, IsLexFeasible, IsParent, IsAbove, IsUnder}
-use Rattle.dictionary_laws.specs.Keys.{AreDistinct}
+use Rattle.linear_laws.specs.Distinct.{AreDistinct}
 use Rattle.tree_laws.specs.Parents.{IsRootOrChild}
 use Rattle.tree_laws.proofs.Numbers.{key_row}
 use Rattle.tree_laws.proofs.Sublists.{ascending_parts, contains_ascending, length-ascending_parts}

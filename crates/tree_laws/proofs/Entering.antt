@@ -6,7 +6,7 @@ use Rattle.poly_model.specs.Spaces.{Space}
 use Rattle.poly_model.specs.Dictionaries.{Table}
 use Rattle.poly_model.specs.LexOrder.{IsNonnegative, rows_in, within, order, backwards, IsEarlier}
 use Rattle.poly_model.specs.Tree.{MayEnter, Enters}
-use Rattle.dictionary_laws.specs.Keys.{AreDistinct}
+use Rattle.linear_laws.specs.Distinct.{AreDistinct}
 use Rattle.dictionary_laws.proofs.Members.{contains_or}
 use Rattle.tree_laws.proofs.LexLemmas.{positive_or_not, values_nonnegative, values_not_both}
 use Rattle.tree_laws.proofs.FirstMembers.{IsFirst, first_with}

@@ -2,8 +2,8 @@
 use Rattle.std.proofs.Common.{◌≡◌, ◌⊎◌, inl, inr, ⊎_elim, ℕ, ℤ, pos, ◌<ℤ◌, List, [], ◌∷◌, map, refl, sym, subst}
 use Rattle.std.specs.List.{Contains}
 use Rattle.poly_model.specs.LexOrder.{IsPositive, backwards, Precedes}
+use Rattle.linear_laws.specs.Distinct.{AreDistinct}
 use Rattle.linear_laws.proofs.Members.{Contains-nil, Contains-first, Contains-later}
-use Rattle.dictionary_laws.specs.Keys.{AreDistinct}
 use Rattle.dictionary_laws.proofs.Members.{contains_cases, by_cases}
 use Rattle.tree_laws.proofs.ListOrder.{not_before_and_behind, before_backwards, backwards_has, backwards_only, none_before}
 

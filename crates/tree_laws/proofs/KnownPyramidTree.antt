@@ -11,8 +11,8 @@ use Rattle.poly_model.specs.Dictionaries.{Table}
 use Rattle.poly_model.specs.LexOrder.{IsPositive, IsNonnegative, IsEarlier, rows_in, order, list_of}
 use Rattle.poly_model.specs.Tree.{IsFeasibleRoot, IsLexFeasible, Enters, Leaves, IsNeighbour}
 use Rattle.poly_model.specs.Tree.{IsParent, ratio_gaps, ShowsPoint, IsShownAt}
+use Rattle.linear_laws.specs.Distinct.{AreDistinct}
 use Rattle.linear_laws.proofs.Members.{all_at}
-use Rattle.dictionary_laws.specs.Keys.{AreDistinct}
 use Rattle.dictionary_laws.proofs.KeyExchange.{ascending_distinct}
 use Rattle.tree_laws.proofs.ListOrder.{none_before}
 use Rattle.tree_laws.proofs.OrderLemmas.{is_row_outside, order_distinct}

@@ -6,8 +6,8 @@ use Rattle.std.proofs.lemmas.Int.{ints}
 use Rattle.poly_model.specs.LexOrder.{rows_in, order, list_of}
 use Rattle.poly_model.specs.Tree.{IsRowDictionary, IsFeasibleRoot, IsLexFeasible, MayEnter, Enters, Leaves}
 use Rattle.poly_model.specs.Tree.{IsNeighbour, IsParent, IsAbove, IsUnder}
+use Rattle.linear_laws.specs.Distinct.{AreDistinct}
 use Rattle.linear_laws.proofs.Members.{all_at}
-use Rattle.dictionary_laws.specs.Keys.{AreDistinct}
 use Rattle.dictionary_laws.proofs.KeyExchange.{ascending_distinct}
 use Rattle.tree_laws.proofs.Entering.{enters_is_one}
 use Rattle.tree_laws.proofs.KnownTables.{solved}

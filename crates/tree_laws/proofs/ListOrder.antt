@@ -4,8 +4,9 @@ use Rattle.std.specs.List.{Contains}
 use Rattle.std.proofs.lemmas.List.Elements.{Contains-append_left, Contains-append_right, Contains-append_cases}
 use Rattle.poly_model.specs.Keys.{IsAscending}
 use Rattle.poly_model.specs.LexOrder.{backwards, Precedes}
+use Rattle.linear_laws.specs.Distinct.{AreDistinct}
 use Rattle.linear_laws.proofs.Members.{Contains-nil, Contains-first, Contains-later, all_at}
-use Rattle.dictionary_laws.specs.Keys.{AreDistinct}
+use Rattle.linear_laws.proofs.Distinct.{distinct_append}
 use Rattle.dictionary_laws.proofs.Members.{contains_cases, by_cases}
 
 -- ---- one stands before the other
@@ -91,14 +92,6 @@ before_cases (x ∷ xs) ys k i (inr h) =
     (λ (c : Contains xs k × Contains ys i). inr (inl (Contains-later k x xs c.0, c.1)))
     (λ (p : Precedes ys k i). inr (inr p)) r)
     (before_cases xs ys k i h)
-
-pub distinct_append : (xs ys : List ℕ) → AreDistinct xs → AreDistinct ys →
-    ((k : ℕ) → Contains xs k → Contains ys k → ⊥) → AreDistinct (xs ++ ys)
-distinct_append [] ys d e n = e
-distinct_append (x ∷ xs) ys d e n = (
-  λ c. ⊎_elim d.0 (n x (Contains-first x xs)) (Contains-append_cases xs ys x c),
-  distinct_append xs ys d.1 e (λ k a b. n k (Contains-later k x xs a) b),
-)
 
 -- ---- in an ascending list the smaller stand first
 pub smaller_is_before : (xs : List ℕ) (k i : ℕ) → IsAscending xs → Contains xs k → Contains xs i → k < i →

@@ -8,10 +8,11 @@ use Rattle.poly_model.specs.Spaces.{Space, is_member}
 use Rattle.poly_model.specs.Labels.{is_row}
 use Rattle.poly_model.specs.LexOrder.{rows_in, outside, within, order, backwards, Precedes, IsEarlier}
 use Rattle.poly_model.specs.Tree.{IsRowOutside}
-use Rattle.dictionary_laws.specs.Keys.{AreDistinct}
+use Rattle.linear_laws.specs.Distinct.{AreDistinct}
+use Rattle.linear_laws.proofs.Distinct.{distinct_append}
 use Rattle.dictionary_laws.proofs.Members.{contains_or}
 use Rattle.dictionary_laws.proofs.Filters.{filter_only, filter_kept, distinct_filter, member_only, member_has, ascending_filter}
-use Rattle.tree_laws.proofs.ListOrder.{precedes_members, one_before_other, not_before_and_behind, not_before_itself, before_is_other, before_transitive, before_across, before_in_front, before_behind, before_cases, smaller_is_before, before_is_smaller, distinct_append, backwards_has, backwards_only}
+use Rattle.tree_laws.proofs.ListOrder.{precedes_members, one_before_other, not_before_and_behind, not_before_itself, before_is_other, before_transitive, before_across, before_in_front, before_behind, before_cases, smaller_is_before, before_is_smaller, backwards_has, backwards_only}
 use Rattle.tree_laws.proofs.FirstMembers.{IsFirst, IsLast, first_with, last_with}
 
 pub no_member : (k : ℕ) (ks : List ℕ) → not (is_member k ks) ≡ true → Contains ks k → ⊥

@@ -8,9 +8,9 @@ use Rattle.poly_model.specs.Spaces.{Space}
 use Rattle.poly_model.specs.Dictionaries.{Table, sum_over}
 use Rattle.poly_model.specs.LexOrder.{IsNonnegative, rows_in, outside, within, backwards}
 use Rattle.poly_model.specs.Tree.{IsRowDictionary, IsFeasibleRoot, IsLexFeasible, IsNeighbour, MayEnter, Enters, IsParent, exchanged_key}
+use Rattle.linear_laws.specs.Distinct.{AreDistinct}
 use Rattle.linear_laws.proofs.Members.{ascending_is_one}
 use Rattle.linear_laws.proofs.Signs.{minus_negative}
-use Rattle.dictionary_laws.specs.Keys.{AreDistinct}
 use Rattle.dictionary_laws.proofs.Members.{all_from, contains_or}
 use Rattle.dictionary_laws.proofs.Directions.{times_zero}
 use Rattle.dictionary_laws.proofs.Duals.{Dual, dual_of}

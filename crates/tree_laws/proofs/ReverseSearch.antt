@@ -5,7 +5,7 @@ use Rattle.poly_model.specs.Spaces.{Space, main_space, lifted}
 use Rattle.poly_model.specs.Dictionaries.{Table}
 use Rattle.poly_model.specs.LexOrder.{rows_in}
 use Rattle.poly_model.specs.Tree.{IsFeasibleRoot}
-use Rattle.dictionary_laws.specs.Keys.{AreDistinct}
+use Rattle.linear_laws.specs.Distinct.{AreDistinct}
 use Rattle.tree_laws.specs.ReverseSearch.{IsSearched, SearchesPolyhedron}
 use Rattle.tree_laws.proofs.Roots.{root_is_feasible}
 use Rattle.tree_laws.proofs.Parents.{root_or_child, one_parent}

@@ -9,7 +9,7 @@ use Rattle.poly_model.specs.Spaces.{Space}
 use Rattle.poly_model.specs.Dictionaries.{Table}
 use Rattle.poly_model.specs.LexOrder.{rows_in}
 use Rattle.poly_model.specs.Tree.{IsRowDictionary, IsFeasibleRoot, IsLexFeasible, IsShownAt, IsExtremeIn}
-use Rattle.dictionary_laws.specs.Keys.{AreDistinct}
+use Rattle.linear_laws.specs.Distinct.{AreDistinct}
 use Rattle.tree_laws.specs.Shown.{IsShownOnce}
 use Rattle.tree_laws.specs.ShownPoints.{IsPointOnce}
 use Rattle.tree_laws.specs.ShownRays.{IsRayOnce}

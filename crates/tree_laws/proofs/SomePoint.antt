@@ -10,10 +10,10 @@ use Rattle.poly_model.specs.Spaces.{Space, IsDirection}
 use Rattle.poly_model.specs.Dictionaries.{Table}
 use Rattle.poly_model.specs.LexOrder.{rows_in, order, Precedes}
 use Rattle.poly_model.specs.Tree.{IsRowDictionary, IsRowOutside, IsFeasibleRoot, ShowsPoint, IsAtPoint, IsExtremeIn}
+use Rattle.linear_laws.specs.Distinct.{AreDistinct}
 use Rattle.linear_laws.proofs.Members.{Contains-nil, Contains-later}
 use Rattle.linear_laws.proofs.Proportions.{values_from_multiples}
 use Rattle.linear_laws.proofs.Signs.{zero_or}
-use Rattle.dictionary_laws.specs.Keys.{AreDistinct}
 use Rattle.dictionary_laws.proofs.Members.{contains_cases}
 use Rattle.dictionary_laws.proofs.Directions.{times_zero, zero_times}
 use Rattle.dictionary_laws.proofs.Duals.{Dual, dual_of}

@@ -9,7 +9,7 @@ use Rattle.poly_model.specs.Spaces.{Space, main_space, lifted, in_main}
 use Rattle.poly_model.specs.LexOrder.{rows_in}
 use Rattle.poly_model.specs.Tree.{IsExtremeIn}
 use Rattle.poly_model.specs.Labels.{IsRow}
-use Rattle.dictionary_laws.specs.Keys.{AreDistinct}
+use Rattle.linear_laws.specs.Distinct.{AreDistinct}
 
 -- a vector of the cone is extreme exactly where it is extreme in the main space, and shown. No label of a row may be
 -- that of a coordinate

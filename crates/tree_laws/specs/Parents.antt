@@ -4,7 +4,7 @@ use Rattle.poly_model.specs.Spaces.{Space}
 use Rattle.poly_model.specs.Dictionaries.{Table}
 use Rattle.poly_model.specs.LexOrder.{IsPositive, gaps, rows_in, within, backwards, list_of}
 use Rattle.poly_model.specs.Tree.{IsRowDictionary, IsFeasibleRoot, IsLexFeasible, IsParent, IsAbove, IsUnder}
-use Rattle.dictionary_laws.specs.Keys.{AreDistinct}
+use Rattle.linear_laws.specs.Distinct.{AreDistinct}
 
 -- a feasible root is lexicographically feasible
 abbrev pub RootIsFeasible : Type 0

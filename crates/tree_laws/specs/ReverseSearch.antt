@@ -6,7 +6,7 @@ use Rattle.poly_model.specs.Spaces.{Space, main_space, lifted}
 use Rattle.poly_model.specs.Dictionaries.{Table}
 use Rattle.poly_model.specs.LexOrder.{rows_in}
 use Rattle.poly_model.specs.Tree.{IsFeasibleRoot, IsLexFeasible, IsNeighbour, IsParent, IsAbove, IsUnder, IsShownAt, IsExtremeIn}
-use Rattle.dictionary_laws.specs.Keys.{AreDistinct}
+use Rattle.linear_laws.specs.Distinct.{AreDistinct}
 use Rattle.tree_laws.specs.Laws.{IsFeasibleNeighbour}
 use Rattle.tree_laws.specs.Parents.{IsRootOrChild}
 use Rattle.tree_laws.specs.Shown.{IsShownOnce}

@@ -5,7 +5,7 @@ use Rattle.poly_model.specs.Spaces.{Space}
 use Rattle.poly_model.specs.Dictionaries.{Table}
 use Rattle.poly_model.specs.LexOrder.{rows_in}
 use Rattle.poly_model.specs.Tree.{IsFeasibleRoot, IsLexFeasible, IsShownAt, IsExtremeIn}
-use Rattle.dictionary_laws.specs.Keys.{AreDistinct}
+use Rattle.linear_laws.specs.Distinct.{AreDistinct}
 
 -- y is shown at a lexicographically feasible cobasis, as its point or along a column, and nowhere else at any
 pub record IsShownOnce (space : Space) (root : List ℕ) (y : Vector) : Type 0 where

@@ -8,13 +8,13 @@ use Rattle.poly_model.specs.Keys.{IsAscending}
 use Rattle.poly_model.specs.Limits.{most_labels}
 use Rattle.poly_model.specs.Systems.{Polyhedron, cone_of}
 use Rattle.poly_model.specs.Extreme.{IsExtreme}
+use Rattle.linear_laws.specs.Distinct.{AreDistinct}
 use Rattle.linear_laws.proofs.Members.{same_first, same_others, Contains-nil, Contains-first, Contains-later, Contains-cons_cases, all_at}
 use Rattle.dictionary_laws.proofs.Members.{contains_or, all_from}
 use Rattle.listing_laws.specs.Prefixes.{marked_labels}
 use Rattle.listing_laws.specs.ListedCone.{cone_over}
 use Rattle.listing_laws.proofs.FirstLists.{labels_ascend}
 use Rattle.tree_laws.proofs.Sublists.{ascending_parts, contains_ascending}
-use Rattle.search_laws.specs.Shares.{StandOnce}
 use Rattle.search_laws.proofs.OnceLists.{one_of_or_not, one_count}
 use Rattle.work_core.specs.Meanings.{Meaning, IsKeyBelow, Weighs}
 use Rattle.work_core.specs.Subsets.{plain_labels, IsReducedDimension, IsSubsetKey, IsSubsetDepth, IsListOf}
@@ -111,7 +111,7 @@ module _ (p : Polyhedron) where
   -- ---- those of a list with P, each once
   record Picked (P : List ℕ → Type 0) (from : List (List ℕ)) : Type 0 where
     ones : List (List ℕ)
-    once : StandOnce ones
+    once : AreDistinct ones
     only : (x : List ℕ) → Contains ones x → P x
     each : (x : List ℕ) → Contains from x → P x → Contains ones x
 

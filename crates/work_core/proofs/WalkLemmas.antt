@@ -3,10 +3,12 @@ use Rattle.std.proofs.Common.{◌≡◌, ◌⊎◌, ◌↔◌, inl, inr, ⊎_eli
 use Rattle.std.specs.List.{Contains}
 use Rattle.std.proofs.lemmas.List.Elements.{All-from_recursion, Contains-append_left, Contains-append_right, Contains-append_cases}
 use Rattle.poly_num.specs.Vectors.{Vector}
+use Rattle.linear_laws.specs.Distinct.{AreDistinct}
 use Rattle.linear_laws.proofs.Members.{Contains-nil, Contains-first, Contains-later, Contains-cons_cases}
+use Rattle.linear_laws.proofs.Distinct.{distinct_append}
 use Rattle.listing_laws.proofs.ListLemmas.{all_members}
-use Rattle.search_laws.specs.Shares.{StandOnce, ListsAll}
-use Rattle.search_laws.proofs.OnceLists.{once-append, at_either}
+use Rattle.search_laws.specs.Shares.{ListsAll}
+use Rattle.search_laws.proofs.OnceLists.{at_either}
 use Rattle.search_laws.specs.Partitions.{IsGivenBack}
 use Rattle.work_core.specs.Meanings.{Meaning, StandsUnder, IsKeyBelow, WeighTogether}
 use Rattle.work_core.specs.Splits.{Splits, AreWithin}
@@ -110,7 +112,7 @@ module _ (work : Meaning) (Shows : List ℕ → Vector → Type 0) where
 
     pub walk_then : IsWalk work Shows (λ one. P one ⊎ Q one) (vs ++ ws) (gs ++ hs) (xs ++ ys)
     walk_then = record {
-      once = once-append vs ws v.once w.once (λ one c d. other one (v.only one c) (w.only one d));
+      once = distinct_append vs ws v.once w.once (λ one c d. other one (v.only one c) (w.only one d));
       only = λ one c. ⊎_elim (λ d. inl (v.only one d)) (λ d. inr (w.only one d)) (Contains-append_cases vs ws one c);
       each = λ one h. ⊎_elim
           (λ p. ⊎_elim (λ c. inl (Contains-append_left vs ws one c))
@@ -126,7 +128,7 @@ module _ (work : Meaning) (Shows : List ℕ → Vector → Type 0) where
           (λ t. other one (left_in one t (keys one (inr (w.only one d)))) (w.only one d))
           (λ t. w.not_both one d t) (under_append gs hs one u))
           (Contains-append_cases vs ws one c);
-      given_once = once-append gs hs v.given_once w.given_once
+      given_once = distinct_append gs hs v.given_once w.given_once
           (λ k c d. other k (v.given_within k k c (v.given_keys k c, itself k)) (w.given_within k k d (v.given_keys k c, itself k)));
       given_keys = λ k c. ⊎_elim (v.given_keys k) (w.given_keys k) (Contains-append_cases gs hs k c);
       given_within = λ k one c u. ⊎_elim (λ d. inl (v.given_within k one d u)) (λ d. inr (w.given_within k one d u))
@@ -138,7 +140,7 @@ module _ (work : Meaning) (Shows : List ℕ → Vector → Type 0) where
           (λ f. absurd (other one (v.given_within k one f u) (w.given_within j one e t)))
           (λ f. w.apart j k one e f t u) (Contains-append_cases gs hs k d))
           (Contains-append_cases gs hs j c);
-      rows_once = once-append xs ys v.rows_once w.rows_once (λ y c d.
+      rows_once = distinct_append xs ys v.rows_once w.rows_once (λ y c d.
           let a = v.rows_shown y c in let b = w.rows_shown y d in
           other b.0 (subst P (one_key a.0 b.0 y a.2 b.2) (v.only a.0 a.1)) (w.only b.0 b.1));
       rows_shown = λ y c. ⊎_elim
@@ -207,7 +209,7 @@ module _ (work : Meaning) (Shows : List ℕ → Vector → Type 0) where
       pub lists : ListsAll (λ one. work.is_key one × StandsUnderSome work keys one) ones
       pub size : length ones ≡ total
 
-    gather : (keys : List (List ℕ)) → StandOnce keys → ((k : List ℕ) → Contains keys k → Contains given k) → (t : ℕ) →
+    gather : (keys : List (List ℕ)) → AreDistinct keys → ((k : List ℕ) → Contains keys k → Contains given k) → (t : ℕ) →
         WeighTogether work keys t → Gathered keys t
     gather [] o h t e = record {
       ones = [];
@@ -225,7 +227,7 @@ module _ (work : Meaning) (Shows : List ℕ → Vector → Type 0) where
         by g = record {
           ones = ks ++ g.ones;
           lists = record {
-            once = once-append ks g.ones l.once g.lists.once
+            once = distinct_append ks g.ones l.once g.lists.once
                 (λ one c d. let p = l.only one c in let q = g.lists.only one d in
                 o.0 (subst (Contains keys) (sym (w.apart k q.1.0 one (h k (Contains-first k keys))
                 (h q.1.0 (Contains-later q.1.0 k keys q.1.1)) p (q.0, q.1.2))) q.1.1));
@@ -266,7 +268,7 @@ module _ (work : Meaning) (Shows : List ℕ → Vector → Type 0) where
               weighs = (
                 visited ++ g.ones,
                 record {
-                  once = once-append visited g.ones w.once g.lists.once
+                  once = distinct_append visited g.ones w.once g.lists.once
                       (λ one c d. w.not_both one c (g.lists.only one d).1);
                   only = at_either (IsKeyBelow work key) visited g.ones w.only
                       (λ one c. let p = g.lists.only one c in w.given_within p.1.0 one p.1.1 (p.0, p.1.2));

@@ -2,7 +2,7 @@
 use Rattle.std.specs.Prelude.{◌≡◌, ◌⊎◌, ◌↔◌, ℕ, ◌+◌, List, length}
 use Rattle.std.specs.List.{Contains}
 use Rattle.poly_num.specs.Vectors.{Vector}
-use Rattle.search_laws.specs.Shares.{StandOnce}
+use Rattle.linear_laws.specs.Distinct.{AreDistinct}
 use Rattle.work_core.specs.Meanings.{Meaning, StandsUnder, IsKeyBelow, Weighs, WeighTogether}
 use Rattle.work_core.specs.Splits.{Splits}
 
@@ -20,18 +20,18 @@ module _ (work : Meaning) where
   -- of the keys in question these are visited and these given back, and the rows are those shown at the keys visited
   pub record IsWalk (Shows : List ℕ → Vector → Type 0) (in_question : List ℕ → Type 0)
       (visited given : List (List ℕ)) (rows : List Vector) : Type 0 where
-    pub once : StandOnce visited
+    pub once : AreDistinct visited
     pub only : (one : List ℕ) → Contains visited one → in_question one
     -- each is visited or lies under a key given back, and not both
     pub each : (one : List ℕ) → in_question one → Contains visited one ⊎ StandsUnderSome given one
     pub not_both : (one : List ℕ) → Contains visited one → StandsUnderSome given one → ⊥
     -- what is given back are keys, under no two of which one key lies, and all under them are in question
-    pub given_once : StandOnce given
+    pub given_once : AreDistinct given
     pub given_keys : (k : List ℕ) → Contains given k → work.is_key k
     pub given_within : (k one : List ℕ) → Contains given k → IsKeyBelow work k one → in_question one
     pub apart : (j k one : List ℕ) → Contains given j → Contains given k → IsKeyBelow work j one → IsKeyBelow work k one →
         j ≡ k
-    pub rows_once : StandOnce rows
+    pub rows_once : AreDistinct rows
     pub rows_shown : (y : Vector) → Contains rows y → (one : List ℕ) × Contains visited one × Shows one y
     pub shown_rows : (one : List ℕ) (y : Vector) → Contains visited one → Shows one y → Contains rows y
 

@@ -8,7 +8,7 @@ use Rattle.std.proofs.lemmas.List.{append-nil, take-append-drop}
 use Rattle.std.proofs.lemmas.Option.{none-some, same_Some}
 use Rattle.workers_io.specs.Collects.{collected_attempt, happening_of}
 use Rattle.workers_io.specs.History.{Happening, IsAllowed, IsHonest, StartedTexts, Tells, started, refused, replied, broken, last_text}
-use Rattle.workers_io.specs.Memory.{GivesNext, IsFaithful, MemState, StaysHonest, attempt_of, fated, first_fate, prompt, spoiled, what_comes, without}
+use Rattle.workers_io.specs.Memory.{GivesNext, IsFaithful, MemWorkersState, StaysHonest, coming_attempt, fated, first_fate, prompt, spoiled, what_comes, without}
 use Rattle.workers_io.specs.MemoryLaws.{first_honest}
 use Rattle.workers_io.specs.declared.collected.Collected.{Collected}
 use Rattle.workers_io.specs.declared.collected.Collected.TheVariants.{Reply, Broken}
@@ -81,7 +81,7 @@ module _ (allows : List ℕ → List ℕ → Type 0) where
   both_honest starts (broken a ∷ first) more h k = both_honest starts first more h k
 
   -- one thing more has happened, with which what is to come is honest
-  pub stays : (old new : MemState) (x : Happening) → Tells old.history new.history (x ∷ []) → ((starts : StartedTexts) → AreGiven starts old.coming → IsHonest allows starts (x ∷ what_comes new.coming))
+  pub stays : (old new : MemWorkersState) (x : Happening) → Tells old.history new.history (x ∷ []) → ((starts : StartedTexts) → AreGiven starts old.coming → IsHonest allows starts (x ∷ what_comes new.coming))
       → (AllByRecursion IsFaithful old.fates → AllByRecursion IsFaithful new.fates) → StaysHonest allows old → StaysHonest allows new
   stays old new x tells step fates honest = record { told = λ all is. one_more all (grown old.history new.history (x ∷ []) all tells is); faithful = fates honest.faithful }
     where
@@ -99,16 +99,16 @@ module _ (allows : List ℕ → List ℕ → Type 0) where
 
   pub without_given : (starts : StartedTexts) (a : ℕ) (text : List ℕ) (coming : List Coming) → AreGiven starts coming → AreGiven ((a, text) ∷ starts) (without a coming)
   without_given starts a text [] all = tt
-  without_given starts a text (c ∷ coming) all = elim (cases_eq (attempt_of c) a) [
-    | inl e ↦ rw (eq-eqb (attempt_of c) a e) (without_given starts a text coming all.1)
-    | inr n ↦ rw (ne_eqb (attempt_of c) a n) (still_given starts a text c.gives n all.0, without_given starts a text coming all.1)
+  without_given starts a text (c ∷ coming) all = elim (cases_eq (coming_attempt c) a) [
+    | inl e ↦ rw (eq-eqb (coming_attempt c) a e) (without_given starts a text coming all.1)
+    | inr n ↦ rw (ne_eqb (coming_attempt c) a n) (still_given starts a text c.gives n all.0, without_given starts a text coming all.1)
   ]
 
   pub spoiled_given : (starts : StartedTexts) (a : ℕ) (text : List ℕ) (coming : List Coming) → AreGiven starts coming → AreGiven ((a, text) ∷ starts) (spoiled a coming)
   spoiled_given starts a text [] all = tt
-  spoiled_given starts a text (c ∷ coming) all = elim (cases_eq (attempt_of c) a) [
-    | inl e ↦ rw (eq-eqb (attempt_of c) a e) (tt, spoiled_given starts a text coming all.1)
-    | inr n ↦ rw (ne_eqb (attempt_of c) a n) (still_given starts a text c.gives n all.0, spoiled_given starts a text coming all.1)
+  spoiled_given starts a text (c ∷ coming) all = elim (cases_eq (coming_attempt c) a) [
+    | inl e ↦ rw (eq-eqb (coming_attempt c) a e) (tt, spoiled_given starts a text coming all.1)
+    | inr n ↦ rw (ne_eqb (coming_attempt c) a n) (still_given starts a text c.gives n all.0, spoiled_given starts a text coming all.1)
   ]
 
   -- the first bytes of an allowed reply
@@ -143,7 +143,7 @@ module _ (allows : List ℕ → List ℕ → Type 0) where
       by_late false p = (rw p.0 all.0, rw p.1 all.1)
 
   -- a collect
-  pub collect_stays : (old new : MemState) (g : Collected) → GivesNext old.coming g new.coming → Tells old.history new.history (happening_of g ∷ []) → new.fates ≡ old.fates
+  pub collect_stays : (old new : MemWorkersState) (g : Collected) → GivesNext old.coming g new.coming → Tells old.history new.history (happening_of g ∷ []) → new.fates ≡ old.fates
       → StaysHonest allows old → StaysHonest allows new
   collect_stays old new g gives tells same = stays old new (happening_of g) tells step (λ all. rw same all)
     where
@@ -153,7 +153,7 @@ module _ (allows : List ℕ → List ℕ → Type 0) where
           given_then starts g (what_comes new.coming) p.0 (given_honest starts new.coming p.1)
 
   -- a start that succeeds, and one that fails
-  pub start_stays : {T V E : Type 0} (begun : Result T E) (more : Result V E) (items : V → List Coming) (others : List (List ℕ)) (a : ℕ) (text : List ℕ) (old new : MemState)
+  pub start_stays : {T V E : Type 0} (begun : Result T E) (more : Result V E) (items : V → List Coming) (others : List (List ℕ)) (a : ℕ) (text : List ℕ) (old new : MemWorkersState)
       → IfOk more (λ v. (reply : Option (List ℕ)) × IfSome reply (allows text) × (items v ≡ fated (first_fate old.fates) others a reply)) → OnErr more (IsErr begun)
       → OnOk begun (IfOk more (λ v. new.coming ≡ without a old.coming ++ items v)) → OnErr begun (new.coming ≡ spoiled a old.coming)
       → OnOk begun (Tells old.history new.history (started a text ∷ [])) → OnErr begun (Tells old.history new.history (refused a text ∷ [])) → new.fates ≡ drop 1 old.fates

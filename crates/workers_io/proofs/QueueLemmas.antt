@@ -5,7 +5,7 @@ use Rattle.std.specs.Bool.{MatchBool}
 use Rattle.std.specs.List.{AllByRecursion}
 use Rattle.std.proofs.lemmas.Bool.{cases_eq, eq-eqb, false≢true, ne_eqb}
 use Rattle.workers_io.specs.Collects.{collected_attempt, out_after}
-use Rattle.workers_io.specs.Memory.{GivesNext, HasMore, attempt_of, fated, prompt, spoiled, spoiled_one, without}
+use Rattle.workers_io.specs.Memory.{GivesNext, HasMore, coming_attempt, fated, prompt, spoiled, spoiled_one, without}
 use Rattle.workers_io.specs.declared.collected.Collected.{Collected}
 use Rattle.workers_io.specs.declared.coming.Coming.{Coming}
 use Rattle.workers_io.specs.declared.fate.Fate.{Fate}
@@ -51,10 +51,10 @@ left_more (c ∷ d ∷ more) given left b gives other has = by_late c.late gives
 -- what is to come of another attempt stays
 pub without_more : (a : ℕ) (coming : List Coming) (b : ℕ) → (b ≡ a → ⊥) → HasMore coming b → HasMore (without a coming) b
 without_more a [] b other m = absurd m
-without_more a (c ∷ coming) b other (inl e) = rw (ne_eqb (attempt_of c) a (λ s. other (sym e ∙ s))) (inl e)
-without_more a (c ∷ coming) b other (inr m) = elim (cases_eq (attempt_of c) a) [
-  | inl e ↦ rw (eq-eqb (attempt_of c) a e) (without_more a coming b other m)
-  | inr n ↦ rw (ne_eqb (attempt_of c) a n) (inr (without_more a coming b other m))
+without_more a (c ∷ coming) b other (inl e) = rw (ne_eqb (coming_attempt c) a (λ s. other (sym e ∙ s))) (inl e)
+without_more a (c ∷ coming) b other (inr m) = elim (cases_eq (coming_attempt c) a) [
+  | inl e ↦ rw (eq-eqb (coming_attempt c) a e) (without_more a coming b other m)
+  | inr n ↦ rw (ne_eqb (coming_attempt c) a n) (inr (without_more a coming b other m))
 ]
 
 pub first_more : (xs ys : List Coming) (b : ℕ) → HasMore xs b → HasMore (xs ++ ys) b
@@ -67,10 +67,10 @@ last_more [] ys b m = m
 last_more (c ∷ xs) ys b m = inr (last_more xs ys b m)
 
 -- what is broken is still of its attempt
-pub spoiled_attempt : (a : ℕ) (c : Coming) → attempt_of (spoiled_one a c) ≡ attempt_of c
-spoiled_attempt a c = elim (cases_eq (attempt_of c) a) [
-  | inl e ↦ rw (eq-eqb (attempt_of c) a e) (sym e)
-  | inr n ↦ rw (ne_eqb (attempt_of c) a n) refl
+pub spoiled_attempt : (a : ℕ) (c : Coming) → coming_attempt (spoiled_one a c) ≡ coming_attempt c
+spoiled_attempt a c = elim (cases_eq (coming_attempt c) a) [
+  | inl e ↦ rw (eq-eqb (coming_attempt c) a e) (sym e)
+  | inr n ↦ rw (ne_eqb (coming_attempt c) a n) refl
 ]
 
 pub spoiled_more : (a : ℕ) (coming : List Coming) (b : ℕ) → HasMore coming b → HasMore (spoiled a coming) b

@@ -17,7 +17,7 @@ pub record Queued : Type 0 where
 
 -- what contracts see: the attempts that are out, what is still to come, what happened, where that is told, the fates of
 -- the starts to come, how many starts there were, and how often a start or an attempt has failed
-pub record MemState : Type 0 where
+pub record MemWorkersState : Type 0 where
   pub out : List ℕ
   pub coming : List Coming
   pub history : Option (List Happening)
@@ -48,16 +48,16 @@ abbrev pub first_fate : List Fate → Fate
 first_fate [] = Keep
 first_fate (f ∷ fates) = f
 
-abbrev pub attempt_of : Coming → ℕ
-attempt_of c = collected_attempt c.gives
+abbrev pub coming_attempt : Coming → ℕ
+coming_attempt c = collected_attempt c.gives
 
 -- what is left to come, once an attempt with this number was started
 abbrev pub without : ℕ → List Coming → List Coming
-without a coming = filter (λ c. not (attempt_of c == a)) coming
+without a coming = filter (λ c. not (coming_attempt c == a)) coming
 
 -- what was to come of this attempt is broken
 abbrev pub spoiled_one : ℕ → Coming → Coming
-spoiled_one a c = if attempt_of c == a then prompt (Broken a) else c
+spoiled_one a c = if coming_attempt c == a then prompt (Broken a) else c
 
 -- what is left to come, once the start of an attempt with this number has failed
 abbrev pub spoiled : ℕ → List Coming → List Coming
@@ -72,7 +72,7 @@ GivesNext (c ∷ d ∷ more) given left = MatchBool c.late ((given ≡ d.gives) 
 -- something is to come of this attempt
 abbrev pub HasMore : List Coming → ℕ → Type 0
 HasMore [] a = ⊥
-HasMore (c ∷ coming) a = (attempt_of c ≡ a) ⊎ HasMore coming a
+HasMore (c ∷ coming) a = (coming_attempt c ≡ a) ⊎ HasMore coming a
 
 -- no bytes come in a reply's place
 abbrev pub IsFaithful : Fate → Type 0
@@ -83,6 +83,6 @@ abbrev pub what_comes : List Coming → List Happening
 what_comes coming = map (λ c. happening_of c.gives) coming
 
 -- a told history is honest, also with all behind it that is still to come; and no fate to come replaces a reply
-pub record StaysHonest (allows : List ℕ → List ℕ → Type 0) (state : MemState) : Type 0 where
+pub record StaysHonest (allows : List ℕ → List ℕ → Type 0) (state : MemWorkersState) : Type 0 where
   pub told : (happenings : List Happening) → state.history ≡ Some happenings → IsHonest allows [] (happenings ++ what_comes state.coming)
   pub faithful : AllByRecursion IsFaithful state.fates

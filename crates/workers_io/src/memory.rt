@@ -32,9 +32,9 @@ pub struct MemWorkers<'a, J: JobCall> {
 }
 
 impl<'a, J: JobCall> Model for MemWorkers<'a, J> {
-    ghost use Rattle.workers_io.specs.Memory.{MemState};
+    ghost use Rattle.workers_io.specs.Memory.{MemWorkersState};
 
-    ghost Value = { MemState };
+    ghost Value = { MemWorkersState };
 
     ghost view = { λ w. record { out = w.queue.out; coming = w.queue.coming; history = w.log; fates = w.fates.now; starts = w.starts; faults = w.faults } };
 }

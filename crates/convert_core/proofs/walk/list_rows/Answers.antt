@@ -2,9 +2,10 @@ use Rattle.std.specs.Result.{IsErrOf}
 use Rattle.std.proofs.Common.{Err, sym, ap, subst, ◌∙◌, arith}
 use Rattle.std.proofs.lemmas.Result.{err_from_is_err_and}
 use Rattle.poly_model.specs.Systems.{System}
+use Rattle.poly_io.specs.Causes.{RisesAt}
 use Rattle.reverse_step.specs.Walks.{Walk}
 use Rattle.convert_core.specs.declared.walk.Ended.TheVariants.{Overflow, WriteFault}
-use Rattle.convert_core.specs.Listed.{RisesAt, WritesStep, EndsStep}
+use Rattle.convert_core.specs.Listed.{WritesStep, EndsStep}
 use Rattle.convert_core.proofs.Searching.{steps_at_start, takes_steps}
 use Rattle.convert_core.proofs.Steps.{Going, HasEnded, begins, goes, ends}
 use Rattle.convert_core.proofs.Stops.{stops_first, stops_rows, stops_cause, stops_due}

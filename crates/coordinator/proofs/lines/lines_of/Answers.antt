@@ -2,7 +2,7 @@ use Rattle.std.proofs.Common.{length, ◌≤◌, List, sym, subst}
 use Rattle.poly_num.specs.Vectors.{Vector}
 use Rattle.poly_model.specs.Limits.{most_columns}
 use Rattle.poly_model.specs.Systems.{cone_of}
-use Rattle.coordinator.proofs.LineCounts.{few_lines}
+use Rattle.search_laws.proofs.LineCounts.{few_lines}
 use Rattle.coordinator.proofs.lines.lines_of.Goals as goal
 
 pub returns-in-Ok-prepare-clause-few : goal.returns-in-Ok-prepare-clause-few

@@ -1,8 +1,8 @@
 use Rattle.std.proofs.Common.{◌≡◌, ◌∙◌, ◌+◌, ap, subst, arith, length, get_or, Ordering}
 use Rattle.poly_num.specs.Signs.{sign_of}
+use Rattle.linear_laws.specs.Distinct.{AreDistinct}
 use Rattle.dictionary.specs.Views.{number}
 use Rattle.lex_pivot.specs.Leads.{lead_with}
-use Rattle.dictionary_laws.specs.Keys.{AreDistinct}
 use Rattle.lex_pivot.proofs.LeadLemmas.{join_more}
 use Rattle.lex_pivot.proofs.leads.add_cells.Goals as goal
 

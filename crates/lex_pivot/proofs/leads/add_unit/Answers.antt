@@ -1,5 +1,6 @@
 use Rattle.std.proofs.Common.{subst, sym, refl, ◌<ℤ◌, ℤ, pos, List, ℕ, ◌∙◌}
-use Rattle.dictionary_laws.specs.Keys.{AreDistinct, HaveSameLabels}
+use Rattle.linear_laws.specs.Distinct.{AreDistinct}
+use Rattle.dictionary_laws.specs.Keys.{HaveSameLabels}
 use Rattle.lex_pivot.proofs.LeadLemmas.{unit_first, unit_behind}
 use Rattle.lex_pivot.proofs.leads.add_unit.Goals as goal
 

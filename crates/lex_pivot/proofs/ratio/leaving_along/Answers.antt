@@ -1,10 +1,10 @@
 use Rattle.std.proofs.Common.{sym, subst, arith, refl, ◌<◌, ◌+◌, length, take, get_or, ℕ, List, Option, Some}
 use Rattle.std.proofs.lemmas.List.{take_all}
 use Rattle.std.specs.Option.{MatchOption}
+use Rattle.linear_laws.specs.Distinct.{AreDistinct}
 use Rattle.dictionary.specs.Views.{table_of}
 use Rattle.dictionary.specs.Cobases.{AreOutside}
 use Rattle.dictionary.specs.Positions.{IsCellColumn}
-use Rattle.dictionary_laws.specs.Keys.{AreDistinct}
 use Rattle.poly_model.specs.Tree.{Leaves}
 use Rattle.lex_pivot.specs.declared.candidates.Candidate.{Candidate}
 use Rattle.lex_pivot.specs.Ratios.{NoneLeaves, IsBestAt, candidate_row}

@@ -6,11 +6,11 @@ use Rattle.run_ledger.proofs.printing.print_record.Goals as goal
 
 pub returns-in_err-payload-clause-rows : goal.returns-in_err-payload-clause-rows
 returns-in_err-payload-clause-rows g c payloads r at is =
-    stops_at_once g.O.Sink r.rows c.args.shown c.args.out.now c.from_residual.result c.from_residual.ensures.0
+    stops_at_once g.O.Sink r.rows c.args.printed c.args.out.now c.from_residual.result c.from_residual.ensures.0
 
 pub returns-in_err-rows-clause-rows : goal.returns-in_err-rows-clause-rows
 returns-in_err-rows-clause-rows g c payloads r at is =
-    stops_at_once g.O.Sink r.rows c.args.shown c.args.out.now c.from_residual-in_err-rows.result
+    stops_at_once g.O.Sink r.rows c.args.printed c.args.out.now c.from_residual-in_err-rows.result
     c.from_residual-in_err-rows.ensures.0
 
 pub returns-in_err-rows-clause-bad : goal.returns-in_err-rows-clause-bad
@@ -26,12 +26,12 @@ returns-in_err-rows-clause-bad g c place payloads e at =
 
 pub returns-in_err-row-clause-rows : goal.returns-in_err-row-clause-rows
 returns-in_err-row-clause-rows g c payloads r at is =
-    stops_at_once g.O.Sink r.rows c.args.shown c.args.out.now c.from_residual-in_err-row.result
+    stops_at_once g.O.Sink r.rows c.args.printed c.args.out.now c.from_residual-in_err-row.result
     c.from_residual-in_err-row.ensures.0
 
 pub returns-in_err-print_rows-clause-rows : goal.returns-in_err-print_rows-clause-rows
 returns-in_err-print_rows-clause-rows g c payloads r at is =
-    stops_again c.in_ok-rows.rows r.rows c.args.shown _ _ _ c.from_residual-in_err-print_rows.result
+    stops_again c.in_ok-rows.rows r.rows c.args.printed _ _ _ c.from_residual-in_err-print_rows.result
     (c.in_ok-rows.ensures.rows r
     (whole_there c.args.records.now.n payloads c.args.i r c.in_ok-payload.payload c.as_slice.result.now is
     (c.in_ok-payload.ensures.bytes payloads at) c.as_slice.ensures))
@@ -39,7 +39,7 @@ returns-in_err-print_rows-clause-rows g c payloads r at is =
 
 pub returns-clause-rows : goal.returns-clause-rows
 returns-clause-rows g c payloads r at is =
-    writes_again c.in_ok-rows.rows r.rows c.args.shown _ _ _
+    writes_again c.in_ok-rows.rows r.rows c.args.printed _ _ _
     (c.in_ok-rows.ensures.rows r
     (whole_there c.args.records.now.n payloads c.args.i r c.in_ok-payload.payload c.as_slice.result.now is
     (c.in_ok-payload.ensures.bytes payloads at) c.as_slice.ensures))

@@ -15,10 +15,10 @@ invariant-loop-i g l = record {
   quiet : IsQuiet g.D.Disk.seen g.D.Disk.images g.D.Disk.moment g.D.Disk.since l.fn.disk l.disk;
   disk_same : g.D.Disk.faults l.disk ≡ g.D.Disk.faults l.fn.disk;
   sink_same : g.O.Sink.faults l.out ≡ g.O.Sink.faults l.fn.out;
-  kind : l.shown.listing ≡ l.fn.shown.listing;
+  kind : l.printed.listing ≡ l.fn.printed.listing;
   owes : (s : Search) (replies : List Reply) (payloads : List (List ℕ)) →
       IsLedgerAt l.fn.records.ledger.now payloads (g.D.Disk.seen l.fn.disk) (g.D.Disk.images l.fn.disk) →
       IsLedgerText s replies payloads → s.polyhedron.n ≡ l.fn.records.n →
-      OwesRows g.O.Sink (recorded_rows replies) l.fn.shown l.fn.out (recorded_rows (drop (l.i - 1) replies)) l.shown
+      OwesRows g.O.Sink (recorded_rows replies) l.fn.printed l.fn.out (recorded_rows (drop (l.i - 1) replies)) l.printed
       l.out;
 }

@@ -4,7 +4,6 @@ use Rattle.std.specs.Io.KnownBytes.{Appends}
 use Rattle.poly_model.specs.ListingText.{row_text}
 use Rattle.poly_model.specs.Systems.{Polyhedron}
 use Rattle.poly_io.specs.Written.{AppendsPart}
-use Rattle.row_printer.specs.Rows.{HasWritten}
 use Rattle.run_state.specs.Runs.{recorded_rows}
 use Rattle.run_ledger.specs.declared.stops.PrintStop.TheVariants.{BadLedger}
 use Rattle.run_ledger.specs.Recorded.{IsNoReplyAt}
@@ -39,7 +38,7 @@ returns-in_err-listing-2-clause-listed g c s replies payloads at text same lines
     c.in_ok-listing.ensures.prints.whole)
     (subst (λ k. AppendsPart (g.O.Sink.written c.begin.new.out) (g.O.Sink.written c.print_records.new.out)
     (flat_map (row_text k) (recorded_rows replies)))
-    (c.none.ensures.listing ∙ c.in_ok-listing.ensures.kind ∙ c.kind.ensures) rows.part)
+    (c.in_ok-listing.ensures.kind ∙ c.kind.ensures) rows.part)
 
 pub returns-in_err-listing-2-clause-bad : goal.returns-in_err-listing-2-clause-bad
 returns-in_err-listing-2-clause-bad g c place payloads e at =
@@ -69,7 +68,7 @@ returns-in_err-finish-clause-listed g c s replies payloads at text same lines =
     c.in_ok-listing.ensures.prints.whole)
     (subst (λ k. Appends (g.O.Sink.written c.begin.new.out) (g.O.Sink.written c.print_records.new.out)
     (flat_map (row_text k) (recorded_rows replies)))
-    (c.none.ensures.listing ∙ c.in_ok-listing.ensures.kind ∙ c.kind.ensures) rows.whole.bytes)
+    (c.in_ok-listing.ensures.kind ∙ c.kind.ensures) rows.whole)
     c.in_err-finish.ensures.part
 
 pub returns-clause-listed : goal.returns-clause-listed
@@ -80,11 +79,11 @@ returns-clause-listed g c s replies payloads at text same lines =
     let rows = c.in_ok-listing-2.ensures.rows s replies payloads at text n in
     ends_whole s replies p vectors same lines (g.O.Sink.written c.args.out.now) (g.O.Sink.written c.begin.new.out)
     (g.O.Sink.written c.print_records.new.out) (g.O.Sink.written c.finish.new.out) _ refl
+    rows.count
     (subst (λ (t : List ℕ). Appends (g.O.Sink.written c.args.out.now) (g.O.Sink.written c.begin.new.out) t)
     (front_of s replies p vectors same lines c.kind.result c.n-2.result c.kind.ensures c.n-2.ensures.value)
     c.in_ok-listing.ensures.prints.whole)
-    c.none.result.tally c.in_ok-listing-2.field-0.tally c.none.ensures.rows refl
-    (subst (λ k. HasWritten k (g.O.Sink.written c.begin.new.out) (g.O.Sink.written c.print_records.new.out)
-    c.none.result.tally c.in_ok-listing-2.field-0.tally (recorded_rows replies))
-    (c.none.ensures.listing ∙ c.in_ok-listing.ensures.kind ∙ c.kind.ensures) rows.whole)
+    (subst (λ k. Appends (g.O.Sink.written c.begin.new.out) (g.O.Sink.written c.print_records.new.out)
+    (flat_map (row_text k) (recorded_rows replies)))
+    (c.in_ok-listing.ensures.kind ∙ c.kind.ensures) rows.whole)
     c.in_ok-finish.ensures.whole

@@ -1,8 +1,8 @@
 use Rattle.std.proofs.Common.{◌≡◌, ◌∙◌, List, ℕ, Err, length, subst, arith}
+use Rattle.poly_io.specs.Causes.{RisesAt}
 use Rattle.disk_core.proofs.Quiets.{quiet_then}
 use Rattle.run_state.specs.Runs.{IsRunOf}
 use Rattle.run_ledger.specs.Recorded.{IsRunOfFirst}
-use Rattle.run_ledger.specs.Stops.{RisesAt}
 use Rattle.run_ledger.specs.declared.stops.ReopenStop.TheVariants.{BadLedger, DiskFault}
 use Rattle.run_ledger.proofs.Errors.{came, none_rose, rises_again}
 use Rattle.run_ledger.proofs.LedgerReads.{run_of_more, stays}

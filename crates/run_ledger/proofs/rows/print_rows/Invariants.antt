@@ -5,7 +5,7 @@ use Rattle.run_ledger.proofs.rows.print_rows.Given as goal
 
 abbrev pub invariant-rows : goal.invariant-rows
 invariant-rows g l = record {
-  owes : OwesRows g.O.Sink l.fn.rows l.fn.shown l.fn.out l.rows l.shown l.out;
+  owes : OwesRows g.O.Sink l.fn.rows l.fn.printed l.fn.out l.rows l.printed l.out;
   wide : AreWide (length l.row) l.rows;
 }
 

@@ -1,4 +1,4 @@
--- There are no more lines than columns.
+-- There is a line for each free column, so no more lines than columns.
 use Rattle.std.proofs.Common.{arith, ◌≡◌, ℕ, ◌≤◌, List, [], ◌∷◌, length, refl}
 use Rattle.std.specs.List.{range_with_len}
 use Rattle.std.proofs.lemmas.List.FromFn.{length-range_with_len}
@@ -8,23 +8,17 @@ use Rattle.poly_model.specs.Limits.{most_columns}
 use Rattle.poly_model.specs.Systems.{System}
 use Rattle.dictionary_laws.proofs.Filters.{range_has}
 use Rattle.dictionary_laws.proofs.KeyExchange.{ascending_distinct}
-use Rattle.dictionary_laws.specs.Keys.{AreDistinct}
-use Rattle.search_laws.specs.Shares.{StandOnce}
 use Rattle.search_laws.proofs.OnceLists.{no_longer}
 
-stand_once : (ks : List ℕ) → AreDistinct ks → StandOnce ks
-stand_once [] h = tt
-stand_once (k ∷ ks) h = (h.0, stand_once ks h.1)
-
-line_for_each : (sys : System) (free : List ℕ) (lines : List Vector) → AreLinesOf sys free lines → length lines ≡ length free
+pub line_for_each : (sys : System) (free : List ℕ) (lines : List Vector) → AreLinesOf sys free lines → length lines ≡ length free
 line_for_each sys [] [] h = refl
 line_for_each sys (j ∷ free) (y ∷ lines) h = let e = line_for_each sys free lines h.1 in omega (arith, e)
 line_for_each sys [] (y ∷ lines) h = absurd h
 line_for_each sys (j ∷ free) [] h = absurd h
 
-few_columns : (sys : System) (free : List ℕ) → AreFreeColumns sys free → length free ≤ sys.n
+pub few_columns : (sys : System) (free : List ℕ) → AreFreeColumns sys free → length free ≤ sys.n
 few_columns sys free f =
-    let l = no_longer free (range_with_len 0 sys.n) (stand_once free (ascending_distinct free f.ascending))
+    let l = no_longer free (range_with_len 0 sys.n) (ascending_distinct free f.ascending)
     (λ j c. let w = ((f.exactly j).1 c).within in range_has 0 sys.n j (omega arith) (omega (arith, w))) in
     omega (arith, l, length-range_with_len 0 sys.n)
 

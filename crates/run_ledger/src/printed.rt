@@ -1,0 +1,13 @@
+//! What was printed of a run so far.
+ghost use Rattle.std.specs.Prelude.{◌<◌, ◌^◌};
+
+use row_printer::Listing;
+
+/// A listing on its way.
+#[derive(Drop)]
+pub(crate) struct Printed {
+    pub listing: Listing,
+    /// How many rows it has; the number stands still at `2^64 - 1`.
+    pub rows: u64,
+    ghost few: { rows < 2 ^ 64 },
+}
