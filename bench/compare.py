@@ -20,7 +20,8 @@ INPUTS = {
     "tangents 6, 80": tangents(random, 6, 80, 6), "points 7, 60": points(random, 7, 60, 9),
     "0/1 points 9, 60": zero_one(random, 9, 60), "0/1 points 10, 90": zero_one(random, 10, 90),
     "0/1 points 10, 130": zero_one(random, 10, 130),
-    "transportation 5 x 6": transportation([13, 15, 14, 16, 12], [14, 10, 11, 15, 12, 8]), "Birkhoff 5": birkhoff(5),
+    "transportation 5 x 6": transportation([13, 15, 14, 16, 12], [14, 10, 11, 15, 12, 8], redundant=False),
+    "Birkhoff 5": birkhoff(5),
     "metric cone 6": metric(6, False), "metric polytope 5": metric(5, True), "cut polytope 6": cut(6),
     "permutahedron 7 by rows": permutahedron(7), "permutahedron 6 by points": permutations_of(6),
     "hypersimplex 14, 5": hypersimplex(14, 5), "blocking 16, 40": blocking(random, 16, 40),
@@ -332,7 +333,8 @@ Seconds of wall time, with the start of the process, reading and printing; the l
 than a second. `> {limit:.0f}`: stopped after {limit:.0f} seconds. Rows are those of the listing without lines and equations. Wherever two programs
 answered, their listings were compared as sets. **Wrong** is one that differs from ours, where as many of the other programs or
 more agree with ours; the remarks say by how much. The ledger of `run` stands in the folder for temporary files, and each of its
-records is synced.
+records is synced. The transportation polytope is given without the equation that follows from the others: with that one mplrs
+left out 17 of its 95412 vertices on 2026-11-29, lrs and Normaliz none; cddlib and PPL were stopped.
 
 {table(["input", "m x n", "rows"] + names, lines)}
 

@@ -51,12 +51,15 @@ def pyramid(d):
     return "H", 0, rows
 
 
-def transportation(a, b):
-    """Nonnegative tables with these sums of rows and columns."""
+def transportation(a, b, redundant=True):
+    """Nonnegative tables with these sums of rows and columns. One of these equations follows from the others; it is left out
+    where `redundant` is false."""
     n = len(a) * len(b) + 1
     at = lambda i, j: 1 + i * len(b) + j
     sums = [sparse(n, [(at(i, j), 1) for j in range(len(b))], -a[i]) for i in range(len(a))]
     sums += [sparse(n, [(at(i, j), 1) for i in range(len(a))], -b[j]) for j in range(len(b))]
+    if not redundant:
+        sums.pop()
     return "H", len(sums), sums + [sparse(n, [(k, 1)]) for k in range(1, n)]
 
 
