@@ -26,6 +26,13 @@ const FIRST_PAUSE: u64 = 100;
 
 const LONGEST_PAUSE: u64 = 10000;
 
+/// A child that was started and waits for its text, and what it is to print.
+#[derive(Drop)]
+struct Waiting<P: OpenProcess + Drop> {
+    child: Child<P>,
+    reply: File,
+}
+
 /// A child that was started, what it was started for, and what it has printed so far.
 #[derive(Drop)]
 struct Running<P: OpenProcess + Drop> {
@@ -43,6 +50,11 @@ struct Running<P: OpenProcess + Drop> {
 /// where reading or waiting fails, where it prints more than `MOST_REPLY_BYTES`, and where there is no memory for what it
 /// prints; so no collect answers `AllocError`. Whatever has failed is killed and waited for. Processes that are not collected
 /// are left to themselves where these workers are dropped.
+///
+/// To start a process takes about a millisecond. So a collect starts one before it waits, which waits for the text of the
+/// next attempt: from the first collect on there is one process more than attempts that are out, which does nothing. Where it
+/// was not started, or takes no text, the next attempt starts its own; that is no fault. It ends where these workers are
+/// dropped: it finds its input empty.
 #[derive(Drop)]
 pub struct ChildWorkers<'r, R: Processes + Files<File = File> + Clock> {
     rt: &'r R,
@@ -52,6 +64,8 @@ pub struct ChildWorkers<'r, R: Processes + Files<File = File> + Clock> {
     folder: PathBuf,
     out: Vec<u64>,
     running: Vec<Running<R::Started>>,
+    // started beforehand, for the next attempt
+    next: Option<Waiting<R::Started>>,
     faults: u64,
     ghost run: { ∥ AreRun (map (λ r. r.attempt) running.items) out.items ∥₁ },
 }
@@ -77,6 +91,7 @@ impl<'r, R: Processes + Files<File = File> + Clock> ChildWorkers<'r, R> {
             folder,
             out: Vec::new(alloc),
             running: Vec::new(alloc),
+            next: None,
             faults: 0,
         }
     }
@@ -108,24 +123,32 @@ impl<'r, R: Processes + Files<File = File> + Clock> ChildWorkers<'r, R> {
         command.spawn(self.rt)
     }
 
-    // Starts the program for an attempt, on a text.
-    fn launch(&self, attempt: u64, text: &[u8]) -> io::Result<Running<R::Started>>
+    // Starts the program, which waits for its text. The number tells its reply's file apart.
+    fn prepare(&self, number: u64) -> io::Result<Waiting<R::Started>> {
+        let folder = self.folder.as_path();
+        let UnnamedFile { writer, reader } = unnamed_file(self.rt, self.alloc, folder, number)?;
+        let child = self.spawn(writer)?;
+        Ok(Waiting {
+            child,
+            reply: reader,
+        })
+    }
+
+    // A process that works on an attempt: the one that was started beforehand, where it takes the text, or else a new one.
+    fn launch(
+        &self,
+        waiting: Option<Waiting<R::Started>>,
+        attempt: u64,
+        text: &[u8],
+    ) -> io::Result<Running<R::Started>>
         ensures { IfOk result (λ r. r.attempt ≡ attempt) }
     {
-        let folder = self.folder.as_path();
-        let UnnamedFile { writer, reader } = unnamed_file(self.rt, self.alloc, folder, attempt)?;
-        let mut child = self.spawn(writer)?;
-        match give(&mut child, text) {
-            Ok(()) => Ok(Running {
-                attempt,
-                child,
-                reply: reader,
-            }),
-            Err(e) => {
-                end(child);
-                Err(e)
+        if let Some(waiting) = waiting {
+            if let Ok(running) = waiting.take_up(attempt, text) {
+                return Ok(running);
             }
         }
+        self.prepare(attempt)?.take_up(attempt, text)
     }
 
     // Sends an attempt out. There is room for it before the program is started.
@@ -137,12 +160,43 @@ impl<'r, R: Processes + Files<File = File> + Clock> ChildWorkers<'r, R> {
         if self.out.reserve(1).is_err() || self.running.reserve(1).is_err() {
             return Err(Failed);
         }
-        let Ok(running) = self.launch(attempt, text) else {
+        let waiting = self.next.take();
+        let Ok(running) = self.launch(waiting, attempt, text) else {
             return Err(Failed);
         };
         self.out.push_reserved(attempt);
         self.running.push_reserved(running);
         Ok(())
+    }
+
+    // Starts a process for the next attempt, where none waits for it.
+    fn look_ahead(&mut self)
+        ensures out { self.new.out.items ≡ self.old.out.items }
+        ensures faults { self.new.faults ≡ self.old.faults }
+    {
+        if self.next.is_none() {
+            self.next = self.prepare(u64::MAX).ok();
+        }
+    }
+}
+
+impl<P: OpenProcess + Drop> Waiting<P> {
+    // Gives it the text of an attempt. Where it takes none it is ended.
+    fn take_up(self, attempt: u64, text: &[u8]) -> io::Result<Running<P>>
+        ensures { IfOk result (λ r. r.attempt ≡ attempt) }
+    {
+        let Waiting { mut child, reply } = self;
+        match give(&mut child, text) {
+            Ok(()) => Ok(Running {
+                attempt,
+                child,
+                reply,
+            }),
+            Err(e) => {
+                end(child);
+                Err(e)
+            }
+        }
     }
 }
 
@@ -227,8 +281,8 @@ fn first_ended<P: OpenProcess + Drop>(running: &mut [Running<P>]) -> Option<usiz
     None
 }
 
-// Waits until one of these has ended. The pauses grow with the time that was waited, so that little is lost at the end of a
-// short one, and a long one costs little.
+// Waits until one of these has ended. A pause is a 32nd of the time that was waited, so that a child is found soon after its
+// end, and a long one costs little.
 fn wait_for_one<R: Clock, P: OpenProcess + Drop>(rt: &R, running: &mut [Running<P>]) -> usize
     requires { 0 < length running.old }
     ensures same { map (λ r. r.attempt) running.new ≡ map (λ r. r.attempt) running.old }
@@ -240,7 +294,7 @@ fn wait_for_one<R: Clock, P: OpenProcess + Drop>(rt: &R, running: &mut [Running<
             return i;
         }
         thread::sleep(rt, Duration::from_micros(pause));
-        pause = LONGEST_PAUSE.min(pause.saturating_add(pause / 8));
+        pause = LONGEST_PAUSE.min(pause.saturating_add(pause / 32));
     }
     0
 }
@@ -265,6 +319,7 @@ impl<'r, R: Processes + Files<File = File> + Clock> Workers for ChildWorkers<'r,
     }
 
     fn collect(&mut self) -> Result<Collected, AllocError> {
+        self.look_ahead();
         // A child runs for each attempt that is out.
         let place = wait_for_one(self.rt, &mut self.running);
         let collected = self.running.remove(place).finish(self.alloc);

@@ -197,9 +197,9 @@ fn gives_what_the_fates_say(rt: HostRuntime) -> Result<(), Fail> {
 /// the file.
 const MEETS: &[&str] = &[
     "-c",
-    "read name; if [ $name = wait ]; then i=0; while [ $i -lt 2000000 ]; do \
+    "read name; if [ \"$name\" = wait ]; then i=0; while [ $i -lt 2000000 ]; do \
         if [ -e tests_of_workers_io.made ]; then echo met; exit 3; fi; i=$((i+1)); done; \
-        else : > tests_of_workers_io.made; fi",
+        elif [ \"$name\" = make ]; then : > tests_of_workers_io.made; fi",
 ];
 
 #[test]
@@ -243,31 +243,50 @@ fn gather<R: Processes + Files<File = File> + Clock, S: Sink>(
     Ok(())
 }
 
-/// A program, whether it is started on a text of so many bytes, how many bytes it gives back, and how many faults there were.
-const PROGRAMS: [(&str, usize, bool, usize, u64); 4] = [
-    ("/bin/cat", 0, true, 0, 0),
-    ("/bin/cat", 50000, true, 50000, 0),
-    ("/bin/true", 1000000, false, 0, 1),
-    ("/bin/no such program", 2, false, 0, 1),
+/// Words for the shell: every second child of these ends at once, and takes nothing; the others give back what they get.
+const TURNS: &[&str] = &[
+    "-c",
+    "if [ -e tests_of_workers_io.turn ]; then rm tests_of_workers_io.turn; exit; fi; \
+        : > tests_of_workers_io.turn; exec cat",
+];
+
+/// A program and its words, whether it is started on a text of so many bytes, how many bytes it gives back, and how many
+/// faults there were.
+const PROGRAMS: [(&str, &[&str], usize, bool, usize, u64); 5] = [
+    ("/bin/cat", &[], 0, true, 0, 0),
+    ("/bin/cat", &[], 50000, true, 50000, 0),
+    ("/bin/true", &[], 1000000, false, 0, 1),
+    ("/bin/no such program", &[], 2, false, 0, 1),
+    // where the one that was started beforehand takes no text, another is started
+    ("/bin/sh", TURNS, 1000000, true, 1000000, 0),
 ];
 
 #[test]
 fn a_child_gives_what_it_prints(rt: HostRuntime) -> Result<(), Fail> {
     let alloc = rt.alloc();
-    for (name, len, started, given, faults) in PROGRAMS {
+    let _ = fs::remove_file(&rt, "tests_of_workers_io.turn");
+    for (name, words, len, started, given, faults) in PROGRAMS {
         let program = Path::new(name).to_path_buf(alloc)?;
         let folder = std::env::temp_dir(&rt)?;
-        let mut workers = ChildWorkers::new(&rt, alloc, program, &[], folder);
+        let mut workers = ChildWorkers::new(&rt, alloc, program, words, folder);
         let text = vec![in alloc; b'a'; len]?;
-        let begun = workers.start(1, &text).is_ok();
-        let mut back = 0;
-        if !workers.out().is_empty() {
-            if let Collected::Reply { bytes, .. } = workers.collect()? {
-                back = bytes.len();
+        for attempt in 1..3 {
+            let begun = workers.start(attempt, &text).is_ok();
+            let mut back = 0;
+            if !workers.out().is_empty() {
+                if let Collected::Reply { bytes, .. } = workers.collect()? {
+                    back = bytes.len();
+                }
             }
+            let found = (begun, back, workers.faults());
+            assert_eq!(rt;
+                found,
+                (started, given, faults.saturating_mul(attempt)),
+                "{} {}",
+                name,
+                attempt
+            );
         }
-        let found = (begun, back, workers.faults());
-        assert_eq!(rt; found, (started, given, faults), "{}", name);
     }
     Ok(())
 }

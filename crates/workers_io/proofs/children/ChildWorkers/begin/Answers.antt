@@ -1,13 +1,18 @@
 use Rattle.workers_io.proofs.RunLemmas.{same_runs, start_runs}
 use Rattle.workers_io.proofs.children.ChildWorkers.begin.Goals as goal
 
-pub invariant_of-self-else-is_err : goal.invariant_of-self-else-is_err
-invariant_of-self-else-is_err g c =
+pub invariant_of-self-then-is_err-2 : goal.invariant_of-self-then-is_err-2
+invariant_of-self-then-is_err-2 g c =
     let s = c.args.self.now in
     record { run = same_runs s.running.items c.reserve-else-is_err.new.self.items (λ r. r.attempt) s.out.items c.reserve.new.self.items c.reserve-else-is_err.ensures.items c.reserve.ensures.items s.run }
 
 pub invariant_of-self-2 : goal.invariant_of-self-2
 invariant_of-self-2 g c =
+    let s = c.args.self.now in
+    record { run = same_runs s.running.items c.reserve-else-is_err.new.self.items (λ r. r.attempt) s.out.items c.reserve.new.self.items c.reserve-else-is_err.ensures.items c.reserve.ensures.items s.run }
+
+pub invariant_of-self-3 : goal.invariant_of-self-3
+invariant_of-self-3 g c =
     let s = c.args.self.now in
     record {
       run = start_runs s.running.items c.reserve-else-is_err.new.self.items c.push_reserved-2.new.self.items _ (λ r. r.attempt) s.out.items c.reserve.new.self.items c.push_reserved.new.self.items c.args.attempt

@@ -5,13 +5,13 @@ use Rattle.workers_io.proofs.children.ChildWorkersWorkers.collect.Goals as goal
 
 pub wait_for_one-place-requires : goal.wait_for_one-place-requires
 wait_for_one-place-requires g c =
-    let s = c.args.self.now in
-    let some : 0 < length s.running.items = one_runs s.running.items (λ r. r.attempt) s.out.items s.run c.requires in
+    let s = c.look_ahead.new.self in
+    let some : 0 < length s.running.items = one_runs s.running.items (λ r. r.attempt) s.out.items s.run (rw c.look_ahead.ensures.out c.requires) in
     search rules
 
 pub invariant_of-self : goal.invariant_of-self
 invariant_of-self g c =
-    let s = c.args.self.now in
+    let s = c.look_ahead.new.self in
     let w = c.wait_for_one-place in
     let waited = w.new.running in
     let same = w.ensures.same ∙ ap (map (λ r. r.attempt)) c.deref_mut.ensures.value in
