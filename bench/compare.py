@@ -33,19 +33,22 @@ FAMILIES = {
     "random spheres in dimension 4, points": {n: sphere(random, 4, n, 9) for n in [50, 100, 200, 400, 800]},
 }
 LARGE = 3 ** 90
-# A file for the programs of the format of lrslib, or a polyhedron for all; and its listing, as linear rows and others, or None
-# where there is no point.
+# A file for the programs of the format of lrslib, or a polyhedron for all; its listing, as linear rows and others, or None
+# where there is no point; and where a program reads the file otherwise, by its own manual, as what, and the listing of that.
 SQUARE = "0 1 0\n0 0 1\n1 -1 0\n1 0 -1\n"
 CORNERS = ([], [(1, 0, 0), (1, 1, 0), (1, 0, 1), (1, 1, 1)])
 SMALL = {
     "the square, with `*****` for its number of rows": (f"H-representation\nbegin\n***** 3 rational\n{SQUARE}end\n", CORNERS),
     "the square, with the word `nonnegative` within a comment":
         (f"this is not nonnegative\nH-representation\nbegin\n4 3 rational\n2 -1 0\n2 1 0\n2 0 -1\n2 0 1\nend\n",
-         ([], [(1, 2, 2), (1, 2, -2), (1, -2, 2), (1, -2, -2)])),
+         ([], [(1, 2, 2), (1, 2, -2), (1, -2, 2), (1, -2, -2)]),
+         ("reads `nonnegative` as an option", ([], [(1, 0, 0), (1, 2, 0), (1, 0, 2), (1, 2, 2)]))),
     "a triangle, by the option `nonnegative` and one row":
-        ("H-representation\nnonnegative\nbegin\n1 3 rational\n4 -2 -1\nend\n", ([], [(1, 0, 0), (1, 2, 0), (1, 0, 4)])),
+        ("H-representation\nnonnegative\nbegin\n1 3 rational\n4 -2 -1\nend\n", ([], [(1, 0, 0), (1, 2, 0), (1, 0, 4)]),
+         ("has no such option", ([(0, 1, -2)], [(1, 2, 0), (0, -1, 0)]))),
     "the square, with an option `maxoutput 1` behind `end`":
-        (f"H-representation\nbegin\n4 3 rational\n{SQUARE}end\nmaxoutput 1\n", CORNERS),
+        (f"H-representation\nbegin\n4 3 rational\n{SQUARE}end\nmaxoutput 1\n", CORNERS,
+         ("prints one row, as asked", ([], [(1, 0, 0)]))),
     "a row that ends in `end`, one number short": ("H-representation\nbegin\n2 3 rational\n0 1 0\n0 0 end\n", None),
     "no point": (("H", 0, [[-1, 1], [0, -1]]), None),
     "equations that contradict one another": (("H", 2, [[-1, 1], [-2, 1]]), None),
@@ -63,6 +66,10 @@ SMALL = {
          ([], [(1, 0, 0), (2 ** 100, 1, 0), (3 * 2 ** 99, 0, 1),
                primitive([3 * 2 ** 199 - 1, 3 * 2 ** 99 - 1, 2 ** 100 - 1])])),
 }
+
+DIFFERS = "**another listing**"
+# which program has another listing than ours, and of what
+differing = []
 
 source, project, ledger = (os.path.join(work, name) for name in ["file", "input", "ledger"])
 MPI = ["mpirun", "--allow-run-as-root", "--oversubscribe", "-np", str(WORKERS + 2), mplrs, source]
@@ -210,6 +217,7 @@ def measured(title, polyhedron, names):
         told += [f"{name} {note}" for note in notes]
         if not same:
             ended[name] = ended[name][0], "wrong"
+            differing.append(f"{name}, {title}")
         (agree if same else differ).append(name)
     if len(differ) > len([name for name in agree if name not in OURS]) or OURS & {*differ}:
         sys.exit(f"bench/compare: {title}: {', '.join(differ)} and {', '.join(agree)} have different listings: {told}")
@@ -228,7 +236,7 @@ def shown_time(entry):
     return {"done": f"{seconds:.2f}", "limit": f"> {limit:.0f}", "wrong": f"**wrong**, {seconds:.2f}"}.get(how, "stops")
 
 
-def answer_of(name, given, wanted):
+def answer_of(name, given, wanted, otherwise=None):
     """What a program says to a small file."""
     write_input(given)
     # bench/ppl_convert.cc prints no equations
@@ -247,7 +255,9 @@ def answer_of(name, given, wanted):
         return "**prints a listing**"
     same, notes = notes_of(name, kind, wanted, got)
     if not same:
-        return "**another listing**" if got[1] or got[0] else "no listing"
+        if otherwise and notes_of(name, kind, otherwise[1], got)[0]:
+            return otherwise[0]
+        return DIFFERS
     return ", ".join(notes) or "the listing"
 
 
@@ -295,13 +305,15 @@ for family, members in FAMILIES.items():
 
 asked = [name for name in names if name not in ["ours, run", "mplrs"]]
 small = []
-for title, (given, wanted) in SMALL.items():
+for title, (given, wanted, *otherwise) in SMALL.items():
     what = "no listing" if wanted is None else "a listing"
-    small.append([title, what] + [answer_of(name, given, wanted) for name in asked])
+    small.append([title, what] + [answer_of(name, given, wanted, *otherwise) for name in asked])
     print(*small[-1], sep=" | ", flush=True)
     if "**" in small[-1][2 + asked.index("ours")]:
         sys.exit(f"bench/compare: {title}: this program has another listing")
 minutes = (time.time() - began) / 60
+differing += [f"{asked[k]}, {title}" for title, _, *answers in small for k, answer in enumerate(answers) if answer == DIFFERS]
+verdict = f"Of ours differ: {'; '.join(differing)}." if differing else "No listing of ours differs from another program's."
 
 
 def mean(name):
@@ -331,8 +343,10 @@ Written by `bench/compare` on {day}, in one run of {minutes:.0f} minutes{f", of 
 
 Seconds of wall time, with the start of the process, reading and printing; the least of three calls where the first took less
 than a second. `> {limit:.0f}`: stopped after {limit:.0f} seconds. Rows are those of the listing without lines and equations. Wherever two programs
-answered, their listings were compared as sets. **Wrong** is one that differs from ours, where as many of the other programs or
-more agree with ours; the remarks say by how much. The ledger of `run` stands in the folder for temporary files, and each of its
+answered, their listings were compared as sets, here and in the table of small files. **{verdict}** Remarks, and no differences, are
+rows that are printed again, a facet `1 0 .. 0` that no point touches, and the vertex of a cone, which cddlib leaves out, and takes
+for granted where it reads rays alone. Where a listing differs it is **wrong** if as many of the other programs or more agree with ours.
+The ledger of `run` stands in the folder for temporary files, and each of its
 records is synced. The transportation polytope is given without the equation that follows from the others: with that one mplrs
 left out 17 of its 95412 vertices on 2026-11-29, lrs and Normaliz none; cddlib and PPL were stopped.
 
@@ -352,9 +366,9 @@ Remarks:
 
 ## Small files
 
-What each program makes of small files on which programs differ. *The listing* is the one that the words before it describe; where
-a program answers otherwise, it may well read the file otherwise by its own manual. `-`: not asked, since the program has a format
-of its own. A status line of this program is quoted.
+What each program makes of small files on which programs differ. *The listing* is the one that the words before it describe. Where
+a program reads the file otherwise by its own manual, the table says how, and that its listing is the one of that was checked. `-`: not
+asked, since the program has a format of its own. A status line of this program is quoted.
 
 {table(["file", "has"] + asked, small)}
 """
