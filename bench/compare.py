@@ -48,7 +48,7 @@ SMALL = {
          ("has no such option", ([(0, 1, -2)], [(1, 2, 0), (0, -1, 0)]))),
     "the square, with an option `maxoutput 1` behind `end`":
         (f"H-representation\nbegin\n4 3 rational\n{SQUARE}end\nmaxoutput 1\n", CORNERS,
-         ("prints one row, as asked", ([], [(1, 0, 0)]))),
+         ("prints one row, as asked", ([], [(1, 1, 1)]))),
     "a row that ends in `end`, one number short": ("H-representation\nbegin\n2 3 rational\n0 1 0\n0 0 end\n", None),
     "no point": (("H", 0, [[-1, 1], [0, -1]]), None),
     "equations that contradict one another": (("H", 2, [[-1, 1], [-2, 1]]), None),
@@ -342,13 +342,15 @@ Written by `bench/compare` on {day}, in one run of {minutes:.0f} minutes{f", of 
 ## Times
 
 Seconds of wall time, with the start of the process, reading and printing; the least of three calls where the first took less
-than a second. `> {limit:.0f}`: stopped after {limit:.0f} seconds. Rows are those of the listing without lines and equations. Wherever two programs
-answered, their listings were compared as sets, here and in the table of small files. **{verdict}** Remarks, and no differences, are
-rows that are printed again, a facet `1 0 .. 0` that no point touches, and the vertex of a cone, which cddlib leaves out, and takes
-for granted where it reads rays alone. Where a listing differs it is **wrong** if as many of the other programs or more agree with ours.
-The ledger of `run` stands in the folder for temporary files, and each of its
-records is synced. The transportation polytope is given without the equation that follows from the others: with that one mplrs
-left out 17 of its 95412 vertices on 2026-11-29, lrs and Normaliz none; cddlib and PPL were stopped.
+than a second. `> {limit:.0f}`: stopped after {limit:.0f} seconds. Rows are those of the listing without lines and equations. The ledger of `run` stands
+in the folder for temporary files, and each of its records is synced.
+
+Wherever two programs answered, their listings were compared as sets, here and in the table of small files.
+**{verdict}** Remarks, and no differences, are rows that are printed again, a facet
+`1 0 .. 0` that no point touches, and the vertex of a cone, which cddlib leaves out, and takes for granted where it reads rays
+alone. A listing that differs is **wrong** where as many of the other programs or more agree with ours. The transportation polytope
+is given without the equation that follows from the others: with that one mplrs left out 17 of its 95412 vertices on 2026-11-29,
+lrs and Normaliz none; cddlib and PPL were stopped.
 
 {table(["input", "m x n", "rows"] + names, lines)}
 
