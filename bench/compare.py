@@ -34,7 +34,7 @@ FAMILIES = {
 }
 LARGE = 3 ** 90
 # A file for the programs of the format of lrslib, or a polyhedron for all; its listing, as linear rows and others, or None
-# where there is no point; and where a program reads the file otherwise, by its own manual, as what, and the listing of that.
+# where there is no point; and where a program reads the file otherwise, as what, and the listing of that.
 SQUARE = "0 1 0\n0 0 1\n1 -1 0\n1 0 -1\n"
 CORNERS = ([], [(1, 0, 0), (1, 1, 0), (1, 0, 1), (1, 1, 1)])
 SMALL = {
@@ -313,7 +313,7 @@ for title, (given, wanted, *otherwise) in SMALL.items():
         sys.exit(f"bench/compare: {title}: this program has another listing")
 minutes = (time.time() - began) / 60
 differing += [f"{asked[k]}, {title}" for title, _, *answers in small for k, answer in enumerate(answers) if answer == DIFFERS]
-verdict = f"Of ours differ: {'; '.join(differing)}." if differing else "No listing of ours differs from another program's."
+verdict = f"Of ours differ: {'; '.join(differing)}." if differing else "Where both read a file alike, no listing of ours differs from another program's but as the remarks say."
 
 
 def mean(name):
@@ -346,9 +346,9 @@ than a second. `> {limit:.0f}`: stopped after {limit:.0f} seconds. Rows are thos
 in the folder for temporary files, and each of its records is synced.
 
 Wherever two programs answered, their listings were compared as sets, here and in the table of small files.
-**{verdict}** Remarks, and no differences, are rows that are printed again, a facet
-`1 0 .. 0` that no point touches, and the vertex of a cone, which cddlib leaves out, and takes for granted where it reads rays
-alone. A listing that differs is **wrong** where as many of the other programs or more agree with ours. The transportation polytope
+**{verdict}** A remark is a row that is printed
+again, a facet `1 0 .. 0` that no point touches, or the vertex of a cone, which cddlib leaves out, and takes for granted where it
+reads rays alone. A listing that differs is **wrong** where as many of the other programs or more agree with ours. The transportation polytope
 is given without the equation that follows from the others: with that one mplrs left out 17 of its 95412 vertices on 2026-11-29,
 lrs and Normaliz none; cddlib and PPL were stopped.
 
@@ -369,7 +369,7 @@ Remarks:
 ## Small files
 
 What each program makes of small files on which programs differ. *The listing* is the one that the words before it describe. Where
-a program reads the file otherwise by its own manual, the table says how, and that its listing is the one of that was checked. `-`: not
+a program reads the file otherwise, the table says how, and that its listing is the one of that was checked. `-`: not
 asked, since the program has a format of its own. A status line of this program is quoted.
 
 {table(["file", "has"] + asked, small)}
