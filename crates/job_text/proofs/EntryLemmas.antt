@@ -2,10 +2,10 @@
 use Rattle.std.proofs.Common.{◌≡◌, ◌<◌, ℕ, ℤ, List, [], ◌∷◌, ◌++◌, length, refl, sym, ap, ◌∙◌, append-nil, arith}
 use Rattle.std.specs.Fmt.{signed_decimal}
 use Rattle.std.specs.List.{AllByRecursion}
-use Rattle.plain_text.specs.Cuts.{Lacks, GoesOnWith, CutsWord}
+use Rattle.plain_text.specs.Cuts.{Lacks, GoesOnWith}
 use Rattle.plain_text.proofs.CutLemmas.{lacks_append}
 use Rattle.plain_text.proofs.NumberLemmas.{signed_lacks, signed_decimal_tells}
-use Rattle.plain_text.proofs.SpacedWords.{spaced, spaced_goes_on, one_more, AreFirst, next_exists, next_word_is, spaced_tell}
+use Rattle.plain_text.proofs.SpacedWords.{spaced, spaced_goes_on, one_more, AreFirst, behind_goes_on, next_is, spaced_tell}
 use Rattle.poly_num.specs.Numbers.{IsNum}
 use Rattle.poly_model.specs.ListingText.{entries_text, entry_text}
 
@@ -50,14 +50,11 @@ first_entries {v = v} {front = front} {rest = rest} a b g is same = record {
 }
 
 pub entry_is_next : (v front : List ℤ) (text rest : List ℕ) → AreFirstEntries v front text rest → length front < length v
-    → ((left : List ℕ) → rest ≡ 32 ∷ left → ⊥) → ⊥
+    → ((y : ℤ) (more : List ℕ) → IsNum y → GoesOnWith 32 more → rest ≡ 32 ∷ (signed_decimal y ++ more) → ⊥) → ⊥
 entry_is_next v front text rest h lt none =
-    next_exists IsNum signed_decimal no_blank signed_decimal_tells v front text rest [] h lt none
-
-pub next_entry_word : (v front : List ℤ) (text rest cut word behind : List ℕ) → AreFirstEntries v front text rest
-    → length front < length v → rest ≡ 32 ∷ cut → CutsWord cut word behind → (y : ℤ) × IsNum y × (word ≡ signed_decimal y)
-next_entry_word v front text rest cut word behind h lt at cuts =
-    next_word_is IsNum signed_decimal no_blank signed_decimal_tells v front text rest [] cut word behind h lt at cuts
+    let (y, left, num, is) =
+    next_is IsNum signed_decimal no_blank signed_decimal_tells v front text rest [] h lt in
+    none y _ num (behind_goes_on IsNum signed_decimal left [] tt) is
 
 -- as many entries with something behind them
 pub entries_tell : (v w : List ℤ) (rest : List ℕ) → AllByRecursion IsNum v → AllByRecursion IsNum w → GoesOnWith 32 rest

@@ -7,7 +7,7 @@ ghost use Rattle.plain_text.specs.Cuts.{GoesOnWith};
 ghost use Rattle.work_core.specs.ReplyLines.{row_line};
 ghost use Rattle.job_text.specs.LineTexts.{IsReplyLine};
 
-use plain_text::{next_word, read_num};
+use plain_text::next_num;
 use poly_num::{Num, is_primitive};
 
 /// Whether the text is as many numbers as the row has, each behind one blank. Then the row has them; else it may have
@@ -21,16 +21,10 @@ pub fn read_entries(row: &mut [Num], text: &[u8]) -> bool
 {
     let mut rest = text;
     for i in 0..row.len() {
-        let (word, behind) = match next_word(rest) {
-            Some(found) => found,
+        rest = match next_num(&mut row[i], rest) {
+            Some(behind) => behind,
             None => return false,
         };
-        let entry = match read_num(word) {
-            Some(entry) => entry,
-            None => return false,
-        };
-        row[i] = entry;
-        rest = behind;
     }
     rest.is_empty()
 }

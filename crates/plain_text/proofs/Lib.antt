@@ -1,6 +1,7 @@
 pub mod Positions
 pub mod CappedValues
 pub mod DigitValues
+pub mod FrontLemmas
 pub mod Decimals
 pub mod CutLemmas
 pub mod ReadLemmas

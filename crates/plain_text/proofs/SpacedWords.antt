@@ -60,7 +60,7 @@ module _ {A : Type 0} (May : A → Type 0) (word_of : A → List ℕ) where
     all_behind (x ∷ front) behind h = all_behind front behind h.1
 
     -- where values are left, the rest is a blank and the word of the next
-    next_is : (xs front : List A) (text rest more : List ℕ) → AreFirst xs front text rest more → length front < length xs
+    pub next_is : (xs front : List A) (text rest more : List ℕ) → AreFirst xs front text rest more → length front < length xs
         → (x : A) × (left : List A) × May x × (rest ≡ 32 ∷ (word_of x ++ (spaced left ++ more)))
     next_is xs front text rest more h lt =
         let (behind, parts, rest_is) = begins front xs rest more h.front_may h.all_may h.rest_goes_on h.more_goes_on

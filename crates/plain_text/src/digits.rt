@@ -6,7 +6,7 @@ ghost use Rattle.plain_text.specs.Digits.{is_digit, with_digit_of, value_of, is_
 /// One past the greatest size of a number: what stands for each greater value too.
 pub const TOO_WIDE: u128 = 1 << 127;
 
-fn is_digit_byte(b: u8) -> bool
+pub(crate) fn is_digit_byte(b: u8) -> bool
     ensures { result ≡ is_digit b }
 {
     b'0' <= b && b <= b'9'

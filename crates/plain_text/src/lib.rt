@@ -3,6 +3,7 @@
 
 mod cutting;
 mod digits;
+mod front;
 mod newline;
 mod numbers;
 #[cfg(test)]
@@ -10,5 +11,6 @@ mod tests;
 
 pub use cutting::{is_text, next_word, split_line, split_word, strip_front};
 pub use digits::{TOO_WIDE, count, is_count, leading_digits, value};
+pub use front::next_num;
 pub use newline::newline_at;
 pub use numbers::{read_count, read_decimal, read_num};

@@ -8,7 +8,7 @@ ghost use Rattle.plain_text.specs.Texts.{IsReadOf};
 use crate::digits::{TOO_WIDE, count, leading_digits};
 use poly_num::Num;
 
-fn leads_with_zero(word: &[u8]) -> bool
+pub(crate) fn leads_with_zero(word: &[u8]) -> bool
     ensures { result ≡ leads_with_zero word.now }
 {
     match word {
@@ -56,7 +56,7 @@ pub fn read_count(word: &[u8]) -> Option<u64>
     Some(size as u64)
 }
 
-fn split_minus(word: &[u8]) -> (bool, &[u8])
+pub(crate) fn split_minus(word: &[u8]) -> (bool, &[u8])
     ensures sign { result.0 ≡ is_negative word.now }
     ensures rest { result.1.now ≡ without_minus word.now }
 {
@@ -67,7 +67,7 @@ fn split_minus(word: &[u8]) -> (bool, &[u8])
 }
 
 // Zero has no sign.
-fn is_negative_zero(negative: bool, size: u128) -> bool
+pub(crate) fn is_negative_zero(negative: bool, size: u128) -> bool
     ensures yes { IsTrue result → (negative ≡ true) × (size ≡ 0) }
     ensures no { IsFalse result → negative ≡ true → 0 < size }
 {

@@ -1,5 +1,5 @@
 //! Known texts.
-use crate::{read_count, read_num, split_line, split_word};
+use crate::{next_num, read_count, read_num, split_line, split_word};
 use poly_num::Num;
 
 #[test]
@@ -45,6 +45,40 @@ fn numbers(rt: HostRuntime) {
             "{}",
             text
         );
+    }
+}
+
+// The number behind a blank, and what stands behind it.
+fn front_of(text: &[u8]) -> Option<(i128, &[u8])> {
+    let mut place = Num::ZERO;
+    let rest = next_num(&mut place, text)?;
+    Some((place.get(), rest))
+}
+
+#[test]
+fn fronts(rt: HostRuntime) {
+    let cases = [
+        (" 7", Some((7, ""))),
+        (" 0 1", Some((0, " 1"))),
+        (" -12  3", Some((-12, "  3"))),
+        (" 576460752303423488 1", Some((576_460_752_303_423_488, " 1"))),
+        (
+            " -170141183460469231731687303715884105727 0",
+            Some((-170_141_183_460_469_231_731_687_303_715_884_105_727, " 0")),
+        ),
+        (" 170141183460469231731687303715884105728 0", None),
+        ("7", None),
+        ("  7", None),
+        (" ", None),
+        (" 07", None),
+        (" -0", None),
+        (" -01", None),
+        (" 7/2", None),
+        (" 7\t", None),
+    ];
+    for (text, front) in &cases {
+        let front = front.map(|(number, rest)| (number, rest.as_bytes()));
+        assert_eq!(rt; front_of(text.as_bytes()), front, "{}", text);
     }
 }
 

@@ -1,7 +1,8 @@
-use Rattle.std.proofs.Common.{◌≡◌, ◌∙◌, ◌∷◌, ℕ, List, length, take, refl, sym, ap, arith, length-take-le, length-set}
+use Rattle.std.proofs.Common.{◌≡◌, ◌∙◌, ℕ, List, length, take, refl, sym, ap, arith, length-take-le, length-set}
+use Rattle.std.specs.Fmt.{signed_decimal}
 use Rattle.std.proofs.lemmas.Bool.{eqb-false}
 use Rattle.std.proofs.lemmas.List.{take_more_set, take_all}
-use Rattle.job_text.proofs.EntryLemmas.{no_entries, entries_more, nums_push, first_entries, entry_is_next, next_entry_word, entries_tell}
+use Rattle.job_text.proofs.EntryLemmas.{no_entries, entries_more, nums_push, first_entries, entry_is_next, entries_tell}
 use Rattle.job_text.proofs.entries.read_entries.Goals as goal
 
 pub loop-i-init : goal.loop-i-init
@@ -18,31 +19,21 @@ returns-in-None-clause-no c _ v count all is =
     let size : length (take l.i l.row) ≡ l.i = length-take-le l.i l.row (omega (arith, l.invariant.size, c.loop-i-test.true)) in
     entry_is_next v (take l.i l.row) c.args.text.now l.rest.now
     (first_entries l.invariant.nums all l.invariant.goes_on l.invariant.found is)
-    (omega (arith, size, count, l.invariant.size, c.loop-i-test.true)) c.in-None.ensures
-
-pub returns-in-None-read_num-clause-no : goal.returns-in-None-read_num-clause-no
-returns-in-None-read_num-clause-no c _ v count all is =
-    let l = c.loop-i in
-    let size : length (take l.i l.row) ≡ l.i = length-take-le l.i l.row (omega (arith, l.invariant.size, c.loop-i-test.true)) in
-    let (cut, at, cuts) = c.in-Some.ensures in
-    let (y, may, word) = next_entry_word v (take l.i l.row) c.args.text.now l.rest.now cut c.in-Some.found.0.now c.in-Some.found.1.now
-    (first_entries l.invariant.nums all l.invariant.goes_on l.invariant.found is)
-    (omega (arith, size, count, l.invariant.size, c.loop-i-test.true)) at cuts in
-    c.in-None-read_num.ensures.none refl y may word
+    (omega (arith, size, count, l.invariant.size, c.loop-i-test.true)) (c.in-None.ensures.none refl)
 
 pub loop-i-preserved : goal.loop-i-preserved
 loop-i-preserved c =
     let l = c.loop-i in
-    let (cut, at, cuts) = c.in-Some.ensures in
-    let entry = c.in-Some-read_num.ensures.some in
-    let grown = take_more_set l.row l.i c.in-Some-read_num.entry (omega (arith, l.invariant.size, c.loop-i-test.true)) in
+    let y = c.next_num.new.place in
+    let (num, at, goes_on) = c.in-Some.ensures.some in
+    let grown = take_more_set l.row l.i y (omega (arith, l.invariant.size, c.loop-i-test.true)) in
     record {
-      nums = rw grown (nums_push (take l.i l.row) c.in-Some-read_num.entry l.invariant.nums entry.0);
+      nums = rw grown (nums_push (take l.i l.row) y l.invariant.nums num);
       found =
-          rw grown (entries_more (take l.i l.row) c.in-Some-read_num.entry c.args.text.now l.rest.now c.in-Some.found.0.now
-          c.in-Some.found.1.now l.invariant.found (at ∙ ap (λ (t : List ℕ). 32 ∷ t) cuts.whole) entry.1);
-      goes_on = cuts.goes_on;
-      size = length-set l.row l.i c.in-Some-read_num.entry ∙ l.invariant.size;
+          rw grown (entries_more (take l.i l.row) y c.args.text.now l.rest.now (signed_decimal y) c.in-Some.behind.now
+          l.invariant.found at refl);
+      goes_on = goes_on;
+      size = length-set l.row l.i y ∙ l.invariant.size;
     }
 
 pub returns-clause-no : goal.returns-clause-no
