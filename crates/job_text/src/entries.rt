@@ -1,5 +1,5 @@
 //! The entries of a row, read into place.
-ghost use Rattle.std.specs.Prelude.{◌≡◌, ℤ, List, length, IsTrue, IsFalse};
+ghost use Rattle.std.specs.Prelude.{◌≡◌, ℤ, List, length, IfOk, IsTrue, IsFalse};
 ghost use Rattle.std.specs.List.{AllByRecursion};
 ghost use Rattle.poly_num.specs.Numbers.{IsNum};
 ghost use Rattle.poly_model.specs.ListingText.{entries_text};
@@ -9,6 +9,16 @@ ghost use Rattle.job_text.specs.LineTexts.{IsReplyLine};
 
 use plain_text::next_num;
 use poly_num::{Num, is_primitive};
+use std::alloc::{AllocError, Global};
+
+/// So many zeros: room for a row that is read. Refused for want of memory.
+pub fn zeros(alloc: Global, n: u32) -> Result<Vec<Num>, AllocError>
+    ensures { IfOk result (λ row. length row.items ≡ n) }
+{
+    let mut row = Vec::new(alloc);
+    row.resize(n as usize, Num::ZERO)?;
+    Ok(row)
+}
 
 /// Whether the text is as many numbers as the row has, each behind one blank. Then the row has them; else it may have
 /// anything.

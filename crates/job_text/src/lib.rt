@@ -27,7 +27,7 @@ mod tests;
 mod words;
 mod writing;
 
-pub use entries::read_entries;
+pub use entries::{read_entries, zeros};
 pub use first_payload::{FirstPayload, read_first_payload};
 pub use job::{Job, JobHead};
 pub use keys::read_key;

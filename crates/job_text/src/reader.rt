@@ -4,24 +4,15 @@ ghost use Rattle.job_text.specs.Replies.{IsWholeReply, IsNotWhole};
 ghost use Rattle.job_text.specs.declared.reply.Reply.{Reply as Whole};
 ghost use Rattle.job_text.specs.RowTexts.{AreWide};
 
+use crate::entries::zeros;
 use crate::lines::key_behind;
 use crate::scan::scan_lines;
 use crate::{PayloadStop, Reply, ReplyRows, ReplyStop};
 use poly_model::{Key, Keys};
-use poly_num::Num;
-use std::alloc::{AllocError, Global};
+use std::alloc::Global;
 
 /// Reads replies.
 pub struct ReplyReader;
-
-// So many zeros, in which a row is read.
-fn zeros(alloc: Global, n: u32) -> Result<Vec<Num>, AllocError>
-    ensures { IfOk result (λ row. length row.items ≡ n) }
-{
-    let mut row = Vec::new(alloc);
-    row.resize(n as usize, Num::ZERO)?;
-    Ok(row)
-}
 
 // The same stop, so many bytes further on.
 fn further(stop: ReplyStop, start: u64) -> ReplyStop

@@ -20,13 +20,12 @@ use crate::printed::Printed;
 use crate::rows::print_rows;
 use disk_core::Disk;
 use job_ledger::{Ledger, LedgerStop};
-use job_text::{PayloadStop, Reply, ReplyRows};
+use job_text::{PayloadStop, Reply, ReplyRows, zeros};
 use poly_io::{Bytes, Sink};
 use poly_model::{Listed, Poly, Vector};
-use poly_num::Num;
 use row_printer::Listing;
 use run_state::read_next_payload;
-use std::alloc::{AllocError, Global};
+use std::alloc::Global;
 
 /// A run that is to be printed: its ledger, the polyhedron that it searches, and the lines of that.
 #[derive(Clone, Copy)]
@@ -42,15 +41,6 @@ struct Records<'a> {
     alloc: Global,
     ledger: &'a Ledger,
     n: u32,
-}
-
-// So many zeros, in which a row is read.
-fn zeros(alloc: Global, n: u32) -> Result<Vec<Num>, AllocError>
-    ensures { IfOk result (λ row. length row.items ≡ n) }
-{
-    let mut row = Vec::new(alloc);
-    row.resize(n as usize, Num::ZERO)?;
-    Ok(row)
 }
 
 // The payload of this number, from 0.

@@ -51,6 +51,7 @@ fn write_row<O: Sink>(
     if is_line(listing.kind(), text) {
         listing.entries(out, text)
     } else {
+        // The clause speaks of texts of rows alone, and those are read.
         read_entries(row, text);
         listing.row(out, row)
     }
