@@ -7,8 +7,7 @@ pub returns-in-Some-clause-some : goal.returns-in-Some-clause-some
 returns-in-Some-clause-some c =
     let (begins, sign, some) = c.in-Some.ensures in
     let lt : c.in-Some.size < 2 ^ 127 = omega arith in
-    rw (c.from_parts.ensures, sign)
-    (
+    rw (c.from_parts.ensures, sign) (
       signed_is_num _ c.in-Some.size lt,
       front_is_signed c.args.text.now c.in-Some.rest.now c.in-Some.size begins lt (λ h. some (sign ∙ h)),
       begins.goes_on,
