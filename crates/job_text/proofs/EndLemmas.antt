@@ -1,7 +1,8 @@
 -- The numbers of a last line, read in one way.
-use Rattle.std.proofs.Common.{◌≡◌, ◌<◌, ◌^◌, ℕ, List, [], ◌∷◌, ◌++◌, length, refl, sym, ap, ◌∙◌, append-nil, drop, inl, arith}
+use Rattle.std.proofs.Common.{◌≡◌, ◌<◌, ◌^◌, ℕ, List, [], ◌∷◌, ◌++◌, length, Some, Bor, refl, sym, ap, ◌∙◌, append-nil, drop, inl, arith}
 use Rattle.std.specs.Prelude.{decimal}
 use Rattle.plain_text.specs.Cuts.{GoesOnWith}
+use Rattle.plain_text.specs.Texts.{IsFrontReadOf}
 use Rattle.plain_text.proofs.CutLemmas.{one_cut}
 use Rattle.plain_text.proofs.NumberLemmas.{decimal_tells, decimal_lacks}
 use Rattle.poly_model.specs.declared.listed.Count.{Count}
@@ -30,6 +31,31 @@ count_step m n rest more text p q g h is same =
     let c = one_cut 32 (decimal m) rest (decimal n) more (decimal_lacks 32 m (omega (arith, p)) (inl (omega arith))) g
     (decimal_lacks 32 n (omega (arith, q)) (inl (omega arith))) h (ap (λ (l : List ℕ). drop 1 l) (sym is ∙ same)) in
     (decimal_tells m n (omega (arith, p)) (omega (arith, q)) c.0, c.1)
+
+-- ---- numbers that are read one behind the other: each is that of the line, and what is left is its rest
+
+-- this number was read behind one blank in front of a text, and this is left
+abbrev pub IsCountInFront : List ℕ → ℕ × Bor (List ℕ) → Type 0
+IsCountInFront text found = IsFrontReadOf (λ n. n < 2 ^ 64) (λ n. 32 ∷ decimal n) text (Some found)
+
+pub rows_in_front : {text : List ℕ} {rows : ℕ × Bor (List ℕ)} (c : Count) → AreSmall c → text ≡ end_words c → IsCountInFront text rows
+    → (rows.0 ≡ c.rows) × (rows.1.now ≡ jobs_text c)
+rows_in_front {text = text} {rows = rows} c small is read =
+    let n = read.some in
+    count_step rows.0 c.rows rows.1.now (jobs_text c) text n.0 small.rows n.2 refl n.1 (is ∙ end_pieces c)
+
+pub jobs_in_front : {text : List ℕ} {rows jobs : ℕ × Bor (List ℕ)} (c : Count) → AreSmall c → text ≡ end_words c
+    → IsCountInFront text rows → IsCountInFront rows.1.now jobs → (jobs.0 ≡ c.jobs) × (jobs.1.now ≡ bases_text c)
+jobs_in_front {rows = rows} {jobs = jobs} c small is first read =
+    let n = read.some in
+    count_step jobs.0 c.jobs jobs.1.now (bases_text c) rows.1.now n.0 small.jobs n.2 refl n.1 (rows_in_front c small is first).1
+
+pub bases_in_front : {text : List ℕ} {rows jobs bases : ℕ × Bor (List ℕ)} (c : Count) → AreSmall c → text ≡ end_words c
+    → IsCountInFront text rows → IsCountInFront rows.1.now jobs → IsCountInFront jobs.1.now bases
+    → (bases.0 ≡ c.bases) × (bases.1.now ≡ [])
+bases_in_front {jobs = jobs} {bases = bases} c small is first second read =
+    let n = read.some in
+    count_step bases.0 c.bases bases.1.now [] jobs.1.now n.0 small.bases n.2 tt n.1 (jobs_in_front c small is first second).1
 
 pub empty_from_length : (text : List ℕ) → length text ≡ 0 → text ≡ []
 empty_from_length [] e = refl

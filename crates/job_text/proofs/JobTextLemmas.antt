@@ -68,6 +68,12 @@ pub record SaysSize (rest file : List ℕ) (said : ℕ) : Type 0 where
   pub is_said : said ≡ capped size
   pub split : rest ≡ input_line digits ++ 10 ∷ file
 
+-- as it is read
+pub says_size : {rest file : List ℕ} {said : ℕ} → ((digits : List ℕ) × (size : ℕ) × (decimal_of digits ≡ Some size)
+    × (said ≡ capped size) × (rest ≡ input_line digits ++ 10 ∷ file)) → SaysSize rest file said
+says_size (digits, size, says, said, split) =
+    record { digits = digits; size = size; says = says; is_said = said; split = split }
+
 pub bad_input : (text rest file : List ℕ) (said : ℕ) (head : JobHead) → HasHeadText head → text ≡ five_lines head rest
     → (s : SaysSize rest file said) → (length file ≢ s.size) ⊎ ((fault : BadFile) × IsFirstFault file fault) → IsBadInput text
 bad_input text rest file said head h is s bad = record {

@@ -1,5 +1,5 @@
 -- The texts of keys: a count and labels, read in one way, whatever stands behind them.
-use Rattle.std.proofs.Common.{◌≡◌, ◌<◌, ◌≤◌, ℕ, List, [], ◌∷◌, ◌++◌, length, refl, sym, ◌∙◌, append_assoc, inl, arith}
+use Rattle.std.proofs.Common.{◌≡◌, ◌<◌, ◌≤◌, ◌^◌, ℕ, List, [], ◌∷◌, ◌++◌, length, refl, sym, ap, ap₂, ◌∙◌, append_assoc, inl, arith}
 use Rattle.std.specs.Prelude.{decimal}
 use Rattle.std.specs.List.{AllByRecursion}
 use Rattle.plain_text.specs.Cuts.{Lacks, GoesOnWith, CutsWord}
@@ -68,6 +68,20 @@ key_parts text word rest key more h room g e =
     one_cut 32 word rest (decimal (length key)) (labels_text key ++ more) h.lacks h.goes_on
     (decimal_lacks 32 (length key) (omega (arith, room)) (inl (omega arith))) (labels_go_on key more g)
     (sym h.whole ∙ e ∙ append_assoc (decimal (length key)) (labels_text key) more)
+
+-- the number that was read in front of a key's text is how many labels it has, and these are left
+pub key_count : (text word rest key more : List ℕ) (count : ℕ) → CutsWord text word rest → HasKeyText key → GoesOnWith 32 more
+    → text ≡ key_text key ++ more → count < 2 ^ 64 → word ≡ decimal count → (count ≡ length key) × (rest ≡ labels_text key ++ more)
+key_count text word rest key more count cuts has g is lt said =
+    let k = key_parts text word rest key more cuts has.is_key.room g is in
+    (decimal_tells count (length key) (omega (arith, lt)) (omega (arith, has.is_key.room)) (sym said ∙ k.0), k.1)
+
+-- a number, and so many labels behind it, are the text of a key
+pub key_of_labels : (text word rest labels more : List ℕ) (count : ℕ) → CutsWord text word rest → word ≡ decimal count
+    → length labels ≡ count → rest ≡ labels_text labels ++ more → text ≡ key_text labels ++ more
+key_of_labels text word rest labels more count cuts said size behind =
+    cuts.whole ∙ ap₂ (λ (a b : List ℕ). a ++ b) (said ∙ ap decimal (sym size)) behind
+    ∙ sym (append_assoc (decimal (length labels)) (labels_text labels) more)
 
 -- keys' texts tell them apart, whatever stands behind them
 pub key_front_tells : (a b rest more : List ℕ) → length a ≤ most_labels → length b ≤ most_labels → AllByRecursion IsKeyLabel a

@@ -1,6 +1,7 @@
 -- The texts of places and of overflows, read in one way.
-use Rattle.std.proofs.Common.{◌≡◌, ◌<◌, ℕ, List, [], ◌∷◌, ◌++◌, refl, sym, ap, ap₂, ◌∙◌, append-nil, drop, subst, arith}
+use Rattle.std.proofs.Common.{◌≡◌, ◌<◌, ℕ, List, [], ◌∷◌, ◌++◌, Some, Bor, refl, sym, ap, ap₂, ◌∙◌, append-nil, drop, subst, arith}
 use Rattle.plain_text.specs.Cuts.{Lacks, GoesOnWith, CutsWord}
+use Rattle.plain_text.specs.Texts.{IsFrontReadOf}
 use Rattle.plain_text.proofs.CutLemmas.{one_cut, lacks_append, lacks_none, lacks_tested}
 use Rattle.poly_model.specs.declared.overflow.Overflow.{Overflow}
 use Rattle.poly_model.specs.declared.overflow.Phase.{Phase}
@@ -9,7 +10,7 @@ use Rattle.poly_model.specs.declared.overflow.Place.{Place}
 use Rattle.poly_model.specs.LabelText.{label_text, place_text, phase_text, key_text}
 use Rattle.job_text.specs.KeyTexts.{HasKeyText}
 use Rattle.row_printer.specs.OverflowText.{overflow_text}
-use Rattle.job_text.specs.Overflows.{HasPlaceText}
+use Rattle.job_text.specs.Overflows.{HasPlaceText, HasOverflowText}
 use Rattle.job_text.proofs.LabelLemmas.{place_label_lacks, place_label_tells}
 use Rattle.job_text.proofs.KeyTextLemmas.{key_front_tells}
 
@@ -88,6 +89,49 @@ pub phase_step : {text word rest : List ℕ} (o : Overflow) → CutsWord text wo
 phase_step {word = word} {rest = rest} o cuts is =
     one_cut 32 word rest (phase_text o.phase) (key_behind_text o) cuts.lacks cuts.goes_on (phase_has_no_blank o.phase) refl
     (sym cuts.whole ∙ is ∙ overflow_pieces o)
+
+-- ---- pieces that are read one behind the other: what is left behind each is the text's own rest
+
+-- this key was read behind one blank in front of a text, and this is left
+abbrev pub IsKeyInFront : List ℕ → List ℕ × Bor (List ℕ) → Type 0
+IsKeyInFront text found = IsFrontReadOf HasKeyText (λ key. 32 ∷ key_text key) text (Some found)
+
+-- the same of a place
+abbrev pub IsPlaceInFront : List ℕ → Place × Bor (List ℕ) → Type 0
+IsPlaceInFront text found = IsFrontReadOf HasPlaceText (λ place. 32 ∷ place_text place) text (Some found)
+
+pub a_behind : {text word rest : List ℕ} {key : List ℕ × Bor (List ℕ)} (o : Overflow) → HasOverflowText o → CutsWord text word rest
+    → text ≡ overflow_text o → IsKeyInFront rest key → key.1.now ≡ a_text o
+a_behind {rest = rest} {key = key} o h cuts is read =
+    let k = read.some in
+    (key_step key.0 o.key key.1.now (a_text o) rest k.0 h.key k.2 refl k.1 (phase_step o cuts is).1).1
+
+pub b_behind : {text word rest : List ℕ} {key : List ℕ × Bor (List ℕ)} {a : Place × Bor (List ℕ)} (o : Overflow) → HasOverflowText o
+    → CutsWord text word rest → text ≡ overflow_text o → IsKeyInFront rest key → IsPlaceInFront key.1.now a → a.1.now ≡ b_text o
+b_behind {key = key} {a = a} o h cuts is k read =
+    let p = read.some in
+    (place_step a.0 o.a a.1.now (b_text o) key.1.now p.0 h.a p.2 refl p.1 (a_behind o h cuts is k)).1
+
+pub c_behind : {text word rest : List ℕ} {key : List ℕ × Bor (List ℕ)} {a b : Place × Bor (List ℕ)} (o : Overflow)
+    → HasOverflowText o → CutsWord text word rest → text ≡ overflow_text o → IsKeyInFront rest key → IsPlaceInFront key.1.now a
+    → IsPlaceInFront a.1.now b → b.1.now ≡ c_text o
+c_behind {a = a} {b = b} o h cuts is k pa read =
+    let p = read.some in
+    (place_step b.0 o.b b.1.now (c_text o) a.1.now p.0 h.b p.2 refl p.1 (b_behind o h cuts is k pa)).1
+
+pub d_behind : {text word rest : List ℕ} {key : List ℕ × Bor (List ℕ)} {a b c : Place × Bor (List ℕ)} (o : Overflow)
+    → HasOverflowText o → CutsWord text word rest → text ≡ overflow_text o → IsKeyInFront rest key → IsPlaceInFront key.1.now a
+    → IsPlaceInFront a.1.now b → IsPlaceInFront b.1.now c → c.1.now ≡ d_text o
+d_behind {b = b} {c = c} o h cuts is k pa pb read =
+    let p = read.some in
+    (place_step c.0 o.c c.1.now (d_text o) b.1.now p.0 h.c p.2 refl p.1 (c_behind o h cuts is k pa pb)).1
+
+pub none_behind : {text word rest : List ℕ} {key : List ℕ × Bor (List ℕ)} {a b c d : Place × Bor (List ℕ)} (o : Overflow)
+    → HasOverflowText o → CutsWord text word rest → text ≡ overflow_text o → IsKeyInFront rest key → IsPlaceInFront key.1.now a
+    → IsPlaceInFront a.1.now b → IsPlaceInFront b.1.now c → IsPlaceInFront c.1.now d → d.1.now ≡ []
+none_behind {c = c} {d = d} o h cuts is k pa pb pc read =
+    let p = read.some in
+    (place_step d.0 o.d d.1.now [] c.1.now p.0 h.d p.2 tt p.1 (d_behind o h cuts is k pa pb pc)).1
 
 -- a word without a comma is no place's
 pub no_comma : (word : List ℕ) (place : Place) → Lacks 44 word → word ≡ place_text place → ⊥

@@ -79,8 +79,6 @@ on_by_job most c (Ok d) l h = record {
 }
 on_by_job most c (Err x) l h = tt
 
--- what giving a key back promises of a count
-pub given_is_one : (c : Count) (result : Result Count WorkStop) → IfOk result (λ (d : Count). d.rows ≡ c.rows) →
-    IfOk result (λ (d : Count). d.jobs ≡ c.jobs + 1) → IfOk result (λ (d : Count). d.bases ≡ c.bases) → IfOk result (IsOneGivenBack c)
-given_is_one c (Ok d) rows jobs bases = record { rows = rows; jobs = jobs; bases = bases }
-given_is_one c (Err x) rows jobs bases = tt
+-- what a base more promises of a count
+pub visited_is_one : (c d : Count) → d.rows ≡ c.rows → d.jobs ≡ c.jobs → d.bases ≡ c.bases + 1 → IsOneBase c d
+visited_is_one c d rows jobs bases = record { rows = rows; jobs = jobs; bases = bases }

@@ -26,7 +26,8 @@ use Rattle.work_core.specs.Walked.{HasWalked}
 use Rattle.work_core.proofs.WalkLemmas.{under_itself}
 use Rattle.work_core.proofs.SubsetShares.{has_shares, shows_at}
 use Rattle.work_core.proofs.WalkedLemmas.{writes_given, part_given, walked_of, walked_visit, walked_show, walked_give, walked_then, cut_here, cut_under, torn_under, cut_is_torn, torn_job, torn_row}
-use Rattle.subset_work.specs.Counts.{IsOneBase, IsOneGivenBack}
+use Rattle.subset_work.specs.declared.progress.Progress.{Progress}
+use Rattle.subset_work.specs.Counts.{IsOneBase, MayCome}
 use Rattle.subset_work.specs.Walked.{bound_of, HasWalkedTo, WalksUnder}
 use Rattle.subset_work.specs.Standing.{IsNext, HasRoom, MayTake, IsLive, IsDead, IsBefore}
 use Rattle.subset_work.proofs.ListTree.{with_last, plain_label, is_plain, child_under, before_none, before_under, before_apart, before_skip, before_child, before_all, key_alone, child_room, child_next}
@@ -82,18 +83,20 @@ module _ (p : Polyhedron) where
   }
 
   -- ---- a key that is given back
-  pub given_back : (key : List ℕ) (most longest : ℕ) (old new : Option (List ℕ)) (c : Count) (result : Result Count WorkStop) →
-      IsSubsetKey p key → c.bases ≤ most → length key ≤ longest → (most ≤ c.bases) ⊎ (longest ≤ length key) →
+  pub given_back : (key : List ℕ) (at : Progress) (old new : Option (List ℕ)) (result : Result Count WorkStop) →
+      IsSubsetKey p key → MayCome at (length key) → (len : ℕ) → len ≡ length key → (at.most ≤ at.count.bases) ⊎ (at.longest ≤ len) →
       OnOk result (Appends old new (job_line_text key)) → OnErr result (AppendsPart old new (job_line_text key)) → IsKey key →
-      IfOk result (IsOneGivenBack c) → ((o : Overflow) → IsErrOf result (WorkStop.Overflow o) → ⊥) →
-      WalksUnder p key most longest old new c result
-  given_back key most longest old new c (Ok d) is within near stops whole part is_key h none =
-      walks_ok key most longest old new c d
-      (walked_give s Shows (bound_of most longest) key old new c d is (writes_given old new key whole is_key) h.rows h.jobs h.bases
-      (⊎_elim (λ (m : most ≤ c.bases). inl (omega (arith, m, within, h.bases)))
-      (λ (m : longest ≤ length key). inr (omega (arith, m, near))) stops) near)
-  given_back key most longest old new c (Err x) is within near stops whole part is_key h none =
-      walks_fault key most longest old new c x none
+      IfOk result (λ (d : Count). d.rows ≡ at.count.rows) → IfOk result (λ (d : Count). d.jobs ≡ at.count.jobs + 1) →
+      IfOk result (λ (d : Count). d.bases ≡ at.count.bases) → ((o : Overflow) → IsErrOf result (WorkStop.Overflow o) → ⊥) →
+      WalksUnder p key at.most at.longest old new at.count result
+  given_back key at old new (Ok d) is may len same stops whole part is_key rows jobs bases none =
+      let near = may.near in
+      walks_ok key at.most at.longest old new at.count d
+      (walked_give s Shows (bound_of at.most at.longest) key old new at.count d is (writes_given old new key whole is_key) rows jobs bases
+      (⊎_elim (λ (m : at.most ≤ at.count.bases). let within = may.within in inl (omega (arith, m, within, bases)))
+      (λ (m : at.longest ≤ len). inr (omega (arith, m, same, near))) stops) near)
+  given_back key at old new (Err x) is may len same stops whole part is_key rows jobs bases none =
+      walks_fault key at.most at.longest old new at.count x none
       (torn_job s key is (under_itself (by_subsets p) (has_shares p) key) old new (part_given old new key part is_key))
 
   -- ---- a list that is full
@@ -205,6 +208,17 @@ module _ (p : Polyhedron) where
               (subst (λ ks. WalksUnder p ks most longest now new d (Err x)) last v);
         }
 
+-- ---- a list under one, by the row that it has more
+pub walks_to_child : (p : Polyhedron) (key below : List ℕ) (row i left most longest : ℕ) (old new : Option (List ℕ)) (c : Count)
+    (result : Result Count WorkStop) → below ≡ with_label row key → row ≡ i → MayTake p key i left →
+    (below ≡ key ++ row ∷ [] → HasRoom p below left → IsNext below (i + 1) → WalksUnder p below most longest old new c result) →
+    WalksUnder p (with_label i key) most longest old new c result
+walks_to_child p key below row i left most longest old new c result with same may h =
+    let there : below ≡ with_label i key = with ∙ ap (λ n. with_label n key) same in
+    subst (λ ks. WalksUnder p ks most longest old new c result) there
+    (h (there ∙ may.last ∙ ap (λ n. key ++ n ∷ []) (sym same)) (subst (λ ks. HasRoom p ks left) (sym there) may.room)
+    (subst (λ ks. IsNext ks (i + 1)) (sym there) may.next))
+
 -- ---- a list under a dead one is dead
 pub dead_under : (p : Polyhedron) (key : List ℕ) (i : ℕ) → IsDead p key → IsDead p (key ++ i ∷ [])
 dead_under p key i dead one u y h =
@@ -216,9 +230,8 @@ pub dead_child_walks : (p : Polyhedron) (key below : List ℕ) (i left most long
     (HasRoom p below left → IsNext below (i + 1) → IsDead p below → WalksUnder p below most longest old new c result) →
     WalksUnder p (with_label i key) most longest old new c result
 dead_child_walks p key below i left most longest old new c result same may dead h =
-    subst (λ ks. WalksUnder p ks most longest old new c result) same
-    (h (subst (λ ks. HasRoom p ks left) (sym same) may.room) (subst (λ ks. IsNext ks (i + 1)) (sym same) may.next)
-    (subst (IsDead p) (sym (same ∙ may.last)) (dead_under p key i dead)))
+    walks_to_child p key below i i left most longest old new c result same refl may
+    (λ is room next. h room next (subst (IsDead p) (sym is) (dead_under p key i dead)))
 
 -- ---- the row in the loop
 pub plain_here : (p : Polyhedron) (sys : System) (i : ℕ) (b : Bool) → sys ≡ cone_of p → b ≡ (row_of sys.rows i).linear → b ≡ false →

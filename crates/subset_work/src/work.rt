@@ -1,7 +1,7 @@
 //! The work by prefixes of subsets.
 ghost use Rattle.std.specs.Prelude.{◌≡◌, ◌⊎◌, ◌↔◌, ◌+◌, ◌-◌, ◌≤◌, ◌<◌, ℕ, List, length, false, IsTrue, IsFalse, IfOk, OnErr, IsErrOf, []};
 ghost use Rattle.std.specs.List.{Contains};
-ghost use Rattle.poly_io.specs.Causes.{Rose};
+ghost use Rattle.poly_io.specs.Causes.{RisesAt};
 ghost use Rattle.poly_model.specs.declared.kind.WorkKind.TheVariants.{Subsets};
 ghost use Rattle.poly_model.specs.declared.overflow.Overflow.{Overflow as Passed};
 ghost use Rattle.poly_model.specs.declared.overflow.Phase.TheVariants.{Cone};
@@ -19,7 +19,8 @@ ghost use Rattle.subset_work.specs.Standing.{IsNext, IsPlainRow};
 ghost use Rattle.subset_work.specs.Walked.{WalksUnder};
 
 use crate::dead::{RowList, visit_dead};
-use crate::descend::{Way, visit_under};
+use crate::descend::Way;
+use crate::live::visit_under;
 use crate::progress::Progress;
 use crate::stop::SubsetStop;
 use dictionary::Dict;
@@ -169,9 +170,7 @@ fn visit_key<S: Sink>(
     ensures on { IfOk result (CountsOn so_far.now.most so_far.now.count) }
     ensures room { IsFit start.now.sys.now start.now.dict.now room.new.deeper.items room.new.vector.items }
     ensures depth { length room.new.deeper.items ≡ length room.old.deeper.items }
-    ensures later { S.faults out.old ≤ S.faults out.new }
-    ensures fault { IsErrOf result WorkStop.WriteFault → Rose (S.faults out.old) (S.faults out.new) }
-    ensures same { ¬ (IsErrOf result WorkStop.WriteFault) → S.faults out.new ≡ S.faults out.old }
+    ensures cause { RisesAt WorkStop.WriteFault (S.faults out.old) (S.faults out.new) result }
 {
     let labels = key.labels();
     let list = RowList {
@@ -217,9 +216,7 @@ fn run_from<S: Sink>(
         OnErr result (IsTornRun (meaning_of s) key.now (S.written out.old) (S.written out.new)) }
     ensures room { IsFit start.now.sys.now start.now.dict.now room.new.deeper.items room.new.vector.items }
     ensures depth { length room.new.deeper.items ≡ length room.old.deeper.items }
-    ensures later { S.faults out.old ≤ S.faults out.new }
-    ensures fault { IsErrOf result WorkStop.WriteFault → Rose (S.faults out.old) (S.faults out.new) }
-    ensures same { ¬ (IsErrOf result WorkStop.WriteFault) → S.faults out.new ≡ S.faults out.old }
+    ensures cause { RisesAt WorkStop.WriteFault (S.faults out.old) (S.faults out.new) result }
 {
     let so_far = start_of(key.len(), budget);
     visit_key(start, room, key, &so_far, out)

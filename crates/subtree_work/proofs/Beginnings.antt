@@ -152,6 +152,13 @@ module _ (p : Polyhedron) (sys : System) (rays : Rays) (walk : Walk) (vector : V
       due_on_the_way p x.free x.columns walk.dict key x.phase x.walk_in.stands.feasible.dictionary.points
       x.walk_in.stands.dictionary o h
 
+-- what holds of the root and the job of a walk that has begun at a key holds of its root before and of the key
+pub holds_at_key : (walk : Walk) (key : List ℕ) (b : Bool) (new : Walk) → Starts walk key b new → b ≡ true →
+    (Holds : List ℕ → List ℕ → Type 0) → Holds new.root new.job → Holds walk.root key
+holds_at_key walk key b new s t Holds h =
+    let at : IsAtKey walk key new = subst (λ (x : Bool). Starts walk key x new) t s in
+    subst (λ r. Holds r key) at.root (subst (λ j. Holds new.root j) at.job h)
+
 same_root : (walk : Walk) (key : List ℕ) (new : Walk) (b : Bool) → Starts walk key b new → new.root ≡ walk.root
 same_root walk key new true h = h.root
 same_root walk key new false h = subst (λ (w : Walk). w.root ≡ walk.root) (sym h.0) refl

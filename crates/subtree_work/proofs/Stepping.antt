@@ -1,6 +1,7 @@
 -- What a step makes of a run on its way: it goes on, it ends, or it stops.
-use Rattle.std.proofs.Common.{◌≡◌, inl, inr, ℕ, ◌+◌, List, length, Option, Err, refl, sym, subst, ◌∙◌, arith}
+use Rattle.std.proofs.Common.{◌≡◌, inl, inr, ℕ, ◌+◌, List, length, Option, Result, Err, refl, sym, subst, ◌∙◌, arith}
 use Rattle.std.specs.Prelude.{IsErrOf}
+use Rattle.poly_io.specs.Causes.{Rose, RisesAt}
 use Rattle.poly_num.specs.Vectors.{Vector}
 use Rattle.poly_model.specs.declared.listed.Count.{Count}
 use Rattle.poly_model.specs.declared.overflow.Overflow.{Overflow as Passed}
@@ -33,6 +34,17 @@ pub fails_there : (sys : System) (before after : Walk) (old new : Option (List �
     FailsAt sys after old new → StopsRun sys before after old new stop
 fails_there sys before after old new (Overflow o) n v f = absurd (n o refl)
 fails_there sys before after old new WriteFault n v f = (v, f)
+
+-- where a step stops the run, the count of the sink's faults has stood still until then
+pub rises_at_stop : {T : Type 0} (before mid now : ℕ) (r : Result Count WorkStop) (stop : WorkStop) → mid ≡ before → r ≡ Err stop →
+    RisesAt {T = T} WriteFault mid now (Err stop) → RisesAt WriteFault before now r
+rises_at_stop {T = T} before mid now r stop same is rises = record {
+  later = let l = rises.later in omega (arith, l, same);
+  failed = λ e.
+      let f : IsErrOf {T = T} {E = WorkStop} (Err stop) WriteFault = cc in
+      subst (λ n. Rose n now) same (rises.failed f);
+  same = λ other. rises.same (λ f. let e : IsErrOf r WriteFault = cc in other e) ∙ same;
+}
 
 module _ (p : Polyhedron) (sys : System) (rays : Rays) (budget : Budget) (first : Walk) where
   abbrev Runs : Walk → Vector → ℕ → Progress → Option (List ℕ) → Option (List ℕ) → Type 0

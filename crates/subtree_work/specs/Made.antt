@@ -6,7 +6,7 @@ use Rattle.poly_model.specs.declared.overflow.Overflow.{Overflow as Passed}
 use Rattle.poly_model.specs.Systems.{System, Polyhedron, cone_of}
 use Rattle.poly_model.specs.FreeColumns.{AreFreeColumns}
 use Rattle.poly_model.specs.Spaces.{IsStartCobasis, main_space}
-use Rattle.poly_model.specs.Subtrees.{IsSubtreeKey}
+use Rattle.poly_model.specs.Subtrees.{IsSubtreeRoot, IsSubtreeKey}
 use Rattle.poly_model.specs.Overflows.{Passes}
 use Rattle.poly_model.specs.Due.{IsDue, IsAskedInMain, IsAskedOnTheWay}
 use Rattle.reverse_step.specs.Walks.{Walk}
@@ -24,6 +24,16 @@ pub record BySubtrees : Type 0 where
 pub record IsSearchOfEach (sys : System) (rays : Rays) (walk : Walk) (vector : Vector) : Type 0 where
   pub file : (p : Polyhedron) × (sys ≡ cone_of p)
   pub each : (p : Polyhedron) → sys ≡ cone_of p → IsSearch p sys rays walk vector
+
+-- it is a search of this cone, and its walk is one under this root
+pub record IsSearchUnder (sys : System) (root : List ℕ) (cone : System) (rays : Rays) (walk : Walk) (vector : Vector) : Type 0 where
+  pub search : IsSearchOfEach cone rays walk vector
+  pub same_cone : cone ≡ sys
+  pub same_root : walk.root ≡ root
+
+-- of no polyhedron with this cone does a search begin at the root
+abbrev pub IsNoRootOf : System → List ℕ → Type 0
+IsNoRootOf sys root = (p : Polyhedron) → sys ≡ cone_of p → IsSubtreeRoot p root → ⊥
 
 -- it is the work of this search, which may begin at its root
 pub record IsBySubtrees (made : BySubtrees) (s : Search) : Type 0 where

@@ -3,10 +3,9 @@ ghost use Rattle.std.specs.Prelude.{◌≡◌, ◌⊎◌, ◌<◌, ℕ, List, If
 ghost use Rattle.poly_num.specs.Vectors.{Vector};
 ghost use Rattle.poly_model.specs.declared.overflow.Overflow.{Overflow as Passed};
 ghost use Rattle.poly_model.specs.Due.{IsDue, IsAskedBefore};
-ghost use Rattle.poly_model.specs.Subtrees.{IsSubtreeRoot};
 ghost use Rattle.poly_model.specs.Systems.{Polyhedron, cone_of};
 ghost use Rattle.linearity.specs.Prepared.{IsPrepared};
-ghost use Rattle.subtree_work.specs.Made.{IsSearchOfEach, IsDueOnWayToRoot};
+ghost use Rattle.subtree_work.specs.Made.{IsSearchUnder, IsNoRootOf, IsDueOnWayToRoot};
 ghost use Rattle.dictionary.specs.Blanks.{IsBlankOf};
 
 use crate::search::Search;
@@ -30,11 +29,8 @@ pub(crate) fn begin<'a, L: Ledger>(
 ) -> Result<Search<'a>, SubtreeStop>
     requires file { (p : Polyhedron) × (sys.now ≡ cone_of p) }
     requires blank { IsBlankOf blank.name blank.parts L.name L.parts }
-    ensures search { IfOk result (λ r. IsSearchOfEach r.sys.now r.rays r.walker r.vector.items) }
-    ensures sys { IfOk result (λ r. r.sys.now ≡ sys.now) }
-    ensures root { IfOk result (λ r. r.walker.root ≡ root.now.key) }
-    ensures bad_root { IsErrOf result SubtreeStop.BadRoot → (p : Polyhedron) → sys.now ≡ cone_of p →
-        IsSubtreeRoot p root.now.key → ⊥ }
+    ensures begins { IfOk result (λ r. IsSearchUnder sys.now root.now.key r.sys.now r.rays r.walker r.vector.items) }
+    ensures bad_root { IsErrOf result SubtreeStop.BadRoot → IsNoRootOf sys.now root.now.key }
     ensures overflow { (o : Passed) → IsErrOf result (SubtreeStop.Overflow o) → (p : Polyhedron) → sys.now ≡ cone_of p →
         IsDue p o (IsAskedBefore p o) ⊎ IsDueOnWayToRoot p root.now.key o }
 {
@@ -62,11 +58,8 @@ fn begin_at<'a, L: Ledger>(
     requires blank { IsBlankOf blank.name blank.parts L.name L.parts }
     requires prepared { (p : Polyhedron) → sys.now ≡ cone_of p →
         (lines : List Vector) × (free : List ℕ) × IsPrepared p lines free dict }
-    ensures search { IfOk result (λ r. IsSearchOfEach r.sys.now r.rays r.walker r.vector.items) }
-    ensures sys { IfOk result (λ r. r.sys.now ≡ sys.now) }
-    ensures root { IfOk result (λ r. r.walker.root ≡ root.now.key) }
-    ensures bad_root { IsErrOf result SubtreeStop.BadRoot → (p : Polyhedron) → sys.now ≡ cone_of p →
-        IsSubtreeRoot p root.now.key → ⊥ }
+    ensures begins { IfOk result (λ r. IsSearchUnder sys.now root.now.key r.sys.now r.rays r.walker r.vector.items) }
+    ensures bad_root { IsErrOf result SubtreeStop.BadRoot → IsNoRootOf sys.now root.now.key }
     ensures overflow { (o : Passed) → IsErrOf result (SubtreeStop.Overflow o) → (p : Polyhedron) → sys.now ≡ cone_of p →
         IsDueOnWayToRoot p root.now.key o }
 {

@@ -1,12 +1,10 @@
 //! The lines of the rows that are shown at a cobasis.
-ghost use Rattle.std.specs.Prelude.{◌≡◌, ◌≤◌, ◌<◌, ◌+◌, ◌∷◌, [], length, IfOk, OnOk, OnErr};
-ghost use Rattle.poly_io.specs.Causes.{Rose};
-ghost use Rattle.poly_model.specs.Limits.{most_columns};
+ghost use Rattle.std.specs.Prelude.{◌≡◌, ◌≤◌, ◌<◌, ◌+◌, ◌∷◌, [], length, IfOk, OnErr};
+ghost use Rattle.poly_io.specs.Causes.{HasCause};
 ghost use Rattle.hull_lift.specs.Facets.{IsColumn};
-ghost use Rattle.lex_pivot.specs.Leads.{AreLeads};
-ghost use Rattle.convert_core.specs.Rows.{CanTest, columns_of};
+ghost use Rattle.convert_core.specs.Rows.{columns_of};
 ghost use Rattle.work_core.specs.Splits.{most_lines};
-ghost use Rattle.subtree_work.specs.Rows.{ShowsRows, TearsRows};
+ghost use Rattle.subtree_work.specs.Rows.{CanShow, ShowsRows, TearsRows};
 
 use convert_core::{Basis, shown_vector};
 use poly_io::{Sink, WriteFault};
@@ -22,11 +20,9 @@ fn show_column<S: Sink>(
     count: Count,
     out: &mut S,
 ) -> Result<Count, WriteFault>
-    requires can { CanTest at.now.cone.now at.now.dict.now at.now.rays }
-    requires leads { AreLeads at.now.dict.now at.now.order.now at.now.leads.now }
+    requires can { CanShow at.now }
     requires column { IsColumn at.now.dict.now col }
     requires width { length vector.old ≡ at.now.cone.now.n }
-    requires narrow { at.now.cone.now.n ≤ most_columns }
     requires some { count.rows < most_lines }
     ensures shows { IfOk result (ShowsRows at.now.cone.now at.now.order.now at.now.dict.now (col ∷ []) (S.written out.old)
         (S.written out.new) count) }
@@ -34,9 +30,7 @@ fn show_column<S: Sink>(
     ensures tears { OnErr result (TearsRows at.now.cone.now at.now.order.now at.now.dict.now (col ∷ []) (S.written out.old)
         (S.written out.new)) }
     ensures width { length vector.new ≡ length vector.old }
-    ensures later { S.faults out.old ≤ S.faults out.new }
-    ensures fault { OnErr result (Rose (S.faults out.old) (S.faults out.new)) }
-    ensures same { OnOk result (S.faults out.new ≡ S.faults out.old) }
+    ensures cause { HasCause (S.faults out.old) (S.faults out.new) result }
 {
     if !shown_vector(at, col, vector) {
         return Ok(count);
@@ -54,19 +48,15 @@ pub(crate) fn show_columns<S: Sink>(
     count: Count,
     out: &mut S,
 ) -> Result<Count, WriteFault>
-    requires can { CanTest at.now.cone.now at.now.dict.now at.now.rays }
-    requires leads { AreLeads at.now.dict.now at.now.order.now at.now.leads.now }
+    requires can { CanShow at.now }
     requires width { length vector.old ≡ at.now.cone.now.n }
-    requires narrow { at.now.cone.now.n ≤ most_columns }
     requires few { count.rows ≤ 9000000000000000 }
     ensures shows { IfOk result (ShowsRows at.now.cone.now at.now.order.now at.now.dict.now (columns_of at.now.dict.now)
         (S.written out.old) (S.written out.new) count) }
     ensures tears { OnErr result (TearsRows at.now.cone.now at.now.order.now at.now.dict.now (columns_of at.now.dict.now)
         (S.written out.old) (S.written out.new)) }
     ensures width { length vector.new ≡ length vector.old }
-    ensures later { S.faults out.old ≤ S.faults out.new }
-    ensures fault { OnErr result (Rose (S.faults out.old) (S.faults out.new)) }
-    ensures same { OnOk result (S.faults out.new ≡ S.faults out.old) }
+    ensures cause { HasCause (S.faults out.old) (S.faults out.new) result }
 {
     let mut count = show_column(at, Label::CONSTANT, vector, count, out)?;
     let key = at.dict.key();

@@ -79,55 +79,49 @@ const APART: File = File {
     linear: &[true, true],
 };
 
+/// A job of the pyramid at its root, with a budget for all of it, before it is known what it writes.
+const PYRAMID_JOB: Job = Job {
+    file: PYRAMID,
+    root: &[1, 2, 4],
+    key: &[1, 2, 4],
+    bases: 100,
+    depth: 0,
+    writes: &[],
+    text: "",
+    count: None,
+};
+
 const JOBS: [Job; 7] = [
     Job {
-        file: PYRAMID,
-        root: &[1, 2, 4],
-        key: &[1, 2, 4],
         bases: 1,
-        depth: 0,
-        writes: &[],
         text: "row 1 1 1 0\njob 3 2 4 5\njob 3 1 3 4\njob 3 1 2 5\n",
         count: Some(Count {
             rows: 1,
             jobs: 3,
             bases: 1,
         }),
+        ..PYRAMID_JOB
     },
     Job {
-        file: PYRAMID,
-        root: &[1, 2, 4],
-        key: &[1, 2, 4],
-        bases: 100,
         depth: 2,
-        writes: &[],
         text: "row 1 1 1 0\nrow 1 0 0 1\njob 3 3 4 5\nrow 1 -1 1 0\nrow 1 1 -1 0\njob 3 1 3 5\n",
         count: Some(Count {
             rows: 4,
             jobs: 2,
             bases: 4,
         }),
+        ..PYRAMID_JOB
     },
     Job {
-        file: PYRAMID,
-        root: &[1, 2, 4],
-        key: &[1, 2, 4],
-        bases: 100,
-        depth: 0,
-        writes: &[],
         text: "row 1 1 1 0\nrow 1 0 0 1\nrow 1 -1 1 0\nrow 1 1 -1 0\nrow 1 -1 -1 0\n",
         count: Some(Count {
             rows: 5,
             jobs: 0,
             bases: 6,
         }),
+        ..PYRAMID_JOB
     },
     Job {
-        file: PYRAMID,
-        root: &[1, 2, 4],
-        key: &[1, 2, 4],
-        bases: 100,
-        depth: 0,
         writes: &[
             Call::AtMost(1),
             Call::AtMost(1),
@@ -135,7 +129,7 @@ const JOBS: [Job; 7] = [
             Call::Fail,
         ],
         text: "row",
-        count: None,
+        ..PYRAMID_JOB
     },
     Job {
         file: QUADRANT,

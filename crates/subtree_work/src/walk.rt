@@ -1,6 +1,6 @@
 //! A run under a key: the walk, and the lines that are written on it.
 ghost use Rattle.std.specs.Prelude.{◌≡◌, ◌↔◌, ◌≤◌, ◌<◌, ◌+◌, ◌-◌, length, IfOk, IfErr, OnErr, IsErrOf, IsTrue};
-ghost use Rattle.poly_io.specs.Causes.{Rose};
+ghost use Rattle.poly_io.specs.Causes.{RisesAt};
 ghost use Rattle.poly_model.specs.declared.overflow.Overflow.{Overflow as Passed};
 ghost use Rattle.poly_model.specs.Due.{IsDue, IsAskedInMain};
 ghost use Rattle.poly_model.specs.Systems.{Polyhedron, cone_of};
@@ -48,9 +48,7 @@ pub(crate) fn run_on<S: Sink, L: Ledger>(
     ensures search { IsSearchOfEach search.new.sys.now search.new.rays search.new.walker search.new.vector.items }
     ensures root { search.new.walker.root ≡ search.old.walker.root }
     ensures sys { search.new.sys.now ≡ search.old.sys.now }
-    ensures later { S.faults out.old ≤ S.faults out.new }
-    ensures fault { IsErrOf result WorkStop.WriteFault → Rose (S.faults out.old) (S.faults out.new) }
-    ensures same { ¬ (IsErrOf result WorkStop.WriteFault) → S.faults out.new ≡ S.faults out.old }
+    ensures cause { RisesAt WorkStop.WriteFault (S.faults out.old) (S.faults out.new) result }
 {
     let none = Count {
         rows: 0,
@@ -88,9 +86,7 @@ fn step<S: Sink, L: Ledger>(
     ensures sys { search.new.sys.now ≡ search.old.sys.now }
     ensures rays { search.new.rays ≡ search.old.rays }
     ensures width { length search.new.vector.items ≡ length search.old.vector.items }
-    ensures later { S.faults out.old ≤ S.faults out.new }
-    ensures fault { IsErrOf result WorkStop.WriteFault → Rose (S.faults out.old) (S.faults out.new) }
-    ensures same { ¬ (IsErrOf result WorkStop.WriteFault) → S.faults out.new ≡ S.faults out.old }
+    ensures cause { RisesAt WorkStop.WriteFault (S.faults out.old) (S.faults out.new) result }
 {
     match search.walker.next(steps) {
         Ok(Visit::New) => {
@@ -130,9 +126,7 @@ fn meet<S: Sink>(
     ensures sys { search.new.sys.now ≡ search.old.sys.now }
     ensures rays { search.new.rays ≡ search.old.rays }
     ensures width { length search.new.vector.items ≡ length search.old.vector.items }
-    ensures later { S.faults out.old ≤ S.faults out.new }
-    ensures fault { IsErrOf result WorkStop.WriteFault → Rose (S.faults out.old) (S.faults out.new) }
-    ensures same { ¬ (IsErrOf result WorkStop.WriteFault) → S.faults out.new ≡ S.faults out.old }
+    ensures cause { RisesAt WorkStop.WriteFault (S.faults out.old) (S.faults out.new) result }
 {
     if !stops(budget, depth, count.bases) {
         return visit(search, count, out);
@@ -160,9 +154,7 @@ fn visit<S: Sink>(search: &mut Search, count: Count, out: &mut S) -> Result<Coun
     ensures rays { search.new.rays ≡ search.old.rays }
     ensures walker { search.new.walker ≡ search.old.walker }
     ensures width { length search.new.vector.items ≡ length search.old.vector.items }
-    ensures later { S.faults out.old ≤ S.faults out.new }
-    ensures fault { IsErrOf result WorkStop.WriteFault → Rose (S.faults out.old) (S.faults out.new) }
-    ensures same { ¬ (IsErrOf result WorkStop.WriteFault) → S.faults out.new ≡ S.faults out.old }
+    ensures cause { RisesAt WorkStop.WriteFault (S.faults out.old) (S.faults out.new) result }
 {
     let at = Basis {
         cone: search.sys,

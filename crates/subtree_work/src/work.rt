@@ -1,6 +1,6 @@
 //! The work by subtrees.
-ghost use Rattle.std.specs.Prelude.{◌≡◌, ◌⊎◌, ◌↔◌, ◌≤◌, ◌<◌, true, IfOk, IfErr, OnErr, IsErrOf};
-ghost use Rattle.poly_io.specs.Causes.{Rose};
+ghost use Rattle.std.specs.Prelude.{◌≡◌, ◌⊎◌, ◌↔◌, ◌<◌, true, IfOk, IfErr, OnErr, IsErrOf};
+ghost use Rattle.poly_io.specs.Causes.{RisesAt};
 ghost use Rattle.poly_model.specs.declared.kind.WorkKind.TheVariants.{Subtrees};
 ghost use Rattle.poly_model.specs.declared.overflow.Overflow.{Overflow as Passed};
 ghost use Rattle.poly_model.specs.Due.{IsDue, IsAskedBefore, IsAskedInMain, IsAskedOnTheWay};
@@ -124,9 +124,7 @@ fn run_under<S: Sink, L: Ledger>(
     ensures search { IsSearchOfEach search.new.sys.now search.new.rays search.new.walker search.new.vector.items }
     ensures root { search.new.walker.root ≡ search.old.walker.root }
     ensures sys { search.new.sys.now ≡ search.old.sys.now }
-    ensures later { S.faults out.old ≤ S.faults out.new }
-    ensures fault { IsErrOf result WorkStop.WriteFault → Rose (S.faults out.old) (S.faults out.new) }
-    ensures same { ¬ (IsErrOf result WorkStop.WriteFault) → S.faults out.new ≡ S.faults out.old }
+    ensures cause { RisesAt WorkStop.WriteFault (S.faults out.old) (S.faults out.new) result }
 {
     let mut steps = Steps::<L>::new(blank);
     match go_to(search, key, &mut steps) {

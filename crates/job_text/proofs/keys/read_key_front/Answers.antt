@@ -1,10 +1,7 @@
-use Rattle.std.proofs.Common.{◌≡◌, ◌∙◌, ◌++◌, ℕ, List, length, take, refl, rules, sym, ap, ap₂, subst, arith, length-take-le, append_assoc}
-use Rattle.std.specs.Prelude.{decimal}
+use Rattle.std.proofs.Common.{◌≡◌, ◌∙◌, length, take, refl, rules, sym, subst, arith, length-take-le}
 use Rattle.plain_text.proofs.ReadLemmas.{none_front_read, some_front_read, read_at, read_none}
-use Rattle.plain_text.proofs.NumberLemmas.{decimal_tells}
 use Rattle.poly_model.specs.Keys.{IsKey}
-use Rattle.poly_model.specs.LabelText.{labels_text, key_text}
-use Rattle.job_text.proofs.KeyTextLemmas.{key_parts, key_front_tells}
+use Rattle.job_text.proofs.KeyTextLemmas.{key_parts, key_count, key_of_labels, key_front_tells}
 use Rattle.job_text.proofs.keys.read_key_front.Goals as goal
 
 pub returns-in_err-count : goal.returns-in_err-count
@@ -15,20 +12,15 @@ returns-in_err-count c =
 
 pub returns-then-count : goal.returns-then-count
 returns-then-count c = none_front_read (λ key more has g is.
-    let k = key_parts _ _ _ key more c.split_word.ensures has.is_key.room g is in
     let r = read_at c.in_ok-count.was c.read_count.ensures in
-    let same = decimal_tells c.in_ok-count.count (length key) (omega (arith, r.0)) (omega (arith, has.is_key.room))
-    (sym r.1 ∙ k.0) in
-    omega (arith, same, has.is_key.room, c.if-count.true))
+    let k = key_count _ _ _ key more c.in_ok-count.count c.split_word.ensures has g is r.0 r.1 in
+    omega (arith, k.0, has.is_key.room, c.if-count.true))
 
 pub returns-in-None : goal.returns-in-None
-returns-in-None c =
-    (none_front_read (λ key more has g is.
-    let k = key_parts _ _ _ key more c.split_word.ensures has.is_key.room g is in
+returns-in-None c = none_front_read (λ key more has g is.
     let r = read_at c.in_ok-count.was c.read_count.ensures in
-    let same = decimal_tells c.in_ok-count.count (length key) (omega (arith, r.0)) (omega (arith, has.is_key.room))
-    (sym r.1 ∙ k.0) in
-    c.in-None.ensures.none refl key more has.labels (sym same) g k.1))
+    let k = key_count _ _ _ key more c.in_ok-count.count c.split_word.ensures has g is r.0 r.1 in
+    c.in-None.ensures.none refl key more has.labels (sym k.0) g k.1)
 
 pub returns-in_err-key : goal.returns-in_err-key
 returns-in_err-key c =
@@ -36,10 +28,8 @@ returns-in_err-key c =
     let labels = take c.in_ok-count.count c.in-Some.found.0 in
     let size : length labels ≡ c.in_ok-count.count = search (rules, length-take-le) in
     let (all, split, goes_on) = c.in-Some.ensures.some in
-    let text : c.args.text.now ≡ key_text labels ++ c.in-Some.found.1.now =
-    c.split_word.ensures.whole ∙ ap₂ (λ (a b : List ℕ). a ++ b) (r.1 ∙ ap decimal (sym size)) split
-    ∙ sym (append_assoc (decimal (length labels)) (labels_text labels) c.in-Some.found.1.now) in
     rw c.from_residual-in_err-key.ensures (none_front_read (λ key more has g is.
+    let text = key_of_labels _ _ _ labels c.in-Some.found.1.now c.in_ok-count.count c.split_word.ensures r.1 size split in
     let same = key_front_tells labels key c.in-Some.found.1.now more (omega (arith, size, c.if-count.false)) has.is_key.room
     all has.labels goes_on g (sym text ∙ is) in
     c.in_err-key.ensures (subst IsKey (sym same.0) has.is_key)))
@@ -50,9 +40,7 @@ returns c =
     let labels = take c.in_ok-count.count c.in-Some.found.0 in
     let size : length labels ≡ c.in_ok-count.count = search (rules, length-take-le) in
     let (all, split, goes_on) = c.in-Some.ensures.some in
-    let text : c.args.text.now ≡ key_text labels ++ c.in-Some.found.1.now =
-    c.split_word.ensures.whole ∙ ap₂ (λ (a b : List ℕ). a ++ b) (r.1 ∙ ap decimal (sym size)) split
-    ∙ sym (append_assoc (decimal (length labels)) (labels_text labels) c.in-Some.found.1.now) in
     let key = c.in_ok-key.ensures in
     rw key.1
-    (some_front_read labels c.in-Some.found.1 (record { is_key = key.0; labels = all }) text goes_on)
+    (some_front_read labels c.in-Some.found.1 (record { is_key = key.0; labels = all })
+    (key_of_labels _ _ _ labels c.in-Some.found.1.now c.in_ok-count.count c.split_word.ensures r.1 size split) goes_on)

@@ -1,103 +1,60 @@
-use Rattle.std.proofs.Common.{rules, arith, ◌≡◌, ◌⊎◌, ◌+◌, ◌-◌, ◌≤◌, ◌<◌, List, ap, sym, refl, subst, length, ◌∙◌}
+use Rattle.std.proofs.Common.{rules, arith, ◌≡◌, ◌+◌, ◌-◌, ◌≤◌, ◌<◌, [], ◌∷◌, ◌++◌, List, append-nil, ap, sym, refl, subst, length, ◌∙◌}
 use Rattle.std.specs.List.{All}
 use Rattle.poly_model.specs.declared.listed.Count.{Count}
-use Rattle.poly_model.specs.Keys.{with_label}
-use Rattle.dictionary.specs.Views.{Dictionary, IsPivot, CanPivot, IsOverflow}
-use Rattle.plain_enum.specs.Columns.{IsColumnOf, HasNoColumn}
+use Rattle.dictionary.specs.Views.{Dictionary}
 use Rattle.plain_enum.specs.Listed.{HasRoomFor, HasShapeOf}
 use Rattle.plain_enum.proofs.LoopUnder.{shape_first, room_with, room_below}
 use Rattle.plain_enum.proofs.NextRow as next_row
 use Rattle.work_core.specs.Searches.{by_subsets}
 use Rattle.work_core.proofs.WalkedLemmas.{no_lines}
-use Rattle.subset_work.specs.Counts.{IsOneBase, HasCome}
-use Rattle.subset_work.specs.Standing.{HasRoom, IsLive, IsDead, IsNext, MayTake}
-use Rattle.subset_work.specs.Walked.{WalksUnder}
-use Rattle.subset_work.proofs.ListPrefixes.{none_shown, live_stays, live_deeper, dead_child}
-use Rattle.subset_work.proofs.Sums.{given_is_one, come_first, come_past, come_on}
-use Rattle.subset_work.proofs.Visits.{room_is, begin_at, passed, ended, step_here, walked_at, walks_past, given_back, linear_here, rows_here}
+use Rattle.subset_work.specs.Counts.{HasCome}
+use Rattle.subset_work.specs.Standing.{HasRoom, IsLive, IsNext}
+use Rattle.subset_work.proofs.ListPrefixes.{none_shown, live_deeper}
+use Rattle.subset_work.proofs.Sums.{visited_is_one, may_come, come_first, come_past, come_on}
+use Rattle.subset_work.proofs.Visits.{room_is, begin_at, passed, ended, step_here, walked_at, walks_past, walks_to_child, given_back, linear_here, rows_here}
+use Rattle.subset_work.proofs.Descents.{room_at, next_is_one, label_within, live_at_label, next_below, begins_below, dead_below, too_long, nothing}
 use Rattle.subset_work.proofs.live.+live.Goals.{visit_live-then-not-is_linear+in-Ok, visit_live-else-not-is_linear}
 use Rattle.subset_work.proofs.live.+live.Goals as goal
 
--- ---- the list with the next row more
-pub come_to_next-returns-then-stops-clause-walked : goal.come_to_next-returns-then-stops-clause-walked
-come_to_next-returns-then-stops-clause-walked g t c p live may =
-    let key = c.args.live.now.key.now in
-    let so_far = c.args.so_far.now in
-    let same : c.with-child.result ≡ with_label c.args.live.now.prefix.from key =
-    c.with-child.ensures.value ∙ ap (λ n. with_label n key) c.row-row.ensures in
-    subst (λ ks. WalksUnder p ks so_far.most so_far.longest (g.S.Sink.written c.args.out.now)
-    (g.S.Sink.written c.give_back.new.out) so_far.count c.give_back.result) same
-    (given_back p c.with-child.result so_far.most so_far.longest (g.S.Sink.written c.args.out.now)
-    (g.S.Sink.written c.give_back.new.out) so_far.count c.give_back.result
-    (HasRoom.is_key (subst (λ ks. HasRoom p ks (length c.args.deeper.now - 1)) (sym same) may.room))
-    c.requires.may.within (omega (arith, c.requires.may.near, c.with-child.ensures.room))
-    (subst (λ n. (so_far.most ≤ so_far.count.bases) ⊎ (so_far.longest ≤ n)) c.len.ensures.value (c.if-stops.ensures.back refl))
-    c.give_back.ensures.whole c.give_back.ensures.part c.give_back.ensures.key (given_is_one so_far.count c.give_back.result c.give_back.ensures.rows
-    c.give_back.ensures.jobs c.give_back.ensures.bases) c.give_back.ensures.overflow)
+-- ---- at a list where the walk stops
+pub visit_under-returns-then-stops-clause-walked : goal.visit_under-returns-then-stops-clause-walked
+visit_under-returns-then-stops-clause-walked g t c p front live next eq room nextk =
+    given_back p c.args.way.now.list.key.now c.args.so_far.now (g.S.Sink.written c.args.out.now)
+    (g.S.Sink.written c.give_back.new.out) c.give_back.result room.is_key c.requires.may c.len.result c.len.ensures.value
+    (c.if-stops.ensures.back refl) c.give_back.ensures.whole c.give_back.ensures.part c.give_back.ensures.key
+    c.give_back.ensures.rows c.give_back.ensures.jobs c.give_back.ensures.bases c.give_back.ensures.overflow
 
-pub come_to_next-returns-in_default-clause-walked : goal.come_to_next-returns-in_default-clause-walked
-come_to_next-returns-in_default-clause-walked g t c p live may =
-    let prefix = c.args.live.now.prefix in
-    let key = c.args.live.now.key.now in
-    let so_far = c.args.so_far.now in
-    let left = length c.args.deeper.now - 1 in
-    let same : c.with-child.result ≡ with_label prefix.from key =
-    c.with-child.ensures.value ∙ ap (λ n. with_label n key) c.row-row.ensures in
-    subst (λ ks. WalksUnder p ks so_far.most so_far.longest (g.S.Sink.written c.args.out.now)
-    (g.S.Sink.written c.visit_dead.new.out) so_far.count c.visit_dead.result) same
-    (c.visit_dead.ensures.walked p live.at.file (subst (λ ks. HasRoom p ks left) (sym same) may.room)
-    (subst (λ ks. IsNext ks (prefix.from + 1)) (sym same) may.next)
-    (subst (IsDead p) (sym (same ∙ may.last))
-    (dead_child prefix.sys.now prefix.free.now prefix.dict.now prefix.from (length c.args.deeper.now) p key live
-    c.requires.within
-    (subst (λ k. HasNoColumn prefix.dict.now prefix.free.now k) c.row-row.ensures (c.in_default.ensures.none refl)))))
+-- ---- at the key
+pub visit_under-returns-in_default-clause-walked : goal.visit_under-returns-in_default-clause-walked
+visit_under-returns-in_default-clause-walked g t c p front live next eq room nextk =
+    let prefix = c.args.way.now.prefix in
+    let list = c.args.way.now.list in
+    let key = list.key.now in
+    let same : key ≡ front =
+    eq ∙ ap (λ r. front ++ r) (nothing c.args.way.now.rest.now c.in_default.ensures.cases) ∙ append-nil front in
+    let there = subst (λ ks. IsNext ks prefix.from) (sym same) next in
+    let now = subst (λ j. IsLive prefix.sys.now prefix.free.now prefix.dict.now j (length c.args.deeper.now) p key)
+    (next_is_one key prefix.from list.from there nextk)
+    (subst (λ ks. IsLive prefix.sys.now prefix.free.now prefix.dict.now prefix.from (length c.args.deeper.now) p ks)
+    (sym same) live) in
+    c.visit_live.ensures.walked p now
+    (subst (λ n. HasRoom p key n)
+    (room_at prefix.sys.now prefix.free.now prefix.dict.now list.from (length c.args.deeper.now)
+    (length c.args.deeper.now - length c.args.way.now.rest.now) p key now room) room)
+    nextk
 
-pub come_to_next-take_row-requires-clause-shape : goal.come_to_next-take_row-requires-clause-shape
-come_to_next-take_row-requires-clause-shape g t c =
-    shape_first c.args.live.now.prefix.dict.now c.in-Some-split_first_mut.next.now c.in-Some-split_first_mut.others.now
-    (subst (All (HasShapeOf c.args.live.now.prefix.dict.now)) c.in-Some-split_first_mut.ensures.cases.0
-    c.requires.room.shapes)
-
-pub come_to_next-returns-in-Err-clause-walked : goal.come_to_next-returns-in-Err-clause-walked
-come_to_next-returns-in-Err-clause-walked g t c p live may =
-    let prefix = c.args.live.now.prefix in
-    let so_far = c.args.so_far.now in
-    let overflow = c.in-Err.overflow in
-    let col = c.in-Some.col in
-    walks_past p (with_label prefix.from c.args.live.now.key.now) so_far.most so_far.longest
-    (g.S.Sink.written c.args.out.now) (g.S.Sink.written c.args.out.now) so_far.count overflow
-    (next_row.overflows prefix.sys.now prefix.free.now prefix.dict.now prefix.from (length c.args.deeper.now) p live.cone
-    live.fixed live.left live.marks live.at col overflow
-    (subst (λ k. CanPivot prefix.dict.now k col) c.row-row.ensures c.in-Some.ensures.pivots)
-    (subst (λ k. IsOverflow prefix.dict.now k col overflow) c.row-row.ensures c.in-Err.ensures.passes))
-    (no_lines (by_subsets p) (with_label prefix.from c.args.live.now.key.now) (g.S.Sink.written c.args.out.now))
-
-pub come_to_next-returns-in-Err-clause-room : goal.come_to_next-returns-in-Err-clause-room
-come_to_next-returns-in-Err-clause-room g t c =
-    let prefix = c.args.live.now.prefix in
-    room_with prefix.sys.now prefix.dict.now c.in-Some-split_first_mut.next.now c.take_row.new.next
-    c.in-Some-split_first_mut.others.now _
-    (subst (λ (ds : List Dictionary). HasRoomFor prefix.sys.now prefix.dict.now ds c.args.vector.now)
-    c.in-Some-split_first_mut.ensures.cases.0 c.requires.room) c.in-Err.ensures.shape
-
-pub come_to_next-visit_live-requires : goal.come_to_next-visit_live-requires
-come_to_next-visit_live-requires g t c κs within =
-    let prefix = c.args.live.now.prefix in
-    let split = c.in-Some-split_first_mut.ensures.cases in (
-      omega (arith, c.decreases, split.1),
+pub visit_under-visit_live-requires : goal.visit_under-visit_live-requires
+visit_under-visit_live-requires g t c κs within =
+    let none = c.in_default.ensures.cases in (
+      omega (arith, c.decreases, none),
       (
         within,
         (
-          room_below prefix.sys.now prefix.dict.now c.in-Some-split_first_mut.next.now c.take_row.new.next
-              c.in-Some-split_first_mut.others.now _ prefix.from c.in-Some.col
-              (subst (λ (ds : List Dictionary). HasRoomFor prefix.sys.now prefix.dict.now ds c.args.vector.now) split.0
-              c.requires.room) c.in_default-take_row.ensures.shape
-              (subst (λ k. IsPivot prefix.dict.now k c.in-Some.col c.take_row.new.next) c.row-row.ensures
-              c.in_default-take_row.ensures.pivoted),
+          c.requires.room,
           (
-            omega (arith, c.with-child.ensures.room, split.1, c.requires.few),
+            omega (arith, c.requires.deep, none),
             (
-              omega arith,
+              c.requires.from,
               record {
                 few = c.requires.may.few;
                 some = (c.if-stops.ensures.on refl).0;
@@ -110,29 +67,103 @@ come_to_next-visit_live-requires g t c κs within =
       ),
     )
 
-pub come_to_next-returns-clause-walked : goal.come_to_next-returns-clause-walked
-come_to_next-returns-clause-walked g t c p live may =
-    let prefix = c.args.live.now.prefix in
-    let key = c.args.live.now.key.now in
-    let so_far = c.args.so_far.now in
+-- ---- one label down
+pub visit_under-returns-in_default-column_for-clause-walked : goal.visit_under-returns-in_default-column_for-clause-walked
+visit_under-returns-in_default-column_for-clause-walked g t c p front live next eq room nextk =
+    let prefix = c.args.way.now.prefix in
+    let key = c.args.way.now.list.key.now in
+    let label = c.in-Some.label.now in
+    let later = c.in-Some.later.now in
+    let depth = length c.args.deeper.now in
+    let begins : key ≡ front ++ label ∷ later = eq ∙ ap (λ r. front ++ r) c.in-Some.ensures.cases.0 in
+    let (low, high) = label_within prefix.sys.now prefix.free.now prefix.dict.now prefix.from depth p front live next key label
+    later begins room.is_key in
+    c.visit_dead.ensures.walked p (c.requires.sys ∙ live.at.file)
+    (subst (λ n. HasRoom p key n) (sym c.left_of-left.ensures.value) room) nextk
+    (dead_below prefix.sys.now prefix.free.now prefix.dict.now prefix.from depth p front live next key label later begins
+    room.is_key (c.in_default-column_for.ensures.none refl low high))
+
+pub visit_under-returns-in_default-split_first_mut-clause-walked : goal.visit_under-returns-in_default-split_first_mut-clause-walked
+visit_under-returns-in_default-split_first_mut-clause-walked g t c p front live next eq room nextk =
+    let prefix = c.args.way.now.prefix in
+    let begins = eq ∙ ap (λ r. front ++ r) c.in-Some.ensures.cases.0 in
+    absurd (too_long prefix.sys.now prefix.free.now prefix.dict.now prefix.from (length c.args.deeper.now) p front live next
+    c.args.way.now.list.key.now c.in-Some.label.now c.in-Some.later.now begins room.is_key
+    (let z = c.in_default-split_first_mut.ensures.cases in omega arith))
+
+pub visit_under-take_row-requires-clause-shape : goal.visit_under-take_row-requires-clause-shape
+visit_under-take_row-requires-clause-shape g t c =
+    shape_first c.args.way.now.prefix.dict.now c.in-Some-split_first_mut.next.now c.in-Some-split_first_mut.others.now
+    (subst (All (HasShapeOf c.args.way.now.prefix.dict.now)) c.in-Some-split_first_mut.ensures.cases.0 c.requires.room.shapes)
+
+pub visit_under-returns-in-Err-clause-walked : goal.visit_under-returns-in-Err-clause-walked
+visit_under-returns-in-Err-clause-walked g t c p front live next eq room nextk =
+    let prefix = c.args.way.now.prefix in
+    let key = c.args.way.now.list.key.now in
+    let label = c.in-Some.label.now in
+    let begins : key ≡ front ++ label ∷ c.in-Some.later.now = eq ∙ ap (λ r. front ++ r) c.in-Some.ensures.cases.0 in
+    let here = live_at_label prefix.sys.now prefix.free.now prefix.dict.now prefix.from (length c.args.deeper.now) p front
+    live next key label c.in-Some.later.now begins room.is_key in
+    walks_past p key c.args.so_far.now.most c.args.so_far.now.longest (g.S.Sink.written c.args.out.now)
+    (g.S.Sink.written c.args.out.now) c.args.so_far.now.count c.in-Err.overflow
+    (next_row.overflows prefix.sys.now prefix.free.now prefix.dict.now label (length c.args.deeper.now) p
+    here.cone here.fixed here.left here.marks here.at c.in-Some-column_for.col c.in-Err.overflow
+    c.in-Some-column_for.ensures.pivots c.in-Err.ensures.passes)
+    (no_lines (by_subsets p) key (g.S.Sink.written c.args.out.now))
+
+pub visit_under-returns-in-Err-clause-room : goal.visit_under-returns-in-Err-clause-room
+visit_under-returns-in-Err-clause-room g t c =
+    let prefix = c.args.way.now.prefix in
+    room_with prefix.sys.now prefix.dict.now c.in-Some-split_first_mut.next.now c.take_row.new.next
+    c.in-Some-split_first_mut.others.now _
+    (subst (λ (ds : List Dictionary). HasRoomFor prefix.sys.now prefix.dict.now ds c.args.vector.now)
+    c.in-Some-split_first_mut.ensures.cases.0 c.requires.room) c.in-Err.ensures.shape
+
+pub visit_under-visit_under-requires : goal.visit_under-visit_under-requires
+visit_under-visit_under-requires g t c κs within =
+    let prefix = c.args.way.now.prefix in
+    let split = c.in-Some-split_first_mut.ensures.cases in
+    let z = ap length c.in-Some.ensures.cases.0 in (
+      omega (arith, c.decreases, z, split.1),
+      (
+        within,
+        (
+          room_below prefix.sys.now prefix.dict.now c.in-Some-split_first_mut.next.now c.take_row.new.next
+              c.in-Some-split_first_mut.others.now _ c.in-Some.label.now c.in-Some-column_for.col
+              (subst (λ (ds : List Dictionary). HasRoomFor prefix.sys.now prefix.dict.now ds c.args.vector.now) split.0
+              c.requires.room) c.in_default-take_row.ensures.shape c.in_default-take_row.ensures.pivoted,
+          (omega (arith, c.requires.deep, z, split.1), (c.requires.from, (c.requires.may, c.requires.sys))),
+        ),
+      ),
+    )
+
+pub visit_under-returns-clause-walked : goal.visit_under-returns-clause-walked
+visit_under-returns-clause-walked g t c p front live next eq room nextk =
+    let prefix = c.args.way.now.prefix in
+    let key = c.args.way.now.list.key.now in
+    let label = c.in-Some.label.now in
+    let later = c.in-Some.later.now in
+    let depth = length c.args.deeper.now in
     let others = length c.in-Some-split_first_mut.others.now in
-    let same : c.with-child.result ≡ with_label prefix.from key =
-    c.with-child.ensures.value ∙ ap (λ n. with_label n key) c.row-row.ensures in
-    let less : length c.args.deeper.now - 1 ≡ others = omega (arith, c.in-Some-split_first_mut.ensures.cases.1) in
-    subst (λ ks. WalksUnder p ks so_far.most so_far.longest (g.S.Sink.written c.args.out.now)
-    (g.S.Sink.written c.visit_live.new.out) so_far.count c.visit_live.result) same
-    (c.visit_live.ensures.walked p
-    (subst (λ ks. IsLive prefix.sys.now prefix.free.now c.take_row.new.next (prefix.from + 1) others p ks)
-    (sym (same ∙ may.last))
-    (live_deeper prefix.sys.now prefix.free.now prefix.dict.now prefix.from (length c.args.deeper.now) p key live
-    c.requires.within c.in-Some.col
-    (subst (λ k. IsColumnOf prefix.dict.now prefix.free.now k c.in-Some.col) c.row-row.ensures c.in-Some.ensures.some)
-    c.take_row.new.next
-    (subst (λ k. IsPivot prefix.dict.now k c.in-Some.col c.take_row.new.next) c.row-row.ensures
-    c.in_default-take_row.ensures.pivoted) others (omega (arith, c.in-Some-split_first_mut.ensures.cases.1))))
-    (subst (λ n. HasRoom p c.with-child.result n) less
-    (subst (λ ks. HasRoom p ks (length c.args.deeper.now - 1)) (sym same) may.room))
-    (subst (λ ks. IsNext ks (prefix.from + 1)) (sym same) may.next))
+    let begins : key ≡ front ++ label ∷ later = eq ∙ ap (λ r. front ++ r) c.in-Some.ensures.cases.0 in
+    let here = live_at_label prefix.sys.now prefix.free.now prefix.dict.now prefix.from depth p front live next key label
+    later begins room.is_key in
+    let (low, high) = label_within prefix.sys.now prefix.free.now prefix.dict.now prefix.from depth p front live next key label
+    later begins room.is_key in
+    let at : label ≡ c.from.result = sym (c.from.ensures ∙ c.number.ensures) in
+    let less : depth - length c.args.way.now.rest.now ≡ others - length later =
+    (let z = ap length c.in-Some.ensures.cases.0 in omega (arith, z, c.in-Some-split_first_mut.ensures.cases.1)) in
+    c.visit_under.ensures.walked p (front ++ label ∷ [])
+    (subst (λ j. IsLive prefix.sys.now prefix.free.now c.take_row.new.next (j + 1) others p (front ++ label ∷ [])) at
+    (live_deeper prefix.sys.now prefix.free.now prefix.dict.now label depth p front here high c.in-Some-column_for.col
+    c.in-Some-column_for.ensures.some c.take_row.new.next c.in_default-take_row.ensures.pivoted others
+    (omega (arith, c.in-Some-split_first_mut.ensures.cases.1))))
+    (subst (λ j. IsNext (front ++ label ∷ []) (j + 1)) at
+    (next_below prefix.sys.now prefix.free.now prefix.dict.now prefix.from depth p front live next key label later begins
+    room.is_key))
+    (begins_below prefix.sys.now prefix.free.now prefix.dict.now prefix.from depth p front live next key label later begins
+    room.is_key)
+    (subst (λ n. HasRoom p key n) less room) nextk
 
 -- ---- the list, and those under it
 pub visit_live-returns-then-is_empty-clause-walked : goal.visit_live-returns-then-is_empty-clause-walked
@@ -149,23 +180,51 @@ visit_live-rows-init g t c =
     let prefix = c.args.live.now.prefix in
     let key = c.args.live.now.key.now in
     let so_far = c.args.so_far.now in
-    let base : IsOneBase so_far.count c.one_base-count.result = record {
-      rows = c.one_base-count.ensures.rows;
-      jobs = c.one_base-count.ensures.jobs;
-      bases = c.one_base-count.ensures.bases;
-    } in
+    let base = visited_is_one so_far.count c.one_base-count.result c.one_base-count.ensures.rows
+    c.one_base-count.ensures.jobs c.one_base-count.ensures.bases in
     let more : 0 < length c.args.deeper.now = search rules in
     record {
       room = c.requires.room;
       depth = refl;
       come = come_first so_far.most prefix.from so_far.count c.one_base-count.result c.requires.may.some base;
       same = refl;
-      stands = λ p live. live;
       walked = λ p live room next.
           begin_at p key (length c.args.deeper.now) prefix.from room next so_far.most so_far.longest
           (g.S.Sink.written c.args.out.now) so_far.count c.one_base-count.result
           (none_shown p key (length c.args.deeper.now) room more) base;
     }
+
+pub visit_live-visit_under-requires : goal.visit_live-visit_under-requires
+visit_live-visit_under-requires g t c κs within =
+    let so_far = c.args.so_far.now in
+    let prefix = c.args.live.now.prefix in
+    let depth = c.rows.invariant.depth in
+    let more : 0 < length c.args.deeper.now = search rules in
+    let may = may_come so_far (length c.args.live.now.key.now) prefix.from c.rows.i c.rows.count c.requires.may
+    c.rows.invariant.come in (
+      omega (arith, c.decreases, depth, more),
+      (
+        within,
+        (
+          c.rows.invariant.room,
+          (
+            omega (arith, c.with-child.ensures.room, depth, c.requires.few, more),
+            (
+              omega arith,
+              (
+                record {
+                  few = may.few;
+                  within = may.within;
+                  near = omega (arith, may.near, c.with-child.ensures.room);
+                  sum = may.sum;
+                },
+                refl,
+              ),
+            ),
+          ),
+        ),
+      ),
+    )
 
 pub visit_live-returns-in-Err-clause-walked : goal.visit_live-returns-in-Err-clause-walked
 visit_live-returns-in-Err-clause-walked g t c p live room next =
@@ -179,11 +238,13 @@ visit_live-returns-in-Err-clause-walked g t c p live room next =
     (c.rows.invariant.walked p live room next) c.requires.few more c.rows.invariant.come.far
     (omega (arith, c.rows-test.true, c.rows-i-end.ensures.value)) c.is_linear.result c.is_linear.ensures
     c.if-not-is_linear.true in
-    step.breaks (g.S.Sink.written c.come_to_next.new.out) c.in-Err.stop
-    (c.in-Err.ensures.walked p
-    (subst (λ n. IsLive prefix.sys.now prefix.free.now prefix.dict.now c.rows.i n p key) (sym c.rows.invariant.depth)
-    (c.rows.invariant.stands p live))
-    (subst (λ n. MayTake p key c.rows.i (n - 1)) (sym c.rows.invariant.depth) step.may))
+    step.breaks (g.S.Sink.written c.visit_under.new.out) c.in-Err.stop
+    (walks_to_child p key c.with-child.result c.row-row.result c.rows.i (depth - 1) so_far.most so_far.longest
+    (g.S.Sink.written c.rows.out) (g.S.Sink.written c.visit_under.new.out) c.rows.count _ c.with-child.ensures.value
+    c.row-row.ensures step.may
+    (λ is there after. c.in-Err.ensures.walked p key
+    (subst (λ n. IsLive prefix.sys.now prefix.free.now prefix.dict.now prefix.from n p key) (sym c.rows.invariant.depth) live)
+    next is (subst (λ n. HasRoom p c.with-child.result (n - 1)) (sym c.rows.invariant.depth) there) after))
 
 pub visit_live-rows-preserved : goal.visit_live-rows-preserved
 visit_live-rows-preserved g t c =
@@ -202,9 +263,7 @@ visit_live-rows-preserved g t c =
         depth = ap length w.deeper-is ∙ w.in-Ok.ensures.depth ∙ c.rows.invariant.depth;
         come = subst (λ (n : Count). HasCome so_far.most prefix.from (c.rows.i + 1) so_far.count n) (sym w.count-is)
             (come_on so_far.most prefix.from c.rows.i so_far.count c.rows.count come w.in-Ok.on w.in-Ok.ensures.on few);
-        same = ap g.S.Sink.faults w.out-is ∙ w.in-Ok.ensures.same (λ e. cc) ∙ c.rows.invariant.same;
-        stands = λ p live. live_stays prefix.sys.now prefix.free.now prefix.dict.now c.rows.i depth p key
-            (c.rows.invariant.stands p live) row;
+        same = ap g.S.Sink.faults w.out-is ∙ w.in-Ok.ensures.cause.same (λ e. cc) ∙ c.rows.invariant.same;
         walked = λ p live room next.
             let more : 0 < depth = search rules in
             let step = step_here p prefix.sys.now live.at.file key depth prefix.from room next so_far.most so_far.longest
@@ -213,11 +272,14 @@ visit_live-rows-preserved g t c =
             c.is_linear.ensures w.if-not-is_linear.true in
             walked_at g.S.Sink.written p key prefix.from (c.rows.i + 1) so_far.most so_far.longest old so_far.count
             w.out-is w.count-is
-            (step.goes_on (g.S.Sink.written w.come_to_next.new.out) w.in-Ok.on w.in-Ok.ensures.on.within
-            (w.in-Ok.ensures.walked p
-            (subst (λ n. IsLive prefix.sys.now prefix.free.now prefix.dict.now c.rows.i n p key)
-            (sym c.rows.invariant.depth) (c.rows.invariant.stands p live))
-            (subst (λ n. MayTake p key c.rows.i (n - 1)) (sym c.rows.invariant.depth) step.may)));
+            (step.goes_on (g.S.Sink.written w.visit_under.new.out) w.in-Ok.on w.in-Ok.ensures.on.within
+            (walks_to_child p key w.with-child.result w.row-row.result c.rows.i (depth - 1) so_far.most so_far.longest
+            (g.S.Sink.written c.rows.out) (g.S.Sink.written w.visit_under.new.out) c.rows.count _ w.with-child.ensures.value
+            w.row-row.ensures step.may
+            (λ is there after. w.in-Ok.ensures.walked p key
+            (subst (λ n. IsLive prefix.sys.now prefix.free.now prefix.dict.now prefix.from n p key)
+            (sym c.rows.invariant.depth) live)
+            next is (subst (λ n. HasRoom p w.with-child.result (n - 1)) (sym c.rows.invariant.depth) there) after)));
       }
       | visit_live-else-not-is_linear w ↦ record {
         room = room_is prefix.sys.now prefix.dict.now w.deeper-is w.vector-is c.rows.invariant.room;
@@ -225,8 +287,6 @@ visit_live-rows-preserved g t c =
         come = subst (λ (n : Count). HasCome so_far.most prefix.from (c.rows.i + 1) so_far.count n) (sym w.count-is)
             (come_past so_far.most prefix.from c.rows.i so_far.count c.rows.count come few);
         same = ap g.S.Sink.faults w.out-is ∙ c.rows.invariant.same;
-        stands = λ p live. live_stays prefix.sys.now prefix.free.now prefix.dict.now c.rows.i depth p key
-            (c.rows.invariant.stands p live) row;
         walked = λ p live room next.
             walked_at g.S.Sink.written p key prefix.from (c.rows.i + 1) so_far.most so_far.longest old so_far.count
             w.out-is w.count-is

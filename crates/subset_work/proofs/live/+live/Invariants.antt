@@ -1,4 +1,4 @@
-use Rattle.std.proofs.Common.{◌≡◌, ◌+◌, ◌*◌, length}
+use Rattle.std.proofs.Common.{◌≡◌, ◌+◌, ◌-◌, ◌*◌, length}
 use Rattle.poly_model.specs.Systems.{Polyhedron}
 use Rattle.plain_enum.specs.Listed.{HasRoomFor}
 use Rattle.subset_work.specs.Counts.{HasCome}
@@ -6,15 +6,14 @@ use Rattle.subset_work.specs.Standing.{IsNext, HasRoom, IsLive}
 use Rattle.subset_work.specs.Walked.{HasWalkedTo}
 use Rattle.subset_work.proofs.live.+live.Given as goal
 
+-- a list is come to before it is visited, and each label that is taken takes a dictionary
 abbrev pub decreases-visit_live : goal.decreases-visit_live
-decreases-visit_live g l = 2 * length l.deeper.now + 1
+decreases-visit_live g l = 3 * length l.deeper.now + 1
 
--- a list is come to before it is visited
-abbrev pub decreases-come_to_next : goal.decreases-come_to_next
-decreases-come_to_next g l = 2 * length l.deeper.now
+abbrev pub decreases-visit_under : goal.decreases-visit_under
+decreases-visit_under g l = 3 * (length l.deeper.now - length l.way.now.rest.now) + length l.way.now.rest.now + 2
 
--- the key and the lists under it whose next row comes before row i were visited or given back; the dictionary still
--- stands at the key
+-- the key and the lists under it whose next row comes before row i were visited or given back
 abbrev pub invariant-visit_live-rows : goal.invariant-visit_live-rows
 invariant-visit_live-rows g l =
     record {
@@ -22,10 +21,6 @@ invariant-visit_live-rows g l =
       depth : length l.deeper ≡ length l.fn.deeper;
       come : HasCome l.so_far.most l.live.prefix.from l.i l.fn.so_far.count l.count;
       same : g.S.Sink.faults l.out ≡ g.S.Sink.faults l.fn.out;
-      stands : (p : Polyhedron) → IsLive l.live.prefix.sys.now l.live.prefix.free.now l.live.prefix.dict.now
-          l.live.prefix.from (length l.fn.deeper) p l.live.key.now →
-          IsLive l.live.prefix.sys.now l.live.prefix.free.now l.live.prefix.dict.now l.i (length l.fn.deeper) p
-          l.live.key.now;
       walked : (p : Polyhedron) → IsLive l.live.prefix.sys.now l.live.prefix.free.now l.live.prefix.dict.now
           l.live.prefix.from (length l.fn.deeper) p l.live.key.now → HasRoom p l.live.key.now (length l.fn.deeper) →
           IsNext l.live.key.now l.live.prefix.from →

@@ -1,6 +1,7 @@
 use Rattle.std.proofs.Common.{refl, arith}
 use Rattle.plain_enum.proofs.ShowUnder.{has_coordinate, nothing_here, one_written}
 use Rattle.work_core.proofs.WalkedLemmas.{writes_row, part_row}
+use Rattle.subset_work.proofs.Sums.{visited_is_one}
 use Rattle.subset_work.proofs.Visits.{leaf_none, leaf_one, leaf_part}
 use Rattle.subset_work.proofs.live.show_left.Goals as goal
 
@@ -14,11 +15,9 @@ pub returns-in_default-shown_side-clause-walked : goal.returns-in_default-shown_
 returns-in_default-shown_side-clause-walked g c p key most longest live room =
     let prefix = c.args.prefix.now in
     leaf_none p prefix.sys.now prefix.free.now prefix.dict.now prefix.from key live room most longest
-    (g.S.Sink.written c.args.out.now) c.args.before c.one_base-count.result (record {
-      rows = c.one_base-count.ensures.rows;
-      jobs = c.one_base-count.ensures.jobs;
-      bases = c.one_base-count.ensures.bases;
-    })
+    (g.S.Sink.written c.args.out.now) c.args.before c.one_base-count.result
+    (visited_is_one c.args.before c.one_base-count.result c.one_base-count.ensures.rows c.one_base-count.ensures.jobs
+    c.one_base-count.ensures.bases)
     (nothing_here prefix.sys.now prefix.free.now prefix.dict.now prefix.from p live.cone live.fixed live.left live.marks
     live.at c.requires.room.narrow c.in-Some.col c.in-Some.ensures.some (c.in_default-shown_side.ensures.none refl))
 

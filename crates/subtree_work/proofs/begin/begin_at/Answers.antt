@@ -1,5 +1,5 @@
 use Rattle.std.specs.Result.{IsErrOf}
-use Rattle.std.proofs.Common.{◌≡◌, Err, sym, ap, subst, ◌∙◌}
+use Rattle.std.proofs.Common.{◌≡◌, Err, refl, sym, ap, subst, ◌∙◌}
 use Rattle.poly_model.specs.declared.overflow.Overflow.{Overflow as Passed}
 use Rattle.poly_model.specs.Systems.{System}
 use Rattle.subtree_work.specs.declared.stop.SubtreeStop.{SubtreeStop}
@@ -7,18 +7,22 @@ use Rattle.subtree_work.specs.Made.{IsDueOnWayToRoot}
 use Rattle.subtree_work.proofs.Beginnings.{no_root, due_to_root, at_root, starts_at_root, starts_nowhere, stops_before}
 use Rattle.subtree_work.proofs.begin.begin_at.Goals as goal
 
-pub returns-in-Ok-true-clause-search : goal.returns-in-Ok-true-clause-search
-returns-in-Ok-true-clause-search g c =
+pub returns-in-Ok-true-clause-begins : goal.returns-in-Ok-true-clause-begins
+returns-in-Ok-true-clause-begins g c =
     let root = c.args.root.now.key in
     let there = starts_at_root c.in-Ok.walker c.args.dict root c.key.result c.in-Ok-true.field-0 c.start.new.self c.in-Ok.ensures
     c.key.ensures c.in-Ok-true.field-0-test c.in-Ok-true.ensures.start in
     let width = sym c.in-Ok-from_elem.vector.ok.0 ∙ c.in-Ok-from_elem.ensures.len ∙ c.n.ensures.value in
     record {
-      file = c.requires.file;
-      each = λ p file.
-          let x = c.requires.prepared p file in
-          at_root p x.0 x.1 c.args.dict x.2 root c.start.new.self there c.args.sys.now c.rays_of.result
-          c.in-Ok-from_elem.vector.items file c.rays_of.ensures (width ∙ ap (λ (s : System). s.n) file);
+      search = record {
+        file = c.requires.file;
+        each = λ p file.
+            let x = c.requires.prepared p file in
+            at_root p x.0 x.1 c.args.dict x.2 root c.start.new.self there c.args.sys.now c.rays_of.result
+            c.in-Ok-from_elem.vector.items file c.rays_of.ensures (width ∙ ap (λ (s : System). s.n) file);
+      };
+      same_cone = refl;
+      same_root = there.root;
     }
 
 pub returns-in-Ok-false-clause-bad_root : goal.returns-in-Ok-false-clause-bad_root

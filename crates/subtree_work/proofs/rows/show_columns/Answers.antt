@@ -29,7 +29,7 @@ returns-in_err-count-2-clause-tears g c =
     subst (λ r. OnErr r (TearsRows at.cone.now at.order.now at.dict.now (columns_of at.dict.now)
     (g.S.Sink.written c.args.out.now) (g.S.Sink.written c.show_column-in-columns.new.out))) (sym q.1)
     (tears_more at.cone.now at.order.now at.dict.now (constant_label ∷ take i ks) c.col-item.result
-    (not_before at.dict.now.key ks c.requires.can.labels is c.labels-cobasis.ensures.key.ascending i c.col-item.result
+    (not_before at.dict.now.key ks c.requires.can.tests.labels is c.labels-cobasis.ensures.key.ascending i c.col-item.result
     c.columns-test.true c.col-item.is)
     (g.S.Sink.written c.args.out.now) (g.S.Sink.written c.columns.out) c.args.count c.columns.count c.columns.invariant.shows
     (g.S.Sink.written c.show_column-in-columns.new.out) (columns_of at.dict.now)
@@ -49,12 +49,12 @@ columns-preserved g c =
           (g.S.Sink.written c.show_column-in-columns.new.out) c.args.count c.in_ok-count-2.count)
           (sym (one_more ks i c.col-item.result c.columns-test.true c.col-item.is))
           (shows_more at.cone.now at.order.now at.dict.now (constant_label ∷ take i ks) c.col-item.result
-          (not_before at.dict.now.key ks c.requires.can.labels is c.labels-cobasis.ensures.key.ascending i c.col-item.result
+          (not_before at.dict.now.key ks c.requires.can.tests.labels is c.labels-cobasis.ensures.key.ascending i c.col-item.result
           c.columns-test.true c.col-item.is)
           (g.S.Sink.written c.args.out.now) (g.S.Sink.written c.columns.out) c.args.count c.columns.count
           c.columns.invariant.shows (g.S.Sink.written c.show_column-in-columns.new.out) c.in_ok-count-2.count
           c.in_ok-count-2.ensures.shows);
       width = c.in_ok-count-2.ensures.width ∙ c.columns.invariant.width;
-      same = c.in_ok-count-2.ensures.same ∙ c.columns.invariant.same;
+      same = c.in_ok-count-2.ensures.cause.same ∙ c.columns.invariant.same;
       few = let a = c.columns.invariant.few in let b = c.in_ok-count-2.ensures.few in omega (arith, a, b);
     }

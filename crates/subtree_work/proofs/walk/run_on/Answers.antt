@@ -9,7 +9,7 @@ use Rattle.work_core.specs.Searches.{by_subtrees}
 use Rattle.subtree_work.specs.declared.progress.Progress.{Progress}
 use Rattle.subtree_work.proofs.Running.{Running, begins}
 use Rattle.subtree_work.proofs.Ending.{torn_first}
-use Rattle.subtree_work.proofs.Stepping.{takes_on, takes_last, torn_at, cut_at, search_at_stop, search_at_end, search_from, search_again}
+use Rattle.subtree_work.proofs.Stepping.{rises_at_stop, takes_on, takes_last, torn_at, cut_at, search_at_stop, search_at_end, search_from, search_again}
 use Rattle.subtree_work.proofs.walk.run_on.Goals as goal
 
 -- ---- at the first cobasis
@@ -44,7 +44,7 @@ steps-init g c =
           c.in_ok-count.ensures.width);
       sys = c.in_ok-count.ensures.sys;
       rays = c.in_ok-count.ensures.rays;
-      same = c.in_ok-count.ensures.same (λ e. cc);
+      same = c.in_ok-count.ensures.cause.same (λ e. cc);
     }
 
 -- ---- a step
@@ -94,6 +94,13 @@ returns-in_err-visit-clause-search g c =
     (g.S.Sink.written c.step.new.out) c.in_err-visit.field-0.0 c.in_err-visit.ensures.stops)
     (c.in_err-visit.ensures.sys ∙ c.steps.invariant.sys) (c.in_err-visit.ensures.rays ∙ c.steps.invariant.rays)
 
+pub returns-in_err-visit-clause-cause : goal.returns-in_err-visit-clause-cause
+returns-in_err-visit-clause-cause g c =
+    let r = c.from_residual-in_err-visit in
+    let q = err_from_is_err_and r.result r.ensures.1 in
+    rises_at_stop (g.S.Sink.faults c.args.out.now) (g.S.Sink.faults c.steps.out) (g.S.Sink.faults c.step.new.out) r.result
+    c.in_err-visit.field-0.0 c.steps.invariant.same (q.1 ∙ ap (λ e. Err e) q.2) c.in_err-visit.ensures.cause
+
 -- ---- the end
 pub returns-then-is_end-clause-whole : goal.returns-then-is_end-clause-whole
 returns-then-is_end-clause-whole g c p file =
@@ -132,5 +139,5 @@ steps-preserved g c =
           c.in_ok-visit.ensures.takes;
       sys = c.in_ok-visit.ensures.sys ∙ c.steps.invariant.sys;
       rays = c.in_ok-visit.ensures.rays ∙ c.steps.invariant.rays;
-      same = c.in_ok-visit.ensures.same (λ e. cc) ∙ c.steps.invariant.same;
+      same = c.in_ok-visit.ensures.cause.same (λ e. cc) ∙ c.steps.invariant.same;
     }

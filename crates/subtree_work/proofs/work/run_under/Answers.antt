@@ -1,55 +1,45 @@
 use Rattle.std.specs.Prelude.{OnErr, IfOk}
 use Rattle.std.specs.Result.{IsErrOf}
-use Rattle.std.proofs.Common.{◌≡◌, inl, Bool, true≢false, Err, sym, subst, ◌∙◌}
+use Rattle.std.proofs.Common.{◌≡◌, inl, true≢false, Err, sym, subst, ◌∙◌}
 use Rattle.poly_model.specs.declared.listed.Count.{Count}
 use Rattle.poly_model.specs.declared.overflow.Overflow.{Overflow as Passed}
 use Rattle.poly_model.specs.Due.{IsDue, IsAskedInMain, IsAskedOnTheWay}
-use Rattle.reverse_step.specs.Starts.{IsAtKey, Starts}
 use Rattle.work_core.specs.declared.stops.WorkStop.{WorkStop}
 use Rattle.work_core.specs.ReplyLines.{IsWholeRun, IsCutRun, IsTornRun}
 use Rattle.work_core.specs.Searches.{by_subtrees}
 use Rattle.work_core.proofs.WalkedLemmas.{no_lines, cut_is_torn}
+use Rattle.subtree_work.proofs.Beginnings.{holds_at_key}
 use Rattle.subtree_work.proofs.Searched.{due_in_run}
 use Rattle.subtree_work.proofs.work.run_under.Goals as goal
 
 pub returns-in-Ok-true-clause-whole : goal.returns-in-Ok-true-clause-whole
 returns-in-Ok-true-clause-whole g c p file is =
-    let s = c.args.search.now in
-    let t = c.go_to.new.search in
-    let at : IsAtKey s.walker c.args.key.now t.walker =
-    subst (λ (b : Bool). Starts s.walker c.args.key.now b t.walker) c.in-Ok-true.field-0-test c.in-Ok-true.ensures.starts in
     let old = g.S.Sink.written c.args.out.now in
     let new = g.S.Sink.written c.run_on.new.out in
-    subst (λ r. IfOk c.run_on.result (IsWholeRun (by_subtrees p r) c.args.key.now c.args.budget old new)) at.root
-    (subst (λ j. IfOk c.run_on.result (IsWholeRun (by_subtrees p t.walker.root) j c.args.budget old new)) at.job
-    (c.run_on.ensures.whole p (c.in-Ok-true.ensures.sys ∙ file)))
+    holds_at_key c.args.search.now.walker c.args.key.now c.in-Ok-true.field-0 c.go_to.new.search.walker
+    c.in-Ok-true.ensures.starts c.in-Ok-true.field-0-test
+    (λ root job. IfOk c.run_on.result (IsWholeRun (by_subtrees p root) job c.args.budget old new))
+    (c.run_on.ensures.whole p (c.in-Ok-true.ensures.sys ∙ file))
 
 pub returns-in-Ok-true-clause-overflow : goal.returns-in-Ok-true-clause-overflow
 returns-in-Ok-true-clause-overflow g c o e p file is =
     let s = c.args.search.now in
-    let t = c.go_to.new.search in
-    let at : IsAtKey s.walker c.args.key.now t.walker =
-    subst (λ (b : Bool). Starts s.walker c.args.key.now b t.walker) c.in-Ok-true.field-0-test c.in-Ok-true.ensures.starts in
     let old = g.S.Sink.written c.args.out.now in
     let new = g.S.Sink.written c.run_on.new.out in
-    let both = c.run_on.ensures.overflow o e p (c.in-Ok-true.ensures.sys ∙ file) in (
-      due_in_run p s.walker.dict.key c.args.key.now s.walker.root o
-          (subst (λ r. IsDue p o (IsAskedInMain p r o)) at.root both.0),
-      subst (λ r. IsCutRun (by_subtrees p r) c.args.key.now old new) at.root
-          (subst (λ j. IsCutRun (by_subtrees p t.walker.root) j old new) at.job both.1),
-    )
+    let both = holds_at_key s.walker c.args.key.now c.in-Ok-true.field-0 c.go_to.new.search.walker c.in-Ok-true.ensures.starts
+    c.in-Ok-true.field-0-test
+    (λ root job. IsDue p o (IsAskedInMain p root o) × IsCutRun (by_subtrees p root) job old new)
+    (c.run_on.ensures.overflow o e p (c.in-Ok-true.ensures.sys ∙ file)) in
+    (due_in_run p s.walker.dict.key c.args.key.now s.walker.root o both.0, both.1)
 
 pub returns-in-Ok-true-clause-torn : goal.returns-in-Ok-true-clause-torn
 returns-in-Ok-true-clause-torn g c p file is =
-    let s = c.args.search.now in
-    let t = c.go_to.new.search in
-    let at : IsAtKey s.walker c.args.key.now t.walker =
-    subst (λ (b : Bool). Starts s.walker c.args.key.now b t.walker) c.in-Ok-true.field-0-test c.in-Ok-true.ensures.starts in
     let old = g.S.Sink.written c.args.out.now in
     let new = g.S.Sink.written c.run_on.new.out in
-    subst (λ r. OnErr c.run_on.result (IsTornRun (by_subtrees p r) c.args.key.now old new)) at.root
-    (subst (λ j. OnErr c.run_on.result (IsTornRun (by_subtrees p t.walker.root) j old new)) at.job
-    (c.run_on.ensures.torn p (c.in-Ok-true.ensures.sys ∙ file)))
+    holds_at_key c.args.search.now.walker c.args.key.now c.in-Ok-true.field-0 c.go_to.new.search.walker
+    c.in-Ok-true.ensures.starts c.in-Ok-true.field-0-test
+    (λ root job. OnErr c.run_on.result (IsTornRun (by_subtrees p root) job old new))
+    (c.run_on.ensures.torn p (c.in-Ok-true.ensures.sys ∙ file))
 
 pub returns-in-Ok-false-clause-whole : goal.returns-in-Ok-false-clause-whole
 returns-in-Ok-false-clause-whole g c p file is =

@@ -1,20 +1,16 @@
-use Rattle.std.proofs.Common.{◌≡◌, ◌+◌, ◌*◌}
+use Rattle.std.proofs.Common.{◌≡◌}
 use Rattle.poly_model.specs.Systems.{Polyhedron, cone_of}
 use Rattle.subset_work.specs.Counts.{HasCome}
 use Rattle.subset_work.specs.Standing.{IsNext, HasRoom, IsDead}
 use Rattle.subset_work.specs.Walked.{HasWalkedTo}
-use Rattle.subset_work.proofs.dead.+dead.Given as goal
+use Rattle.subset_work.proofs.dead.+visit_dead.Given as goal
 
 abbrev pub decreases-visit_dead : goal.decreases-visit_dead
-decreases-visit_dead g l = 2 * l.left
-
--- a list is come to before it is visited
-abbrev pub decreases-come_to_dead : goal.decreases-come_to_dead
-decreases-come_to_dead g l = 2 * l.left + 1
+decreases-visit_dead g l = l.left
 
 -- the key and the lists under it whose next row comes before row i were visited or given back
-abbrev pub invariant-visit_dead-rows : goal.invariant-visit_dead-rows
-invariant-visit_dead-rows g l =
+abbrev pub invariant-rows : goal.invariant-rows
+invariant-rows g l =
     record {
       come : HasCome l.so_far.most l.list.from l.i l.fn.so_far.count l.count;
       same : g.S.Sink.faults l.out ≡ g.S.Sink.faults l.fn.out;
