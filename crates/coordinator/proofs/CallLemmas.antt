@@ -118,39 +118,45 @@ goes-refused s a key budget text old new act same told =
     (goes_one s (stepped s (hands a key budget false)) (hands a key budget false) (refused a (text_for s.run.search key budget)) old new act refl refl
     (subst (λ (x : List ℕ). Tells old new (refused a x ∷ [])) same told)).leads
 
-pub goes-collect : (s t : State) (e : Event) (h : Happening) (old new : Option (List Happening)) → next_action s ≡ Collect → GoesOn (verdict_of s e) → t ≡ after s e →
-    IsToldAsEvent s e h → Tells old new (h ∷ []) → StepsTo s t old new (kept_text (verdict_of s e) h)
-goes-collect s t e h old new act g is k told = goes_one s t (collects e) h old new (act, g) is k told
-
 ends-collect-at : (s : State) (e : Event) (h : Happening) (v : Verdict) (old new : Option (List Happening)) → verdict_of s e ≡ v → next_action s ≡ Collect →
     IsToldAsEvent s e h → Tells old new (h ∷ []) → LeadsSomewhere s old new (kept_text v h)
 ends-collect-at s e h Accepted old new j act k told =
-    inl (after s e, subst (λ (v : Verdict). LeadsTo s (after s e) old new (kept_text v h)) j (goes-collect s (after s e) e h old new act (subst GoesOn (sym j) tt) refl k told).leads)
+    inl (after s e, subst (λ (v : Verdict). LeadsTo s (after s e) old new (kept_text v h)) j (goes_one s (after s e) (collects e) h old new (act, subst GoesOn (sym j) tt) refl k told).leads)
 ends-collect-at s e h Stray old new j act k told =
-    inl (after s e, subst (λ (v : Verdict). LeadsTo s (after s e) old new (kept_text v h)) j (goes-collect s (after s e) e h old new act (subst GoesOn (sym j) tt) refl k told).leads)
+    inl (after s e, subst (λ (v : Verdict). LeadsTo s (after s e) old new (kept_text v h)) j (goes_one s (after s e) (collects e) h old new (act, subst GoesOn (sym j) tt) refl k told).leads)
 ends-collect-at s e h Loss old new j act k told =
-    inl (after s e, subst (λ (v : Verdict). LeadsTo s (after s e) old new (kept_text v h)) j (goes-collect s (after s e) e h old new act (subst GoesOn (sym j) tt) refl k told).leads)
+    inl (after s e, subst (λ (v : Verdict). LeadsTo s (after s e) old new (kept_text v h)) j (goes_one s (after s e) (collects e) h old new (act, subst GoesOn (sym j) tt) refl k told).leads)
 ends-collect-at s e h (Ends o) old new j act k told =
     inr (o, record { last = s; before = old; goes = goes_none s old; waits = act; event = e; happening = h; told_as = k; told = told; ends = j })
 
--- whatever came, the call goes on or is ended by it
-pub goes-collected : (s : State) (e : Event) (h : Happening) (old new : Option (List Happening)) → next_action s ≡ Collect → IsToldAsEvent s e h → Tells old new (h ∷ []) →
-    LeadsSomewhere s old new (kept_text (verdict_of s e) h)
-goes-collected s e h old new act k told = ends-collect-at s e h (verdict_of s e) old new refl act k told
+-- ---- a collect: the machine says that it is next, and stays as it is
+module _ (s mid : State) (same : mid ≡ s) (action : Collect ≡ next_action s) (e : Event) (h : Happening) (told_as : IsToldAsEvent mid e h) where
+  waits : next_action mid ≡ Collect
+  waits = ap next_action same ∙ sym action
 
-pub ends-collected : (s : State) (e : Event) (h : Happening) (o : Passed) (old new : Option (List Happening)) → next_action s ≡ Collect → IsToldAsEvent s e h →
-    Tells old new (h ∷ []) → verdict_of s e ≡ Ends o → EndsBy s o old new []
-ends-collected s e h o old new act k told j = record {
-  last = s;
-  before = old;
-  goes = goes_none s old;
-  waits = act;
-  event = e;
-  happening = h;
-  told_as = k;
-  told = told;
-  ends = j;
-}
+  pub goes-collect : (t : State) (old new : Option (List Happening)) → GoesOn (verdict_of mid e) → t ≡ after mid e → Tells old new (h ∷ []) →
+      StepsTo s t old new (kept_text (verdict_of mid e) h)
+  goes-collect t old new on is told =
+      subst (λ (z : State). StepsTo z t old new (kept_text (verdict_of mid e) h)) same (goes_one mid t (collects e) h old new (waits, on) is told_as told)
+
+  -- whatever came, the call goes on or is ended by it
+  pub goes-collected : (old new : Option (List Happening)) → Tells old new (h ∷ []) → LeadsSomewhere s old new (kept_text (verdict_of mid e) h)
+  goes-collected old new told =
+      subst (λ (z : State). LeadsSomewhere z old new (kept_text (verdict_of mid e) h)) same (ends-collect-at mid e h (verdict_of mid e) old new refl waits told_as told)
+
+  pub ends-collected : (o : Passed) (old new : Option (List Happening)) → Tells old new (h ∷ []) → verdict_of mid e ≡ Ends o → EndsBy s o old new []
+  ends-collected o old new told j =
+      let here : EndsBy mid o old new [] =
+      record { last = mid; before = old; goes = goes_none mid old; waits = waits; event = e; happening = h; told_as = told_as; told = told; ends = j } in
+      subst (λ (z : State). EndsBy z o old new []) same here
+
+  -- and each lowers what is left to do
+  pub lower-collect : (t : State) → AreOptions s.options → GoesOn (verdict_of mid e) → t ≡ after mid e →
+      1 + left_to_do t ≤ left_to_do s + bytes_in (kept_text (verdict_of mid e) h)
+  lower-collect t options on is =
+      let lower = steps_lower mid (collects e) h (subst (λ (z : State). AreOptions z.options) (sym same) options) (waits, on) told_as in
+      subst (λ (z : State). 1 + left_to_do t ≤ left_to_do z + bytes_in (kept_text (verdict_of mid e) h)) same
+      (subst (λ (z : State). 1 + left_to_do z ≤ left_to_do mid + bytes_in (kept_text (verdict_of mid e) h)) (sym is) lower)
 
 -- ---- no step
 pub goes-still : (s : State) (old new : Option (List Happening)) → Tells old new [] → LeadsTo s s old new []
@@ -172,7 +178,7 @@ same-attempt s (Answer a r) (Reply b bytes) k = k.0
 same-attempt s (Lost a) (Reply b bytes) k = k.0
 same-attempt s e (Broken b) k = ap attempt_of k
 
--- ---- each step lowers what is left to do
+-- ---- a start lowers what is left to do
 pub lower-start : (s mid t : State) (a : ℕ) (key : List ℕ) (budget : Budget) (text out out' : List ℕ) (old new : Option (List Happening)) → AreOptions s.options →
     next_action s ≡ Hand a key budget → mid ≡ handed s key budget → IsStarted mid t a text out out' old new → 1 + left_to_do t ≤ left_to_do s + bytes_in []
 lower-start s mid t a key budget text out out' old new o act is p =
@@ -180,8 +186,3 @@ lower-start s mid t a key budget text out out' old new o act is p =
     let state : t ≡ stepped s step = p.state ∙ ap (λ (z : State). started_or_lost z a p.began) is in
     subst (λ (z : State). 1 + left_to_do z ≤ left_to_do s + bytes_in []) (sym state)
     (steps_lower s step (start_told p.began a (text_for s.run.search key budget)) o act (told-start s a key budget p.began))
-
-pub lower-collect : (s t : State) (e : Event) (h : Happening) → AreOptions s.options → next_action s ≡ Collect → GoesOn (verdict_of s e) → t ≡ after s e → IsToldAsEvent s e h →
-    1 + left_to_do t ≤ left_to_do s + bytes_in (kept_text (verdict_of s e) h)
-lower-collect s t e h o act g is k =
-    subst (λ (z : State). 1 + left_to_do z ≤ left_to_do s + bytes_in (kept_text (verdict_of s e) h)) (sym is) (steps_lower s (collects e) h o (act, g) k)

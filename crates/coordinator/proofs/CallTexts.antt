@@ -5,6 +5,7 @@ use Rattle.poly_reader.specs.Reading.{IsOfItsText}
 use Rattle.work_core.specs.Searches.{Search}
 use Rattle.job_text.specs.declared.reply.Reply.{Reply}
 use Rattle.job_text.specs.FirstPayloads.{IsRootText, first_payload}
+use Rattle.disk_core.specs.Contents.{Told}
 use Rattle.disk_core.specs.declared.disk.Disk.{Ghosts as Disk}
 use Rattle.disk_core.specs.Moments.{LeavesOnly}
 use Rattle.disk_core.proofs.Moments.{joined}
@@ -20,7 +21,7 @@ use Rattle.workers_io.specs.History.{Happening}
 use Rattle.coordinator_laws.specs.Courses.{Course, start_in}
 use Rattle.coordinator_laws.proofs.CourseLaws.{events_keep_text}
 use Rattle.coordinator.specs.Calls.{PrintsRecords, state_after}
-use Rattle.coordinator.specs.Following.{Finishes, LeadsTo}
+use Rattle.coordinator.specs.Following.{Finishes, LeadsSomewhere, LeadsTo}
 use Rattle.coordinator.specs.Leaving.{HasFront, LeavesFronts}
 use Rattle.coordinator.specs.Ending.{PrintsWith}
 use Rattle.coordinator.proofs.MoreRecords.{front_none}
@@ -49,7 +50,7 @@ pub searches_same : (options : Options) (s : Search) (replies : List Reply) (cor
 searches_same options s replies core is = ap (λ (z : State). z.run.search) is ∙ run-search (first_run s) replies
 
 -- ---- the disk
-pub leaves_new : {D : Type 0} (disk : Disk D) (old mid new : D) (k : Known) (payloads texts : List (List ℕ)) →
+leaves_new : {D : Type 0} (disk : Disk D) (old mid new : D) (k : Known) (payloads texts : List (List ℕ)) →
     LeavesOnly disk.moment disk.since old mid (λ c. disk.images old c ⊎ (HasNoRun c ⊎ Records payloads c)) →
     IsLedgerAt k payloads (disk.seen mid) (disk.images mid) → LeavesFronts disk mid new k texts →
     LeavesOnly disk.moment disk.since old new (λ c. disk.images old c ⊎ (HasNoRun c ⊎ HasFront payloads texts c))
@@ -66,6 +67,19 @@ leaves_new {D} disk old mid new k payloads texts first at f =
     wider c (inl a) = inl a
     wider c (inr (inl b)) = inr (inl b)
     wider c (inr (inr r)) = inr (inr (front_none payloads texts c r))
+
+-- whatever a call answers that begins with these records
+pub goes_new : {D : Type 0} (disk : Disk D) (s : State) (payloads : List (List ℕ)) (old mid new : D) (core : State) (k : Known) (told told' : Option (List Happening)) →
+    Told (disk.seen old) (λ f. LeavesOnly disk.moment disk.since old mid (λ c. disk.images old c ⊎ (HasNoRun c ⊎ Records payloads c))) →
+    core ≡ s → Told (disk.seen old) (λ f. IsLedgerAt k payloads (disk.seen mid) (disk.images mid)) →
+    ((texts : List (List ℕ)) × LeadsSomewhere core told told' texts × LeavesFronts disk mid new k texts) →
+    (texts : List (List ℕ)) × LeadsSomewhere s told told' texts
+    × Told (disk.seen old) (λ f. LeavesOnly disk.moment disk.since old new (λ c. disk.images old c ⊎ (HasNoRun c ⊎ HasFront payloads texts c)))
+goes_new disk s payloads old mid new core k told told' moments is at (texts, leads, leaves) = (
+  texts,
+  subst (λ (z : State). LeadsSomewhere z told told' texts) is leads,
+  λ file there. leaves_new disk old mid new k payloads texts (moments file there) (at file there) leaves,
+)
 
 -- ---- what is printed
 module _ {D : Type 0} (disk : Disk D) (options : Options) (s : Search) (replies : List Reply) (payloads texts : List (List ℕ)) (core : State) (k : Known)

@@ -51,6 +51,10 @@ module _ {D : Type 0} (disk : Disk D) where
       started disk.moment disk.since d (HasFront records texts)
       (λ c now. front_none records texts c (subst (Records records) (sym (at.settled c (only_now d c now))) at.has))
 
+  -- by a call that left the disk as it was
+  pub leaves_still : (a b : D) (k : Known) (texts : List (List ℕ)) → b ≡ a → ((x : D) (c : List ℕ) → disk.since x (disk.moment x) c → disk.images x c) → LeavesFronts disk a b k texts
+  leaves_still a b k texts same only_now = subst (λ (d : D). LeavesFronts disk a d k texts) (sym same) (leaves_same a k texts only_now)
+
   pub leaves_join : (a b c : D) (k l : Known) (xs ys : List (List ℕ)) → Adds disk a b k l xs → LeavesFronts disk b c l ys → LeavesFronts disk a c k (xs ++ ys)
   leaves_join a b c k l xs ys f g records at =
       joined disk.moment disk.since a b c (HasFront records xs) (HasFront (records ++ xs) ys) (HasFront records (xs ++ ys)) (f.leaves records at)
@@ -63,6 +67,10 @@ module _ {D : Type 0} (disk : Disk D) where
     kept = λ records at. subst (λ (l : List (List ℕ)). IsLedgerAt k l (disk.seen d) (disk.images d)) (sym (append-nil records)) at;
     leaves = leaves_same d k [] only_now;
   }
+
+  pub adds_still : (a b : D) (k l : Known) → b ≡ a → l ≡ k → ((x : D) (c : List ℕ) → disk.since x (disk.moment x) c → disk.images x c) → Adds disk a b k l []
+  adds_still a b k l same still only_now =
+      subst (λ (d : D). Adds disk a d k l []) (sym same) (subst (λ (z : Known). Adds disk a a k z []) (sym still) (adds_none a k only_now))
 
   pub adds_join : (a b c : D) (k l m : Known) (xs ys : List (List ℕ)) → Adds disk a b k l xs → Adds disk b c l m ys → Adds disk a c k m (xs ++ ys)
   adds_join a b c k l m xs ys f g = record {

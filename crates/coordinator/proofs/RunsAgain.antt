@@ -2,6 +2,7 @@
 use Rattle.std.proofs.Common.{arith, ℕ, suc, List, ◌≡◌, ◌⊎◌, inl, inr, ◌<◌, ◌^◌, [], ◌∷◌, refl, sym, ap, ◌∙◌, subst, length, Option, Some, Ok, Err, Result, IfOk}
 use Rattle.std.specs.List.{All}
 use Rattle.std.proofs.lemmas.Bool.{le-ltb}
+use Rattle.poly_model.specs.Equations.{AreConsistent}
 use Rattle.work_core.specs.Searches.{Search}
 use Rattle.job_text.specs.declared.reply.Reply.{Reply}
 use Rattle.disk_core.specs.Contents.{Told}
@@ -11,6 +12,7 @@ use Rattle.disk_core.proofs.Moments.{joined}
 use Rattle.job_ledger.specs.Ledgers.{IsLedgerAt, Known}
 use Rattle.job_ledger.specs.Records.{IsShort, Records}
 use Rattle.job_ledger.proofs.LayoutLemmas.{one_layout}
+use Rattle.workers_io.specs.History.{Happening}
 use Rattle.run_state.specs.Payloads.{AreShort, IsLedgerText}
 use Rattle.run_state.specs.Runs.{IsRunOf, Run, first_run}
 use Rattle.run_state.proofs.FollowLemmas.{run-search}
@@ -19,6 +21,7 @@ use Rattle.coordinator_core.specs.declared.options.Options.{Options}
 use Rattle.coordinator_core.specs.declared.action.Action.TheVariants.{Finish}
 use Rattle.coordinator_core.specs.Machine.{State, next_action, start_of}
 use Rattle.coordinator.specs.Calls.{RecordedRun, state_after, state_at}
+use Rattle.coordinator.specs.Following.{LeadsSomewhere}
 use Rattle.coordinator.specs.Leaving.{HasFront, LeavesFronts}
 
 -- ---- what the file tells
@@ -62,7 +65,7 @@ pub known_as : (k : Known) (limit : ℕ) (sizes : List ℕ) → k.limit ≡ limi
 unfolding known
 known_as k limit sizes a b = ap (λ (n : ℕ). known n k.sizes) a ∙ ap (known limit) b
 
-pub leaves_on : {D : Type 0} (disk : Disk D) (old mid new : D) (k : Known) (payloads texts : List (List ℕ)) →
+leaves_on : {D : Type 0} (disk : Disk D) (old mid new : D) (k : Known) (payloads texts : List (List ℕ)) →
     LeavesOnly disk.moment disk.since old mid (disk.images old) → IsLedgerAt k payloads (disk.seen mid) (disk.images mid) →
     LeavesFronts disk mid new k texts → LeavesOnly disk.moment disk.since old new (λ c. disk.images old c ⊎ HasFront payloads texts c)
 leaves_on {D} disk old mid new k payloads texts first at f =
@@ -70,6 +73,23 @@ leaves_on {D} disk old mid new k payloads texts first at f =
   where
     after : List ℕ → Type 0
     after c = disk.images old c ⊎ HasFront payloads texts c
+
+-- whatever a call answers that goes on from these records
+pub goes_again : {D : Type 0} (disk : Disk D) (options : Options) (old mid new : D) (core : State) (k : Known) (told told' : Option (List Happening)) →
+    LeavesOnly disk.moment disk.since old mid (disk.images old) →
+    ((r : RecordedRun (disk.seen old)) × (core ≡ state_at options r) × AreConsistent r.search.polyhedron
+    × Told (disk.seen old) (λ f. IsLedgerAt k r.payloads (disk.seen mid) (disk.images mid))) →
+    ((texts : List (List ℕ)) × LeadsSomewhere core told told' texts × LeavesFronts disk mid new k texts) →
+    (r : RecordedRun (disk.seen old)) × (texts : List (List ℕ)) × AreConsistent r.search.polyhedron
+    × LeadsSomewhere (state_at options r) told told' texts
+    × Told (disk.seen old) (λ f. LeavesOnly disk.moment disk.since old new (λ c. disk.images old c ⊎ HasFront r.payloads texts c))
+goes_again disk options old mid new core k told told' quiet (r, is, consistent, at) (texts, leads, leaves) = (
+  r,
+  texts,
+  consistent,
+  subst (λ (z : State). LeadsSomewhere z told told' texts) is leads,
+  λ file there. leaves_on disk old mid new k r.payloads texts quiet (at file there) leaves,
+)
 
 -- ---- three facts of a value
 pub ok_three : {T E : Type 0} (r : Result T E) (P Q R S : T → Type 0) → ((x : T) → P x → Q x → R x → S x) → IfOk r P → IfOk r Q → IfOk r R → IfOk r S

@@ -22,55 +22,7 @@ use disk_core::Disk;
 use job_ledger::LedgerStop;
 use job_text::FirstPayload;
 use linearity::PrepareStop;
-use poly_model::Lines;
 use run_ledger::begin_run;
-
-// The ledger with its first record, and the core of a run whose lines are known.
-fn begin_with<D: Disk>(
-    terms: &Terms,
-    first: FirstPayload,
-    lines: Lines,
-    disk: &mut D,
-) -> Result<Going, RunStop>
-    requires { AreTerms terms.now }
-    ensures moments { Told (D.seen disk.old) (λ f. LeavesOnly D.moment D.since disk.old disk.new
-        (λ c. D.images disk.old c ⊎ (HasNoRun c ⊎ Records (first_payload (search_in first) ∷ []) c))) }
-    ensures kept { IfOk result (λ g. Told (D.seen disk.old)
-        (λ f. IsLedgerAt g.ledger (first_payload (search_in first) ∷ []) (D.seen disk.new) (D.images disk.new))) }
-    ensures knows { IfOk result (λ g. g.ledger ≡ grown (new_ledger terms.now.limit) (length (first_payload (search_in first)))) }
-    ensures core { IfOk result (λ g. g.core ≡ state_after terms.now.options (search_in first) []) }
-    ensures lines { IfOk result (λ g. g.lines ≡ lines) }
-    ensures fresh { OnOk result (Told (D.seen disk.old) HasNoRun) }
-    ensures has { IsErrOf result RunStop.HasRun → LeavesOnly D.moment D.since disk.old disk.new (D.images disk.old)
-        × Told (D.seen disk.old) (λ f. IsOpen f × (D.seen disk.new ≡ Some f)) }
-    ensures past { (need most : ℕ) → IsErrOf result (RunStop.LedgerLimit need most) →
-        IsPastLimit (new_ledger terms.now.limit) (length (first_payload (search_in first))) need most }
-    ensures never_passes { (o : Passed) → IsErrOf result (RunStop.Overflow o) → ⊥ }
-    ensures never_lost { (lost strays : ℕ) → IsErrOf result (RunStop.Lost lost strays) → ⊥ }
-    ensures never_bad { (place : ℕ) → IsErrOf result (RunStop.BadLedger place) → ⊥ }
-    ensures never_write { IsErrOf result RunStop.WriteFault → ⊥ }
-    ensures cause { RisesAt RunStop.DiskFault (D.faults disk.old) (D.faults disk.new) result }
-{
-    match begin_run(terms.alloc, disk, terms.limit, first) {
-        Ok(begun) => {
-            let (ledger, run) = begun;
-            match Core::new(terms.alloc, run, terms.options) {
-                Ok(core) => Ok(Going {
-                    ledger,
-                    core,
-                    lines,
-                }),
-                Err(_) => Err(RunStop::Memory),
-            }
-        }
-        Err(LedgerStop::HasRun) => Err(RunStop::HasRun),
-        Err(LedgerStop::LedgerLimit { need, limit }) => Err(RunStop::LedgerLimit { need, limit }),
-        Err(LedgerStop::DiskFault) => Err(RunStop::DiskFault),
-        Err(LedgerStop::Memory) => Err(RunStop::Memory),
-        Err(LedgerStop::NoRun) => unreachable!(),
-        Err(LedgerStop::BadLedger { place: _ }) => unreachable!(),
-    }
-}
 
 // What comes before the first action: the lines, then the first record, then the core.
 pub(crate) fn begin<D: Disk>(
@@ -100,10 +52,29 @@ pub(crate) fn begin<D: Disk>(
     ensures never_write { IsErrOf result RunStop.WriteFault → ⊥ }
     ensures cause { RisesAt RunStop.DiskFault (D.faults disk.old) (D.faults disk.new) result }
 {
-    match lines_of(terms.alloc, &first.poly) {
-        Ok(lines) => begin_with(terms, first, lines, disk),
-        Err(PrepareStop::Overflow(overflow)) => Err(RunStop::Overflow(overflow)),
-        Err(PrepareStop::Memory) => Err(RunStop::Memory),
+    let lines = match lines_of(terms.alloc, &first.poly) {
+        Ok(lines) => lines,
+        Err(PrepareStop::Overflow(overflow)) => return Err(RunStop::Overflow(overflow)),
+        Err(PrepareStop::Memory) => return Err(RunStop::Memory),
         Err(PrepareStop::Inconsistent) => unreachable!(),
+    };
+    match begin_run(terms.alloc, disk, terms.limit, first) {
+        Ok(begun) => {
+            let (ledger, run) = begun;
+            match Core::new(terms.alloc, run, terms.options) {
+                Ok(core) => Ok(Going {
+                    ledger,
+                    core,
+                    lines,
+                }),
+                Err(_) => Err(RunStop::Memory),
+            }
+        }
+        Err(LedgerStop::HasRun) => Err(RunStop::HasRun),
+        Err(LedgerStop::LedgerLimit { need, limit }) => Err(RunStop::LedgerLimit { need, limit }),
+        Err(LedgerStop::DiskFault) => Err(RunStop::DiskFault),
+        Err(LedgerStop::Memory) => Err(RunStop::Memory),
+        Err(LedgerStop::NoRun) => unreachable!(),
+        Err(LedgerStop::BadLedger { place: _ }) => unreachable!(),
     }
 }

@@ -1,11 +1,11 @@
 //! All actions of a call, one after the other.
-ghost use Rattle.std.specs.Prelude.{◌≡◌, ◌≤◌, ℕ, List, IfOk, OnOk, OnErr, IfSome, IsNone, IsErrOf};
+ghost use Rattle.std.specs.Prelude.{◌≡◌, ℕ, List, IfOk, OnOk, IfSome, IsNone};
 ghost use Rattle.poly_io.specs.Causes.{RisesAt};
-ghost use Rattle.poly_model.specs.declared.overflow.Overflow.{Overflow as Passed};
 ghost use Rattle.coordinator_core.specs.declared.action.Action.TheVariants.{Finish};
 ghost use Rattle.coordinator_core.specs.Machine.{next_action};
-ghost use Rattle.coordinator.specs.Following.{AreOut, EndsBy, LeadsTo, LeadsSomewhere, IsMove, last_action};
-ghost use Rattle.coordinator.specs.Leaving.{Adds, IsRefusedBy, LeavesFronts};
+ghost use Rattle.coordinator.specs.Following.{AreOut, LeadsTo, IsMove, last_action};
+ghost use Rattle.coordinator.specs.Leaving.{Adds};
+ghost use Rattle.coordinator.specs.Stops.{StopsTurns};
 
 use crate::ending::Ending;
 use crate::{TurnStop, turn};
@@ -46,15 +46,8 @@ pub(crate) fn follow<D: Disk, W: Workers>(
     ensures ended { IfOk result (λ ending. next_action core.new ≡ last_action ending) }
     // Where nothing is left to do at the beginning nothing is done.
     ensures idle { next_action core.old ≡ Finish → workers.new ≡ workers.old }
-    ensures stopped { OnErr result ((texts : List (List ℕ))
-        × LeadsSomewhere core.old (W.history workers.old) (W.history workers.new) texts
-        × LeavesFronts D.Disk disk.old disk.new ledger.old texts) }
-    ensures overflow { (o : Passed) → IsErrOf result (TurnStop.Overflow o) →
-        (texts : List (List ℕ)) × EndsBy core.old o (W.history workers.old) (W.history workers.new) texts
-        × Adds D.Disk disk.old disk.new ledger.old ledger.new texts }
-    ensures past { (need most : ℕ) → IsErrOf result (TurnStop.LedgerLimit need most) →
-        (texts : List (List ℕ)) × LeadsSomewhere core.old (W.history workers.old) (W.history workers.new) texts
-        × LeavesFronts D.Disk disk.old disk.new ledger.old texts × IsRefusedBy ledger.old texts need most }
+    ensures stopped { StopsTurns D.Disk disk.old disk.new ledger.old ledger.new
+        core.old (W.history workers.old) (W.history workers.new) result }
     ensures cause { RisesAt TurnStop.DiskFault (D.faults disk.old) (D.faults disk.new) result }
     ensures honest { W.honest workers.old → W.honest workers.new }
 {

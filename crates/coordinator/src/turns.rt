@@ -1,10 +1,10 @@
 //! One action of the machine.
-ghost use Rattle.std.specs.Prelude.{◌≡◌, ◌⊎◌, ◌<◌, ◌≤◌, ℕ, List, IfOk, OnOk, OnErr, IsErrOf};
+ghost use Rattle.std.specs.Prelude.{◌≡◌, ◌⊎◌, ◌<◌, ℕ, List, IfOk, OnOk, OnErr, IsErrOf};
 ghost use Rattle.poly_io.specs.Causes.{RisesAt};
-ghost use Rattle.poly_model.specs.declared.overflow.Overflow.{Overflow as Passed};
 ghost use Rattle.coordinator_core.specs.Machine.{next_action};
-ghost use Rattle.coordinator.specs.Following.{AreOut, EndsBy, LeadsSomewhere, StepsTo, IsMove, most_actions};
-ghost use Rattle.coordinator.specs.Leaving.{Adds, IsRefusedBy, LeavesFronts};
+ghost use Rattle.coordinator.specs.Following.{AreOut, StepsTo, IsMove, most_actions};
+ghost use Rattle.coordinator.specs.Leaving.{Adds};
+ghost use Rattle.coordinator.specs.Stops.{StopsTurns};
 
 use crate::TurnStop;
 use crate::starting::{job_head, start_job};
@@ -39,15 +39,9 @@ pub fn turn<D: Disk, W: Workers>(
         × (disk.new ≡ disk.old) × (ledger.new ≡ ledger.old))) }
     // An error comes only where something is to be done.
     ensures tries { OnErr result (IsMove (next_action core.old)) }
-    ensures stopped { OnErr result ((texts : List (List ℕ))
-        × LeadsSomewhere core.old (W.history workers.old) (W.history workers.new) texts
-        × LeavesFronts D.Disk disk.old disk.new ledger.old texts) }
-    ensures overflow { (o : Passed) → IsErrOf result (TurnStop.Overflow o) →
-        (texts : List (List ℕ)) × EndsBy core.old o (W.history workers.old) (W.history workers.new) texts
-        × Adds D.Disk disk.old disk.new ledger.old ledger.new texts }
-    ensures past { (need most : ℕ) → IsErrOf result (TurnStop.LedgerLimit need most) →
-        (texts : List (List ℕ)) × LeadsSomewhere core.old (W.history workers.old) (W.history workers.new) texts
-        × IsRefusedBy ledger.old texts need most × (disk.new ≡ disk.old) }
+    ensures stopped { StopsTurns D.Disk disk.old disk.new ledger.old ledger.new
+        core.old (W.history workers.old) (W.history workers.new) result }
+    ensures past { (need most : ℕ) → IsErrOf result (TurnStop.LedgerLimit need most) → disk.new ≡ disk.old }
     ensures cause { RisesAt TurnStop.DiskFault (D.faults disk.old) (D.faults disk.new) result }
     ensures honest { W.honest workers.old → W.honest workers.new }
 {

@@ -251,6 +251,17 @@ handed-still came sent attempt s sent1 handed e l t c =
     ⊎_elim (handed t) (λ (z : gone s ≡ t). subst (λ (u : Sent). u.place < length came) z here)
     (set-member sent (attempt - 1) (gone s) t (subst (λ (z : List Sent). Contains z t) l c))
 
+-- the places that are added are those of the keys that came
+pub queue-taken : (run run1 : Run) (r : Reply) (queue mid queue1 : List ℕ) (first end : ℕ) → run1 ≡ run_after run r →
+    first ≡ length run.came → end ≡ length run1.came → mid ≡ queue → queue1 ≡ mid ++ range_with_len first (end - first) →
+    queue1 ≡ queue ++ range_with_len (length run.came) (length r.keys)
+queue-taken run run1 r queue mid queue1 first end g f e m q =
+    let long : length run1.came ≡ length run.came + length r.keys = ap (λ (z : Run). length z.came) g ∙ length-append run.came r.keys in
+    let n : end - first ≡ length r.keys = omega (arith, long, f, e) in
+    q ∙ ap (λ (l : List ℕ). l ++ range_with_len first (end - first)) m
+    ∙ ap (λ (k : ℕ). queue ++ range_with_len k (end - first)) f
+    ∙ ap (λ (k : ℕ). queue ++ range_with_len (length run.came) k) n
+
 pub taken-view : (options : Options) (run : Run) (queue : List ℕ) (sent : List Sent) (losses strays attempt out capacity : ℕ) (r : Reply) (s : Sent)
     (run1 : Run) (queue1 : List ℕ) (sent1 : List Sent) →
     IsKept options run queue sent out capacity → sent_numbered sent attempt ≡ Some s → run1 ≡ run_after run r →

@@ -13,33 +13,23 @@ use task::{Task, task_of};
 const LIMIT: u64 = 1 << 40;
 
 fn main(rt: HostRuntime) -> ExitCode {
-    match run(&rt) {
-        Ok(true) => ExitCode::SUCCESS,
-        Ok(false) => ExitCode::from(2),
-        Err(_) => ExitCode::FAILURE,
-    }
+    run(&rt).unwrap_or(ExitCode::FAILURE)
 }
 
-// Whether the words asked for a task, which is then done and told of.
-fn run(rt: &HostRuntime) -> io::Result<bool> {
-    let alloc = rt.alloc();
-    let args = std::env::args(rt)?.collect::<Vec<String>>(alloc)?;
-    let words = args
-        .iter()
-        .skip(1)
-        .map(|word| word.as_str())
-        .collect::<Vec<&str>>(alloc)?;
+// Does what the words of the call ask for, and tells of it. Where they ask for nothing the exit status is 2.
+fn run(rt: &HostRuntime) -> io::Result<ExitCode> {
+    let words = std::env::args(rt)?.collect::<Vec<String>>(rt.alloc())?;
     let Some((name, task)) = task_of(&words) else {
         eprintln!(rt;
             "usage: ledger_bench FILE append RECORDS SIZE | count | payload NUMBER | remove"
         )?;
-        return Ok(false);
+        return Ok(ExitCode::from(2));
     };
     match done(rt, name, task) {
         Ok(number) => println!(rt; "{number}")?,
         Err(stop) => println!(rt; "{stop:?}")?,
     }
-    Ok(true)
+    Ok(ExitCode::SUCCESS)
 }
 
 // What a task finds: how many records a ledger has, or how long a payload is.

@@ -10,20 +10,20 @@ pub enum Task {
     Remove,
 }
 
-/// The file and the task that these words ask for; they are those after the program's name.
-pub fn task_of<'a>(words: &[&'a str]) -> Option<(&'a str, Task)> {
-    let [name, task, others @ ..] = words else {
+/// The file and the task that these words ask for; the first is the program's name.
+pub fn task_of(words: &[String]) -> Option<(&str, Task)> {
+    let [_, name, task, others @ ..] = words else {
         return None;
     };
     let task = match others {
-        [] if *task == "count" => Task::Count,
-        [] if *task == "remove" => Task::Remove,
-        [number] if *task == "payload" => Task::Payload(number.parse().ok()?),
-        [records, size] if *task == "append" => Task::Append {
+        [] if task.as_str() == "count" => Task::Count,
+        [] if task.as_str() == "remove" => Task::Remove,
+        [number] if task.as_str() == "payload" => Task::Payload(number.parse().ok()?),
+        [records, size] if task.as_str() == "append" => Task::Append {
             records: records.parse().ok()?,
             size: size.parse().ok()?,
         },
         _ => return None,
     };
-    Some((*name, task))
+    Some((name.as_str(), task))
 }

@@ -24,36 +24,26 @@ use task::{Task, task_of};
 const LIMIT: usize = 1 << 30;
 
 fn main(rt: HostRuntime) -> ExitCode {
-    match run(&rt) {
-        Ok(true) => ExitCode::SUCCESS,
-        Ok(false) => ExitCode::from(2),
-        Err(_) => ExitCode::FAILURE,
-    }
+    run(&rt).unwrap_or(ExitCode::FAILURE)
 }
 
-// Whether the words asked for a task, which is then done and told of.
-fn run(rt: &HostRuntime) -> io::Result<bool> {
-    let alloc = rt.alloc();
-    let args = std::env::args(rt)?.collect::<Vec<String>>(alloc)?;
-    let words = args
-        .iter()
-        .skip(1)
-        .map(|word| word.as_str())
-        .collect::<Vec<&str>>(alloc)?;
+// Does what the words of the call ask for, and tells of it. Where they ask for nothing the exit status is 2.
+fn run(rt: &HostRuntime) -> io::Result<ExitCode> {
+    let words = std::env::args(rt)?.collect::<Vec<String>>(rt.alloc())?;
     let Some(task) = task_of(&words) else {
         eprintln!(rt; "usage: machine_bench histories | keys KEYS | replies KEYS")?;
-        return Ok(false);
+        return Ok(ExitCode::from(2));
     };
     let done = match task {
         Task::Histories => play_all(rt),
-        Task::Keys(keys) => take_replies(alloc, keys),
-        Task::Replies(keys) => read_replies(alloc, keys),
+        Task::Keys(keys) => take_replies(rt.alloc(), keys),
+        Task::Replies(keys) => read_replies(rt.alloc(), keys),
     };
     match done {
         Ok(count) => println!(rt; "{count}")?,
         Err(stop) => println!(rt; "{stop:?}")?,
     }
-    Ok(true)
+    Ok(ExitCode::SUCCESS)
 }
 
 // Plays the histories of standard input, and tells what the machine does, as far as they can be played; counts them.

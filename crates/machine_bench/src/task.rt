@@ -9,12 +9,12 @@ pub enum Task {
     Replies(u64),
 }
 
-/// The task that these words ask for; they are those after the program's name.
-pub fn task_of(words: &[&str]) -> Option<Task> {
+/// The task that these words ask for; the first is the program's name.
+pub fn task_of(words: &[String]) -> Option<Task> {
     match words {
-        [task] if *task == "histories" => Some(Task::Histories),
-        [task, keys] if *task == "keys" => Some(Task::Keys(keys.parse().ok()?)),
-        [task, keys] if *task == "replies" => Some(Task::Replies(keys.parse().ok()?)),
+        [_, task] if task.as_str() == "histories" => Some(Task::Histories),
+        [_, task, keys] if task.as_str() == "keys" => Some(Task::Keys(keys.parse().ok()?)),
+        [_, task, keys] if task.as_str() == "replies" => Some(Task::Replies(keys.parse().ok()?)),
         _ => None,
     }
 }

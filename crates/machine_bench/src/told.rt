@@ -2,13 +2,14 @@
 use crate::stop::Stop;
 use coordinator_core::{Action, Verdict};
 use poly_io::{MemSink, WriteFault, write_all, write_count};
+use poly_model::Key;
 use row_printer::{write_key, write_overflow};
 use run_state::RunState;
+use work_core::Budget;
 
 /// That a payload of the ledger is broken.
 pub fn write_broken(place: u64, out: &mut MemSink) -> Result<(), WriteFault> {
-    write_numbers(b"broken", &[place], out)?;
-    write_all(out, b"\n")
+    write_line(b"broken", &[place], out)
 }
 
 /// What is next.
@@ -18,18 +19,10 @@ pub fn write_action(action: &Action, out: &mut MemSink) -> Result<(), WriteFault
             attempt,
             key,
             budget,
-        } => {
-            write_numbers(b"hand", &[*attempt, budget.bases, budget.depth], out)?;
-            write_all(out, b" ")?;
-            write_key(key, out)?;
-            write_all(out, b"\n")
-        }
+        } => write_hand(*attempt, key, budget, out),
         Action::Collect => write_all(out, b"collect\n"),
         Action::Finish => write_all(out, b"finish\n"),
-        Action::GiveUp { lost, strays } => {
-            write_numbers(b"give up", &[*lost, *strays], out)?;
-            write_all(out, b"\n")
-        }
+        Action::GiveUp { lost, strays } => write_line(b"give up", &[*lost, *strays], out),
     }
 }
 
@@ -64,6 +57,25 @@ pub fn write_state(run: &RunState, out: &mut MemSink) -> Result<(), Stop> {
     }
     write_all(out, b"\n")?;
     Ok(())
+}
+
+// That a job is handed out: the number of its attempt, its budget and its key.
+fn write_hand(
+    attempt: u64,
+    key: &Key,
+    budget: &Budget,
+    out: &mut MemSink,
+) -> Result<(), WriteFault> {
+    write_numbers(b"hand", &[attempt, budget.bases, budget.depth], out)?;
+    write_all(out, b" ")?;
+    write_key(key, out)?;
+    write_all(out, b"\n")
+}
+
+// A line of a word, and numbers behind it.
+fn write_line(word: &[u8], numbers: &[u64], out: &mut MemSink) -> Result<(), WriteFault> {
+    write_numbers(word, numbers, out)?;
+    write_all(out, b"\n")
 }
 
 // A word, and numbers behind it.

@@ -21,27 +21,17 @@ use table::Table;
 use walk::walk;
 
 fn main(rt: HostRuntime) -> ExitCode {
-    match run(&rt) {
-        Ok(true) => ExitCode::SUCCESS,
-        Ok(false) => ExitCode::from(2),
-        Err(_) => ExitCode::FAILURE,
-    }
+    run(&rt).unwrap_or(ExitCode::FAILURE)
 }
 
-// Whether the words asked for a run, which is then done and told of.
-fn run(rt: &HostRuntime) -> io::Result<bool> {
-    let alloc = rt.alloc();
-    let args = std::env::args(rt)?.collect::<Vec<String>>(alloc)?;
-    let words = args
-        .iter()
-        .skip(1)
-        .map(|word| word.as_str())
-        .collect::<Vec<&str>>(alloc)?;
+// Does what the words of the call ask for, and tells of it. Where they ask for nothing the exit status is 2.
+fn run(rt: &HostRuntime) -> io::Result<ExitCode> {
+    let words = std::env::args(rt)?.collect::<Vec<String>>(rt.alloc())?;
     let Some(plan) = plan_of(&words) else {
         eprintln!(rt;
             "usage: pivot_bench print|dictionary|checked|walk uniform|graded|smooth ROWS COLUMNS BITS PIVOTS SEED"
         )?;
-        return Ok(false);
+        return Ok(ExitCode::from(2));
     };
     match plan.mode {
         Mode::Print => print_first(rt, &plan)?,
@@ -49,11 +39,11 @@ fn run(rt: &HostRuntime) -> io::Result<bool> {
         Mode::Checked => time_checked(rt, &plan)?,
         Mode::Walk => {
             let mut random = Random { state: plan.seed };
-            let mut dict = drawn(alloc, &plan, &mut random)?;
+            let mut dict = drawn(rt.alloc(), &plan, &mut random)?;
             walk(rt, &mut dict, &plan, &mut random)?;
         }
     }
-    Ok(true)
+    Ok(ExitCode::SUCCESS)
 }
 
 // Pivots of a dictionary, to and fro.

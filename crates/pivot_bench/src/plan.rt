@@ -59,13 +59,13 @@ impl Plan {
     }
 }
 
-/// What these words ask for; they are those after the program's name.
-pub fn plan_of(words: &[&str]) -> Option<Plan> {
-    let [mode, entries, rows, columns, bits, pivots, seed] = words else {
+/// What these words ask for; the first is the program's name.
+pub fn plan_of(words: &[String]) -> Option<Plan> {
+    let [_, mode, entries, rows, columns, bits, pivots, seed] = words else {
         return None;
     };
-    let mode = mode_of(*mode)?;
-    let entries = entries_of(*entries)?;
+    let mode = mode_of(mode.as_str())?;
+    let entries = entries_of(entries.as_str())?;
     let rows: u32 = rows.parse().ok()?;
     let columns: u32 = columns.parse().ok()?;
     if rows == 0 || rows > MOST_FILE_ROWS {

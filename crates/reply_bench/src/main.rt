@@ -15,32 +15,22 @@ use task::{Task, task_of};
 const LIMIT: usize = 1 << 32;
 
 fn main(rt: HostRuntime) -> ExitCode {
-    match run(&rt) {
-        Ok(true) => ExitCode::SUCCESS,
-        Ok(false) => ExitCode::from(2),
-        Err(_) => ExitCode::FAILURE,
-    }
+    run(&rt).unwrap_or(ExitCode::FAILURE)
 }
 
-// Whether the words asked for a task, which is then done and told of.
-fn run(rt: &HostRuntime) -> io::Result<bool> {
-    let alloc = rt.alloc();
-    let args = std::env::args(rt)?.collect::<Vec<String>>(alloc)?;
-    let words = args
-        .iter()
-        .skip(1)
-        .map(|word| word.as_str())
-        .collect::<Vec<&str>>(alloc)?;
+// Does what the words of the call ask for, and tells of it. Where they ask for nothing the exit status is 2.
+fn run(rt: &HostRuntime) -> io::Result<ExitCode> {
+    let words = std::env::args(rt)?.collect::<Vec<String>>(rt.alloc())?;
     let Some(task) = task_of(&words) else {
         eprintln!(rt; "usage: reply_bench take | read NUMBERS")?;
-        return Ok(false);
+        return Ok(ExitCode::from(2));
     };
     let mut input = StdinSource::new(rt.stdin());
-    match read_whole(alloc, &mut input, LIMIT) {
+    match read_whole(rt.alloc(), &mut input, LIMIT) {
         Ok(text) => tell(rt, task, &text)?,
         Err(stop) => println!(rt; "{stop:?}")?,
     }
-    Ok(true)
+    Ok(ExitCode::SUCCESS)
 }
 
 // Tells how many bytes the text has, or how many rows and keys the reply that it is.

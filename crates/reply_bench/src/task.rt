@@ -7,11 +7,11 @@ pub enum Task {
     Read(u32),
 }
 
-/// The task that these words ask for; they are those after the program's name.
-pub fn task_of(words: &[&str]) -> Option<Task> {
+/// The task that these words ask for; the first is the program's name.
+pub fn task_of(words: &[String]) -> Option<Task> {
     match words {
-        [name] if *name == "take" => Some(Task::Take),
-        [name, numbers] if *name == "read" => Some(Task::Read(numbers.parse().ok()?)),
+        [_, task] if task.as_str() == "take" => Some(Task::Take),
+        [_, task, numbers] if task.as_str() == "read" => Some(Task::Read(numbers.parse().ok()?)),
         _ => None,
     }
 }

@@ -4,6 +4,7 @@ ghost use Rattle.dictionary.specs.Blanks.{IsBlankOf};
 
 use crate::stop::Stop;
 use dictionary::{Dict, Steps};
+use lex_pivot::Pivot;
 use poly_model::{Key, Label, Overflow};
 use std::marker::Brand;
 use std::sync::ledger::{Blank, Ledger};
@@ -22,7 +23,7 @@ pub fn push_neighbours(dicts: &mut Vec<Dict>, dict: &Dict) -> Result<(), Stop> {
 fn push_exchanges(dicts: &mut Vec<Dict>, dict: &Dict, row: Label) -> Result<(), Stop> {
     for col in dict.cobasis() {
         let mut next = dict.copy()?;
-        if exchange(&mut next, row, *col)? && !has_key(dicts, &next.key()) {
+        if exchange(&mut next, &Pivot { row, col: *col })? && !has_key(dicts, &next.key()) {
             let Ok(()) = dicts.push(next) else {
                 return Err(Stop::Memory);
             };
@@ -35,23 +36,22 @@ fn has_key(dicts: &[Dict], key: &Key) -> bool {
     dicts.iter().any(|dict| dict.key().is_same(key))
 }
 
-// Exchanges a row for a label of the cobasis, and says whether the two can be exchanged.
-fn exchange(dict: &mut Dict, row: Label, col: Label) -> Result<bool, Overflow> {
-    exchange_counted::<Brand>(dict, row, col, Blank::new(1))
+// Exchanges the row and the column of a pivot, and says whether the two can be exchanged.
+fn exchange(dict: &mut Dict, pivot: &Pivot) -> Result<bool, Overflow> {
+    exchange_counted::<Brand>(dict, pivot, Blank::new(1))
 }
 
 // The same with a blank for the pivot's counter, of which nothing is said.
 fn exchange_counted<L: Ledger>(
     dict: &mut Dict,
-    row: Label,
-    col: Label,
+    pivot: &Pivot,
     blank: Blank,
 ) -> Result<bool, Overflow>
     requires blank { IsBlankOf blank.name blank.parts L.name L.parts }
 {
-    if !dict.can_pivot(row, col) {
+    if !dict.can_pivot(pivot.row, pivot.col) {
         return Ok(false);
     }
-    dict.pivot(row, col, &mut Steps::<L>::new(blank))?;
+    dict.pivot(pivot.row, pivot.col, &mut Steps::<L>::new(blank))?;
     Ok(true)
 }

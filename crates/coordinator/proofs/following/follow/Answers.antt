@@ -1,10 +1,9 @@
-use Rattle.std.proofs.Common.{rules, ◌≡◌, ◌∙◌, ◌++◌, [], refl, Err, sym, ap, subst}
+use Rattle.std.proofs.Common.{rules, ◌≡◌, ◌∙◌, ◌++◌, [], refl, Err, ap, subst}
 use Rattle.coordinator_core.specs.Machine.{next_action}
 use Rattle.coordinator.specs.declared.stops.TurnStop.TheVariants.{LedgerLimit, Overflow}
 use Rattle.coordinator.specs.Following.{IsMove}
-use Rattle.coordinator.specs.Leaving.{LeavesFronts}
 use Rattle.coordinator.proofs.CallLemmas.{ends_join, goes_join, goes_none, somewhere_join}
-use Rattle.coordinator.proofs.MoreRecords.{adds_join, adds_none, leaves_join, leaves_same, refused_join}
+use Rattle.coordinator.proofs.MoreRecords.{adds_join, adds_none, leaves_join, refused_join}
 use Rattle.coordinator.proofs.following.follow.Goals as goal
 
 pub turns-init : goal.turns-init
@@ -38,31 +37,28 @@ returns-in-Err-clause-idle g c f =
 
 pub returns-in-Err-clause-stopped : goal.returns-in-Err-clause-stopped
 returns-in-Err-clause-stopped g c =
-    let i = c.turns.invariant in
-    let p = c.in-Err.ensures.stopped in (
-      i.1.0 ++ p.0,
-      somewhere_join c.args.core.now c.turns.core _ _ _ i.1.0 p.0 i.1.1 p.1,
-      leaves_join g.D.Disk c.args.disk.now c.turns.disk c.turn.new.disk c.args.ledger.now c.turns.ledger i.1.0 p.0 i.1.2 p.2,
-    )
-
-pub returns-in-Err-clause-overflow : goal.returns-in-Err-clause-overflow
-returns-in-Err-clause-overflow g c o is =
-    let i = c.turns.invariant in
-    let stop : c.in-Err.stop ≡ Overflow o = cc in
-    let p = c.in-Err.ensures.overflow o (ap Err stop) in (
-      i.1.0 ++ p.0,
-      ends_join c.args.core.now c.turns.core o _ _ _ i.1.0 p.0 i.1.1 p.1,
-      adds_join g.D.Disk c.args.disk.now c.turns.disk c.turn.new.disk c.args.ledger.now c.turns.ledger c.turn.new.ledger i.1.0 p.0 i.1.2 p.2,
-    )
-
-pub returns-in-Err-clause-past : goal.returns-in-Err-clause-past
-returns-in-Err-clause-past g c need most is =
-    let i = c.turns.invariant in
-    let stop : c.in-Err.stop ≡ LedgerLimit need most = cc in
-    let p = c.in-Err.ensures.past need most (ap Err stop) in (
-      i.1.0 ++ p.0,
-      somewhere_join c.args.core.now c.turns.core _ _ _ i.1.0 p.0 i.1.1 p.1,
-      leaves_join g.D.Disk c.args.disk.now c.turns.disk c.turn.new.disk c.args.ledger.now c.turns.ledger i.1.0 p.0 i.1.2
-          (subst (λ d. LeavesFronts g.D.Disk c.turns.disk d c.turns.ledger p.0) (sym p.3) (leaves_same g.D.Disk c.turns.disk c.turns.ledger p.0 g.met.D.Disk.only_now)),
-      refused_join c.args.ledger.now c.turns.ledger i.1.0 p.0 need most i.1.2.knows p.2,
-    )
+    let texts = c.turns.invariant.1.0 in
+    let leads = c.turns.invariant.1.1 in
+    let adds = c.turns.invariant.1.2 in
+    record {
+      somewhere = let p = c.in-Err.ensures.stopped.somewhere in (
+        texts ++ p.0,
+        somewhere_join c.args.core.now c.turns.core _ _ _ texts p.0 leads p.1,
+        leaves_join g.D.Disk c.args.disk.now c.turns.disk c.turn.new.disk c.args.ledger.now c.turns.ledger texts p.0 adds p.2,
+      );
+      overflow = λ o is.
+          let stop : c.in-Err.stop ≡ Overflow o = cc in
+          let p = c.in-Err.ensures.stopped.overflow o (ap Err stop) in (
+            texts ++ p.0,
+            ends_join c.args.core.now c.turns.core o _ _ _ texts p.0 leads p.1,
+            adds_join g.D.Disk c.args.disk.now c.turns.disk c.turn.new.disk c.args.ledger.now c.turns.ledger c.turn.new.ledger texts p.0 adds p.2,
+          );
+      past = λ need most is.
+          let stop : c.in-Err.stop ≡ LedgerLimit need most = cc in
+          let p = c.in-Err.ensures.stopped.past need most (ap Err stop) in (
+            texts ++ p.0,
+            somewhere_join c.args.core.now c.turns.core _ _ _ texts p.0 leads p.1,
+            leaves_join g.D.Disk c.args.disk.now c.turns.disk c.turn.new.disk c.args.ledger.now c.turns.ledger texts p.0 adds p.2,
+            refused_join c.args.ledger.now c.turns.ledger texts p.0 need most adds.knows p.3,
+          );
+    }

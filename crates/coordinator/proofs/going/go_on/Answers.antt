@@ -64,12 +64,12 @@ returns-in-Err-LedgerLimit-clause-past g c need most is =
     let n : c.in-Err-LedgerLimit.need ≡ need = rw c.in-Err-LedgerLimit.field-0-is at given.0 in
     let m : c.in-Err-LedgerLimit.limit ≡ most = rw c.in-Err-LedgerLimit.field-0-is at given.1 in
     let stop : c.in-Err-LedgerLimit.field-0 ≡ LedgerLimit need most = c.in-Err-LedgerLimit.field-0-is ∙ ap (λ (x : ℕ). LedgerLimit x c.in-Err-LedgerLimit.limit) n ∙ ap (LedgerLimit need) m in
-    let p = c.in-Err-LedgerLimit.ensures.past need most (ap Err stop) in
+    let p = c.in-Err-LedgerLimit.ensures.stopped.past need most (ap Err stop) in
     (refl, p.0, p.1, p.2, p.3)
 
 pub returns-in-Err-Overflow-clause-overflow : goal.returns-in-Err-Overflow-clause-overflow
 returns-in-Err-Overflow-clause-overflow g c o is =
     let q : c.in-Err-Overflow.overflow ≡ o = cc in
     let stop : c.in-Err-Overflow.field-0 ≡ Overflow o = c.in-Err-Overflow.field-0-is ∙ ap Overflow q in
-    let p = c.in-Err-Overflow.ensures.overflow o (ap Err stop) in
+    let p = c.in-Err-Overflow.ensures.stopped.overflow o (ap Err stop) in
     (refl, p.0, p.1, rests_after g.D.Disk c.args.disk.now c.follow.new.disk c.args.going.now.ledger c.follow.new.ledger p.0 p.2)

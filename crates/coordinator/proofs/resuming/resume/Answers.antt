@@ -8,37 +8,19 @@ use Rattle.coordinator.specs.Following.{EndsBy, Finishes, GivesUp, LeadsSomewher
 use Rattle.coordinator.proofs.CallFaults.{rises_as}
 use Rattle.coordinator.proofs.CallTexts.{never_bad, printed_err, printed_ok, prints_on}
 use Rattle.coordinator.proofs.MoreRecords.{refused_join}
-use Rattle.coordinator.proofs.RunsAgain.{known_as, leaves_on, rests_there}
+use Rattle.coordinator.proofs.RunsAgain.{goes_again, known_as, rests_there}
 use Rattle.coordinator.proofs.resuming.resume.Goals as goal
 
 -- ---- whatever the answer of the call behind the beginning
 pub returns-in-Ok-go_on-clause-goes : goal.returns-in-Ok-go_on-clause-goes
 returns-in-Ok-go_on-clause-goes g c =
-    let p = c.go_on.ensures.goes in
-    let k = c.in-Ok.ensures.kept in
-    let h = g.W.Workers.history in
-    inr (
-      k.0,
-      p.0,
-      k.2,
-      subst (λ (z : State). LeadsSomewhere z (h c.args.workers.now) (h c.go_on.new.workers) p.0) k.1 p.1,
-      λ file told. leaves_on g.D.Disk c.args.disk.now c.reopen.new.disk c.go_on.new.disk c.in-Ok.reopened.ledger k.0.payloads p.0
-          c.in-Ok.ensures.quiet (k.3 file told) p.2,
-    )
+    inr (goes_again g.D.Disk c.args.terms.now.options c.args.disk.now c.reopen.new.disk c.go_on.new.disk c.in-Ok.reopened.core c.in-Ok.reopened.ledger _ _
+    c.in-Ok.ensures.quiet c.in-Ok.ensures.kept c.go_on.ensures.goes)
 
 pub returns-in-Ok-clause-goes : goal.returns-in-Ok-clause-goes
 returns-in-Ok-clause-goes g c =
-    let p = c.go_on.ensures.goes in
-    let k = c.in-Ok.ensures.kept in
-    let h = g.W.Workers.history in
-    inr (
-      k.0,
-      p.0,
-      k.2,
-      subst (λ (z : State). LeadsSomewhere z (h c.args.workers.now) (h c.go_on.new.workers) p.0) k.1 p.1,
-      λ file told. leaves_on g.D.Disk c.args.disk.now c.reopen.new.disk c.go_on.new.disk c.in-Ok.reopened.ledger k.0.payloads p.0
-          c.in-Ok.ensures.quiet (k.3 file told) p.2,
-    )
+    inr (goes_again g.D.Disk c.args.terms.now.options c.args.disk.now c.reopen.new.disk c.go_on.new.disk c.in-Ok.reopened.core c.in-Ok.reopened.ledger _ _
+    c.in-Ok.ensures.quiet c.in-Ok.ensures.kept c.go_on.ensures.goes)
 
 -- ---- nothing is started where no key waits
 pub returns-in-Ok-go_on-clause-idle : goal.returns-in-Ok-go_on-clause-idle

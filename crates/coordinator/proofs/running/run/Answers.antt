@@ -11,30 +11,20 @@ use Rattle.coordinator.specs.Calls.{state_after}
 use Rattle.coordinator.specs.Following.{EndsBy, Finishes, GivesUp, LeadsSomewhere}
 use Rattle.coordinator.proofs.CallLemmas.{goes_none}
 use Rattle.coordinator.proofs.CallFaults.{rises_as}
-use Rattle.coordinator.proofs.CallTexts.{first_text, leaves_new, never_bad, printed_err, printed_ok, prints_on}
+use Rattle.coordinator.proofs.CallTexts.{first_text, goes_new, never_bad, printed_err, printed_ok, prints_on}
 use Rattle.coordinator.proofs.MoreRecords.{front_none, refused_join, refused_one}
 use Rattle.coordinator.proofs.running.run.Goals as goal
 
 -- ---- whatever the answer of the call behind the beginning
 pub returns-in-Ok-go_on-clause-goes : goal.returns-in-Ok-go_on-clause-goes
 returns-in-Ok-go_on-clause-goes g c =
-    let p = c.go_on.ensures.goes in
-    let h = g.W.Workers.history in (
-      p.0,
-      subst (λ (z : State). LeadsSomewhere z (h c.args.workers.now) (h c.go_on.new.workers) p.0) c.in-Ok.ensures.core p.1,
-      λ file told. leaves_new g.D.Disk c.args.disk.now c.begin.new.disk c.go_on.new.disk c.in-Ok.begun.ledger (first_payload (search_in c.args.first) ∷ []) p.0
-          (c.in-Ok.ensures.moments file told) (c.in-Ok.ensures.kept file told) p.2,
-    )
+    goes_new g.D.Disk _ (first_payload (search_in c.args.first) ∷ []) c.args.disk.now c.begin.new.disk c.go_on.new.disk c.in-Ok.begun.core c.in-Ok.begun.ledger _ _
+    c.in-Ok.ensures.moments c.in-Ok.ensures.core c.in-Ok.ensures.kept c.go_on.ensures.goes
 
 pub returns-in-Ok-clause-goes : goal.returns-in-Ok-clause-goes
 returns-in-Ok-clause-goes g c =
-    let p = c.go_on.ensures.goes in
-    let h = g.W.Workers.history in (
-      p.0,
-      subst (λ (z : State). LeadsSomewhere z (h c.args.workers.now) (h c.go_on.new.workers) p.0) c.in-Ok.ensures.core p.1,
-      λ file told. leaves_new g.D.Disk c.args.disk.now c.begin.new.disk c.go_on.new.disk c.in-Ok.begun.ledger (first_payload (search_in c.args.first) ∷ []) p.0
-          (c.in-Ok.ensures.moments file told) (c.in-Ok.ensures.kept file told) p.2,
-    )
+    goes_new g.D.Disk _ (first_payload (search_in c.args.first) ∷ []) c.args.disk.now c.begin.new.disk c.go_on.new.disk c.in-Ok.begun.core c.in-Ok.begun.ledger _ _
+    c.in-Ok.ensures.moments c.in-Ok.ensures.core c.in-Ok.ensures.kept c.go_on.ensures.goes
 
 -- ---- to the end
 pub returns-in-Ok-go_on-clause-done : goal.returns-in-Ok-go_on-clause-done
