@@ -42,4 +42,4 @@ pub use reply::{Reply, Tail};
 pub use rows::ReplyRows;
 pub use stops::{JobReadStop, PayloadStop, ReplyStop};
 pub use tail::write_tail;
-pub use writing::{write_first_payload, write_job, write_reply_head};
+pub use writing::{write_count_line, write_first_payload, write_job, write_reply_head};

@@ -40,8 +40,8 @@ fn write_key_line<S: Sink>(word: &[u8], key: &Key, out: &mut S) -> Result<(), Wr
     write_all(out, b"\n")
 }
 
-// The word and the number.
-fn write_count_line<S: Sink>(word: &[u8], count: u64, out: &mut S) -> Result<(), WriteFault>
+/// Writes a line: the word, and the number behind it.
+pub fn write_count_line<S: Sink>(word: &[u8], count: u64, out: &mut S) -> Result<(), WriteFault>
     ensures { Prints S.Sink out.old out.new result (word.now ++ (decimal count ++ 10 ∷ [])) }
 {
     write_all(out, word)?;

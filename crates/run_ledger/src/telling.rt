@@ -6,7 +6,7 @@ ghost use Rattle.poly_io.specs.Causes.{RisesAt};
 ghost use Rattle.disk_core.specs.Contents.{Told};
 ghost use Rattle.disk_core.specs.Moments.{LeavesOnly};
 ghost use Rattle.job_ledger.specs.Records.{HasNoRun};
-ghost use Rattle.run_ledger.specs.Progress.{IsProgressOf, number_line, progress_text};
+ghost use Rattle.run_ledger.specs.Progress.{IsProgressOf, progress_text};
 ghost use Rattle.run_ledger.specs.Recorded.{IsBadLedger};
 ghost use Rattle.run_ledger.specs.declared.progress.Progress.{Progress as Numbers};
 
@@ -14,7 +14,8 @@ use crate::progress::Progress;
 use crate::reopen::reopen_run;
 use crate::{ReopenStop, StatusStop};
 use disk_core::Disk;
-use poly_io::{Sink, WriteFault, write_all, write_count};
+use job_text::write_count_line;
+use poly_io::{Sink, WriteFault};
 use std::alloc::Global;
 
 // Reads how far a run is from its ledger.
@@ -41,22 +42,13 @@ fn read_progress<D: Disk>(alloc: Global, disk: &mut D, limit: u64) -> Result<Pro
     }
 }
 
-// A word and a number, as a line.
-fn write_number_line<O: Sink>(word: &[u8], n: u64, out: &mut O) -> Result<(), WriteFault>
-    ensures { Prints O.Sink out.old out.new result (number_line word.now n) }
-{
-    write_all(out, word)?;
-    write_count(n, out)?;
-    write_all(out, b"\n")
-}
-
 // Writes the three lines.
 fn write_progress<O: Sink>(progress: &Progress, out: &mut O) -> Result<(), WriteFault>
     ensures { Prints O.Sink out.old out.new result (progress_text progress.now) }
 {
-    write_number_line(b"done ", progress.done, out)?;
-    write_number_line(b"waiting ", progress.waiting, out)?;
-    write_number_line(b"rows ", progress.rows, out)
+    write_count_line(b"done ", progress.done, out)?;
+    write_count_line(b"waiting ", progress.waiting, out)?;
+    write_count_line(b"rows ", progress.rows, out)
 }
 
 /// Prints how far the run of a ledger is, in three lines: `done N`, `waiting N` and `rows N`, the jobs that are done,

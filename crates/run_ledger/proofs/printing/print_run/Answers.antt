@@ -1,44 +1,26 @@
-use Rattle.std.proofs.Common.{◌∙◌, List, ℕ, ap, sym, subst, refl}
-use Rattle.std.specs.List.{flat_map}
-use Rattle.std.specs.Io.KnownBytes.{Appends}
-use Rattle.poly_model.specs.ListingText.{row_text}
+use Rattle.std.proofs.Common.{◌∙◌, ap, sym, subst, refl}
 use Rattle.poly_model.specs.Systems.{Polyhedron}
-use Rattle.poly_io.specs.Written.{AppendsPart}
-use Rattle.run_state.specs.Runs.{recorded_rows}
 use Rattle.run_ledger.specs.declared.stops.PrintStop.TheVariants.{BadLedger}
 use Rattle.run_ledger.specs.Recorded.{IsNoReplyAt}
 use Rattle.run_ledger.proofs.Errors.{came}
 use Rattle.run_ledger.proofs.RepliesInOrder.{none_is_bad}
-use Rattle.run_ledger.proofs.RunListings.{ends_whole, front_of, stops_in_end, stops_in_front, stops_in_rows}
+use Rattle.run_ledger.proofs.RunListings.{ends_whole, stops_in_end, stops_in_front, stops_in_rows}
 use Rattle.run_ledger.proofs.printing.print_run.Goals as goal
 
 -- ---- in the head
 pub returns-in_err-listing-clause-listed : goal.returns-in_err-listing-clause-listed
 returns-in_err-listing-clause-listed g c s replies payloads at text same lines =
-    let p = c.args.run.now.poly.now in
-    let vectors = c.args.run.now.lines.now in
-    stops_in_front s replies p vectors same lines (g.O.Sink.written c.args.out.now) (g.O.Sink.written c.begin.new.out)
-    c.from_residual.result c.from_residual.ensures.0
-    (subst (λ (t : List ℕ). AppendsPart (g.O.Sink.written c.args.out.now) (g.O.Sink.written c.begin.new.out) t)
-    (front_of s replies p vectors same lines c.kind.result c.n-2.result c.kind.ensures c.n-2.ensures.value)
-    c.in_err-listing.ensures.prints.part)
+    stops_in_front s replies c.args.run.now.poly.now c.args.run.now.lines.now same lines _ _ c.kind.ensures
+    c.n-2.ensures.value _ _ c.from_residual.result c.from_residual.ensures.0 c.in_err-listing.ensures.prints.part
 
 -- ---- in the rows
 pub returns-in_err-listing-2-clause-listed : goal.returns-in_err-listing-2-clause-listed
 returns-in_err-listing-2-clause-listed g c s replies payloads at text same lines =
-    let p = c.args.run.now.poly.now in
-    let vectors = c.args.run.now.lines.now in
     let n = ap (λ (q : Polyhedron). q.n) same ∙ sym c.n.ensures.value in
-    let rows = c.in_err-listing-2.ensures.rows s replies payloads at text n in
-    stops_in_rows s replies p vectors same lines (g.O.Sink.written c.args.out.now) (g.O.Sink.written c.begin.new.out)
-    (g.O.Sink.written c.print_records.new.out) c.from_residual-in_err-listing-2.result
-    c.from_residual-in_err-listing-2.ensures.0
-    (subst (λ (t : List ℕ). Appends (g.O.Sink.written c.args.out.now) (g.O.Sink.written c.begin.new.out) t)
-    (front_of s replies p vectors same lines c.kind.result c.n-2.result c.kind.ensures c.n-2.ensures.value)
-    c.in_ok-listing.ensures.prints.whole)
-    (subst (λ k. AppendsPart (g.O.Sink.written c.begin.new.out) (g.O.Sink.written c.print_records.new.out)
-    (flat_map (row_text k) (recorded_rows replies)))
-    (c.in_ok-listing.ensures.kind ∙ c.kind.ensures) rows.part)
+    stops_in_rows s replies c.args.run.now.poly.now c.args.run.now.lines.now same lines _ _ c.kind.ensures
+    c.n-2.ensures.value _ _ c.in_ok-listing.ensures.prints.whole _ c.in_ok-listing.ensures.kind _
+    c.from_residual-in_err-listing-2.result c.from_residual-in_err-listing-2.ensures.0
+    (c.in_err-listing-2.ensures.rows s replies payloads at text n).part
 
 pub returns-in_err-listing-2-clause-bad : goal.returns-in_err-listing-2-clause-bad
 returns-in_err-listing-2-clause-bad g c place payloads e at =
@@ -56,34 +38,16 @@ returns-in_err-listing-2-clause-never_bad g c place s replies payloads e at text
 -- ---- at the end
 pub returns-in_err-finish-clause-listed : goal.returns-in_err-finish-clause-listed
 returns-in_err-finish-clause-listed g c s replies payloads at text same lines =
-    let p = c.args.run.now.poly.now in
-    let vectors = c.args.run.now.lines.now in
     let n = ap (λ (q : Polyhedron). q.n) same ∙ sym c.n.ensures.value in
-    let rows = c.in_ok-listing-2.ensures.rows s replies payloads at text n in
-    stops_in_end s replies p vectors same lines (g.O.Sink.written c.args.out.now) (g.O.Sink.written c.begin.new.out)
-    (g.O.Sink.written c.print_records.new.out) (g.O.Sink.written c.finish.new.out) c.from_residual-in_err-finish.result
-    c.from_residual-in_err-finish.ensures.0
-    (subst (λ (t : List ℕ). Appends (g.O.Sink.written c.args.out.now) (g.O.Sink.written c.begin.new.out) t)
-    (front_of s replies p vectors same lines c.kind.result c.n-2.result c.kind.ensures c.n-2.ensures.value)
-    c.in_ok-listing.ensures.prints.whole)
-    (subst (λ k. Appends (g.O.Sink.written c.begin.new.out) (g.O.Sink.written c.print_records.new.out)
-    (flat_map (row_text k) (recorded_rows replies)))
-    (c.in_ok-listing.ensures.kind ∙ c.kind.ensures) rows.whole)
-    c.in_err-finish.ensures.part
+    stops_in_end s replies c.args.run.now.poly.now c.args.run.now.lines.now same lines _ _ c.kind.ensures
+    c.n-2.ensures.value _ _ c.in_ok-listing.ensures.prints.whole _ c.in_ok-listing.ensures.kind _ _
+    (c.in_ok-listing-2.ensures.rows s replies payloads at text n).whole c.from_residual-in_err-finish.result
+    c.from_residual-in_err-finish.ensures.0 c.in_err-finish.ensures.part
 
 pub returns-clause-listed : goal.returns-clause-listed
 returns-clause-listed g c s replies payloads at text same lines =
-    let p = c.args.run.now.poly.now in
-    let vectors = c.args.run.now.lines.now in
     let n = ap (λ (q : Polyhedron). q.n) same ∙ sym c.n.ensures.value in
     let rows = c.in_ok-listing-2.ensures.rows s replies payloads at text n in
-    ends_whole s replies p vectors same lines (g.O.Sink.written c.args.out.now) (g.O.Sink.written c.begin.new.out)
-    (g.O.Sink.written c.print_records.new.out) (g.O.Sink.written c.finish.new.out) _ refl
-    rows.count
-    (subst (λ (t : List ℕ). Appends (g.O.Sink.written c.args.out.now) (g.O.Sink.written c.begin.new.out) t)
-    (front_of s replies p vectors same lines c.kind.result c.n-2.result c.kind.ensures c.n-2.ensures.value)
-    c.in_ok-listing.ensures.prints.whole)
-    (subst (λ k. Appends (g.O.Sink.written c.begin.new.out) (g.O.Sink.written c.print_records.new.out)
-    (flat_map (row_text k) (recorded_rows replies)))
-    (c.in_ok-listing.ensures.kind ∙ c.kind.ensures) rows.whole)
-    c.in_ok-finish.ensures.whole
+    ends_whole s replies c.args.run.now.poly.now c.args.run.now.lines.now same lines _ _ c.kind.ensures
+    c.n-2.ensures.value _ _ c.in_ok-listing.ensures.prints.whole _ c.in_ok-listing.ensures.kind _ _ rows.whole _ refl
+    rows.count c.in_ok-finish.ensures.whole
