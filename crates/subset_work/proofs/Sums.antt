@@ -4,7 +4,7 @@ use Rattle.std.specs.Prelude.{IfOk}
 use Rattle.poly_model.specs.declared.listed.Count.{Count}
 use Rattle.work_core.specs.declared.stops.WorkStop.{WorkStop}
 use Rattle.subset_work.specs.declared.progress.Progress.{Progress}
-use Rattle.subset_work.specs.Counts.{MayVisit, MayCome, IsOneBase, IsOneGivenBack, CountsOn, ComesOn, HasCome}
+use Rattle.subset_work.specs.Counts.{MayVisit, MayCome, IsOneBase, CountsOn, ComesOn, HasCome}
 
 pub come_first : (most from : ℕ) (c d : Count) → c.bases < most → IsOneBase c d → HasCome most from from c d
 come_first most from c d l h = record {
@@ -46,17 +46,27 @@ module _ (most from i : ℕ) (c d : Count) (h : HasCome most from i c d) where
   }
 
 -- a list with one row more may be visited or given back
-pub may_come : (so_far : Progress) (len from i : ℕ) (d : Count) → MayVisit so_far len →
-    HasCome so_far.most from i so_far.count d →
-    MayCome (record { most = so_far.most; longest = so_far.longest; count = d }) (len + 1)
-may_come so_far len from i d may h = record {
+pub may_come : (so_far : Progress) (len more from i : ℕ) (d : Count) → MayVisit so_far len →
+    HasCome so_far.most from i so_far.count d → more ≤ len + 1 →
+    MayCome (record { most = so_far.most; longest = so_far.longest; count = d }) more
+may_come so_far len more from i d may h one = record {
   few = may.few;
   within = h.within;
-  near = omega (arith, may.near);
+  near = omega (arith, may.near, one);
   sum = record {
     rows = omega (arith, h.rows, may.sum.rows);
     jobs = omega (arith, h.jobs, h.few, may.sum.jobs);
   };
+}
+
+-- where the walk does not stop at a list, the list may be visited
+pub may_visit : (so_far : Progress) (len n : ℕ) → MayCome so_far len → n ≡ len →
+    (so_far.count.bases < so_far.most) × (n < so_far.longest) → MayVisit so_far len
+may_visit so_far len n may same on = record {
+  few = may.few;
+  some = on.0;
+  near = let l = on.1 in omega (arith, l, same);
+  sum = may.sum;
 }
 
 pub on_by_visits : (most : ℕ) (c : Count) (result : Result Count WorkStop) → IfOk result (CountsOn most c) →
@@ -68,16 +78,6 @@ on_by_visits most c (Ok d) h = record {
   jobs = omega (arith, h.jobs);
 }
 on_by_visits most c (Err x) h = tt
-
-pub on_by_job : (most : ℕ) (c : Count) (result : Result Count WorkStop) → c.bases ≤ most → IfOk result (IsOneGivenBack c) →
-    IfOk result (ComesOn most c)
-on_by_job most c (Ok d) l h = record {
-  on = omega (arith, h.bases);
-  within = omega (arith, h.bases, l);
-  rows = omega (arith, h.bases, h.rows);
-  jobs = omega (arith, h.bases, h.jobs);
-}
-on_by_job most c (Err x) l h = tt
 
 -- what a base more promises of a count
 pub visited_is_one : (c d : Count) → d.rows ≡ c.rows → d.jobs ≡ c.jobs → d.bases ≡ c.bases + 1 → IsOneBase c d

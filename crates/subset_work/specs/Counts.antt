@@ -34,12 +34,6 @@ pub record IsOneBase (c d : Count) : Type 0 where
   pub jobs : d.jobs ≡ c.jobs
   pub bases : d.bases ≡ c.bases + 1
 
--- one key was given back, and no more
-pub record IsOneGivenBack (c d : Count) : Type 0 where
-  pub rows : d.rows ≡ c.rows
-  pub jobs : d.jobs ≡ c.jobs + 1
-  pub bases : d.bases ≡ c.bases
-
 -- some bases were visited, at most so many in all
 pub record CountsOn (most : ℕ) (c d : Count) : Type 0 where
   pub some : c.bases < d.bases

@@ -10,7 +10,7 @@ use Rattle.work_core.proofs.WalkedLemmas.{no_lines}
 use Rattle.subset_work.specs.Counts.{HasCome}
 use Rattle.subset_work.specs.Standing.{HasRoom, IsLive, IsNext}
 use Rattle.subset_work.proofs.ListPrefixes.{none_shown, live_deeper}
-use Rattle.subset_work.proofs.Sums.{visited_is_one, may_come, come_first, come_past, come_on}
+use Rattle.subset_work.proofs.Sums.{visited_is_one, may_visit, may_come, come_first, come_past, come_on}
 use Rattle.subset_work.proofs.Visits.{room_is, begin_at, passed, ended, step_here, walked_at, walks_past, walks_to_child, given_back, linear_here, rows_here}
 use Rattle.subset_work.proofs.Descents.{room_at, next_is_one, label_within, live_at_label, next_below, begins_below, dead_below, too_long, nothing}
 use Rattle.subset_work.proofs.live.+live.Goals.{visit_live-then-not-is_linear+in-Ok, visit_live-else-not-is_linear}
@@ -45,26 +45,11 @@ visit_under-returns-in_default-clause-walked g t c p front live next eq room nex
 
 pub visit_under-visit_live-requires : goal.visit_under-visit_live-requires
 visit_under-visit_live-requires g t c κs within =
-    let none = c.in_default.ensures.cases in (
+    let none = c.in_default.ensures.cases in
+    let may = may_visit c.args.so_far.now (length c.args.way.now.list.key.now) c.len.result c.requires.may
+    c.len.ensures.value (c.if-stops.ensures.on refl) in (
       omega (arith, c.decreases, none),
-      (
-        within,
-        (
-          c.requires.room,
-          (
-            omega (arith, c.requires.deep, none),
-            (
-              c.requires.from,
-              record {
-                few = c.requires.may.few;
-                some = (c.if-stops.ensures.on refl).0;
-                near = let l = (c.if-stops.ensures.on refl).1 in omega (arith, l, c.len.ensures.value);
-                sum = c.requires.may.sum;
-              },
-            ),
-          ),
-        ),
-      ),
+      (within, (c.requires.room, (omega (arith, c.requires.deep, none), (c.requires.from, may)))),
     )
 
 -- ---- one label down
@@ -196,32 +181,17 @@ visit_live-rows-init g t c =
 
 pub visit_live-visit_under-requires : goal.visit_live-visit_under-requires
 visit_live-visit_under-requires g t c κs within =
-    let so_far = c.args.so_far.now in
-    let prefix = c.args.live.now.prefix in
     let depth = c.rows.invariant.depth in
+    let room = c.with-child.ensures.room in
     let more : 0 < length c.args.deeper.now = search rules in
-    let may = may_come so_far (length c.args.live.now.key.now) prefix.from c.rows.i c.rows.count c.requires.may
-    c.rows.invariant.come in (
+    let may = may_come c.args.so_far.now (length c.args.live.now.key.now) (length c.with-child.result)
+    c.args.live.now.prefix.from c.rows.i c.rows.count c.requires.may c.rows.invariant.come room in (
       omega (arith, c.decreases, depth, more),
       (
         within,
         (
           c.rows.invariant.room,
-          (
-            omega (arith, c.with-child.ensures.room, depth, c.requires.few, more),
-            (
-              omega arith,
-              (
-                record {
-                  few = may.few;
-                  within = may.within;
-                  near = omega (arith, may.near, c.with-child.ensures.room);
-                  sum = may.sum;
-                },
-                refl,
-              ),
-            ),
-          ),
+          (omega (arith, room, depth, c.requires.few, more), (omega arith, (may, refl))),
         ),
       ),
     )
