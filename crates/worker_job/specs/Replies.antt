@@ -2,10 +2,11 @@
 use Rattle.std.specs.Prelude.{◌≡◌, ◌⊎◌, ⊤, ℕ, ◌≤◌, List, Option, Result, MatchResult, length}
 use Rattle.std.specs.Io.KnownBytes.{Appends}
 use Rattle.poly_io.specs.Written.{AppendsPart}
+use Rattle.poly_model.specs.declared.kind.WorkKind.{WorkKind}
 use Rattle.poly_model.specs.declared.listed.Count.{Count}
 use Rattle.poly_model.specs.Labels.{IsRow}
 use Rattle.poly_model.specs.Limits.{most_columns}
-use Rattle.poly_model.specs.Systems.{cone_of}
+use Rattle.poly_model.specs.Systems.{System, cone_of}
 use Rattle.work_core.specs.declared.stops.JobStop.{JobStop}
 use Rattle.work_core.specs.declared.stops.JobStop.TheVariants.{BadJob, Overflow as Overflowed, ReadFault, WriteFault, Memory as Starved}
 use Rattle.work_core.specs.Meanings.{Meaning}
@@ -65,3 +66,9 @@ pub record IsOfAFile (job : Job) : Type 0 where
   pub head : HasHeadText job.head
   pub few : IsRow (length (cone_of job.poly).rows)
   pub narrow : job.poly.n ≤ most_columns
+
+-- a work of this kind may reply to the job: the job names it, this is the job's cone, and the lines of the reply have texts
+pub record MayReplyBy (kind : WorkKind) (job : Job) (sys : System) : Type 0 where
+  pub work : job.head.work ≡ kind
+  pub cone : sys ≡ cone_of job.poly
+  pub file : IsOfAFile job

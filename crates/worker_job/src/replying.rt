@@ -1,10 +1,9 @@
 //! The reply of a job.
-ghost use Rattle.std.specs.Prelude.{◌≡◌, ◌≤◌, ◌++◌, IsErrOf};
-ghost use Rattle.poly_io.specs.Causes.{Rose};
+ghost use Rattle.std.specs.Prelude.{◌≡◌, ◌++◌};
+ghost use Rattle.poly_io.specs.Causes.{RisesAt};
 ghost use Rattle.poly_io.specs.Written.{Prints};
 ghost use Rattle.poly_model.specs.declared.kind.WorkKind.TheVariants.{Subsets, Subtrees};
 ghost use Rattle.poly_model.specs.declared.overflow.Overflow.{Overflow as Passed};
-ghost use Rattle.poly_model.specs.Systems.{cone_of};
 ghost use Rattle.work_core.specs.Meanings.{Meaning};
 ghost use Rattle.work_core.specs.Searches.{Search, meaning_of, MayBegin};
 ghost use Rattle.job_text.specs.declared.reply.Tail.TheVariants.{End, Overflow as Passing, Memory as Starved};
@@ -13,7 +12,7 @@ ghost use Rattle.poly_model.specs.Keys.{IsKey};
 ghost use Rattle.job_text.specs.Rule.{search_of};
 ghost use Rattle.job_text.specs.Jobs.{HasHeadText};
 ghost use Rattle.worker_job.specs.Due.{IsDueInJob, IsDueInWork};
-ghost use Rattle.worker_job.specs.Replies.{EndsJob, IsOfAFile};
+ghost use Rattle.worker_job.specs.Replies.{EndsJob, IsOfAFile, MayReplyBy};
 
 use hull_lift::system_of;
 use job_text::{Job, Tail, write_reply_head, write_tail};
@@ -28,9 +27,7 @@ use work_core::{JobStop, Work, WorkStop};
 pub(crate) fn reply_job<O: Sink>(alloc: Global, job: &Job, out: &mut O) -> Result<Count, JobStop>
     requires head { HasHeadText job.now.head }
     ensures ends { EndsJob job.now (O.written out.old) (O.written out.new) (out.new ≡ out.old) result }
-    ensures fault { IsErrOf result JobStop.WriteFault → Rose (O.faults out.old) (O.faults out.new) }
-    ensures same { ¬ (IsErrOf result JobStop.WriteFault) → O.faults out.new ≡ O.faults out.old }
-    ensures later { O.faults out.old ≤ O.faults out.new }
+    ensures cause { RisesAt JobStop.WriteFault (O.faults out.old) (O.faults out.new) result }
 {
     let Ok(cone) = system_of(alloc, &job.poly) else {
         return starve(job, out);
@@ -48,13 +45,9 @@ fn by_subsets<O: Sink>(
     cone: &System,
     out: &mut O,
 ) -> Result<Count, JobStop>
-    requires file { IsOfAFile job.now }
-    requires cone { cone.now ≡ cone_of job.now.poly }
-    requires work { job.now.head.work ≡ Subsets }
+    requires { MayReplyBy Subsets job.now cone.now }
     ensures ends { EndsJob job.now (O.written out.old) (O.written out.new) (out.new ≡ out.old) result }
-    ensures fault { IsErrOf result JobStop.WriteFault → Rose (O.faults out.old) (O.faults out.new) }
-    ensures same { ¬ (IsErrOf result JobStop.WriteFault) → O.faults out.new ≡ O.faults out.old }
-    ensures later { O.faults out.old ≤ O.faults out.new }
+    ensures cause { RisesAt JobStop.WriteFault (O.faults out.old) (O.faults out.new) result }
 {
     if !job.head.root.key().is_empty() {
         return Err(JobStop::BadJob { place: 2 });
@@ -75,13 +68,9 @@ fn by_subtrees<O: Sink>(
     cone: &System,
     out: &mut O,
 ) -> Result<Count, JobStop>
-    requires file { IsOfAFile job.now }
-    requires cone { cone.now ≡ cone_of job.now.poly }
-    requires work { job.now.head.work ≡ Subtrees }
+    requires { MayReplyBy Subtrees job.now cone.now }
     ensures ends { EndsJob job.now (O.written out.old) (O.written out.new) (out.new ≡ out.old) result }
-    ensures fault { IsErrOf result JobStop.WriteFault → Rose (O.faults out.old) (O.faults out.new) }
-    ensures same { ¬ (IsErrOf result JobStop.WriteFault) → O.faults out.new ≡ O.faults out.old }
-    ensures later { O.faults out.old ≤ O.faults out.new }
+    ensures cause { RisesAt JobStop.WriteFault (O.faults out.old) (O.faults out.new) result }
 {
     match SubtreeWork::new(alloc, cone, job.head.root) {
         Ok(work) => {
@@ -101,9 +90,7 @@ fn reply_by<W: Work, O: Sink>(work: &mut W, job: &Job, out: &mut O) -> Result<Co
     requires work { W.is_of work.old (search_of job.now) }
     requires asked { (w : W) (o : Passed) → W.is_of w (search_of job.now) → IsDueInWork W.Work w job.now o → IsDueInJob job.now o }
     ensures ends { EndsJob job.now (O.written out.old) (O.written out.new) (out.new ≡ out.old) result }
-    ensures fault { IsErrOf result JobStop.WriteFault → Rose (O.faults out.old) (O.faults out.new) }
-    ensures same { ¬ (IsErrOf result JobStop.WriteFault) → O.faults out.new ≡ O.faults out.old }
-    ensures later { O.faults out.old ≤ O.faults out.new }
+    ensures cause { RisesAt JobStop.WriteFault (O.faults out.old) (O.faults out.new) result }
 {
     match work.has_key(&job.head.key) {
         Ok(true) => run(work, job, out),
@@ -120,9 +107,7 @@ fn run<W: Work, O: Sink>(work: &mut W, job: &Job, out: &mut O) -> Result<Count, 
     requires asked { (w : W) (o : Passed) → W.is_of w (search_of job.now) → IsDueInWork W.Work w job.now o → IsDueInJob job.now o }
     requires key { (s : Search) → W.is_of work.old s → Meaning.is_key (meaning_of s) job.now.head.key }
     ensures ends { EndsJob job.now (O.written out.old) (O.written out.new) (out.new ≡ out.old) result }
-    ensures fault { IsErrOf result JobStop.WriteFault → Rose (O.faults out.old) (O.faults out.new) }
-    ensures same { ¬ (IsErrOf result JobStop.WriteFault) → O.faults out.new ≡ O.faults out.old }
-    ensures later { O.faults out.old ≤ O.faults out.new }
+    ensures cause { RisesAt JobStop.WriteFault (O.faults out.old) (O.faults out.new) result }
 {
     if let Err(WriteFault) = write_reply_head(&job.head.key, out) {
         return Err(JobStop::WriteFault);
@@ -145,9 +130,7 @@ fn pass<O: Sink>(job: &Job, overflow: Overflow, out: &mut O) -> Result<Count, Jo
     requires file { IsOfAFile job.now }
     requires due { IsDueInJob job.now overflow }
     ensures ends { EndsJob job.now (O.written out.old) (O.written out.new) (out.new ≡ out.old) result }
-    ensures fault { IsErrOf result JobStop.WriteFault → Rose (O.faults out.old) (O.faults out.new) }
-    ensures same { ¬ (IsErrOf result JobStop.WriteFault) → O.faults out.new ≡ O.faults out.old }
-    ensures later { O.faults out.old ≤ O.faults out.new }
+    ensures cause { RisesAt JobStop.WriteFault (O.faults out.old) (O.faults out.new) result }
 {
     match write_alone(job, &overflow, out) {
         Ok(()) => Err(JobStop::Overflow(overflow)),
@@ -159,9 +142,7 @@ fn pass<O: Sink>(job: &Job, overflow: Overflow, out: &mut O) -> Result<Count, Jo
 fn starve<O: Sink>(job: &Job, out: &mut O) -> Result<Count, JobStop>
     requires head { HasHeadText job.now.head }
     ensures ends { EndsJob job.now (O.written out.old) (O.written out.new) (out.new ≡ out.old) result }
-    ensures fault { IsErrOf result JobStop.WriteFault → Rose (O.faults out.old) (O.faults out.new) }
-    ensures same { ¬ (IsErrOf result JobStop.WriteFault) → O.faults out.new ≡ O.faults out.old }
-    ensures later { O.faults out.old ≤ O.faults out.new }
+    ensures cause { RisesAt JobStop.WriteFault (O.faults out.old) (O.faults out.new) result }
 {
     match write_starved(job, out) {
         Ok(()) => Err(JobStop::Memory),
