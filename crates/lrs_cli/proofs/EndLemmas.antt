@@ -6,9 +6,10 @@ use Rattle.poly_model.specs.Systems.{Polyhedron}
 use Rattle.poly_reader.specs.declared.bad.BadFile.{BadFile as Fault}
 use Rattle.poly_reader.specs.Reading.{reading}
 use Rattle.convert_core.specs.Listed.{IsDueInSearch}
+use Rattle.disk_core.specs.Contents.{Told}
 use Rattle.lrs_cli.specs.declared.status.Status.{Status}
 use Rattle.lrs_cli.specs.declared.status.Status.TheVariants.{Done, Usage, BadFile, BadJob, Infeasible, Overflow, ReadFault, WriteFault, DiskFault, Lost, NoRun, HasRun, BadLedger, LedgerLimit, OutOfMemory}
-use Rattle.lrs_cli.specs.Answers.{WhereTold, Describes, Knows, HasNoObstacle, IsBadFile, HasOverflow, ComesOfFile, ComesOfPolyhedron, Ends}
+use Rattle.lrs_cli.specs.Answers.{Describes, Knows, HasNoObstacle, IsBadFile, HasOverflow, ComesOfFile, ComesOfPolyhedron, Ends}
 
 same_ok : (p q : Polyhedron) → ◌≡◌ {A = Result Polyhedron Fault} (Ok p) (Ok q) → p ≡ q
 same_ok p q e = cc
@@ -20,17 +21,18 @@ not_both p f e = cc
 same_polyhedron : (text : List ℕ) (p q : Polyhedron) → reading text ≡ Ok p → reading text ≡ Ok q → p ≡ q
 same_polyhedron text p q a b = same_ok p q (sym a ∙ b)
 
-pub not_bad : (P : Polyhedron → Type 0) (source : Option (List ℕ)) → Knows source (Describes P) → (f : Fault) → WhereTold source (IsBadFile f) → ⊥
+pub not_bad : (P : Polyhedron → Type 0) (source : Option (List ℕ)) → Knows source (Describes P) → (f : Fault) → Told source (IsBadFile f) → ⊥
 not_bad P None k f t = k
-not_bad P (Some text) k f t = not_both k.polyhedron f (sym k.read ∙ t)
+not_bad P (Some text) k f t = not_both k.polyhedron f (sym k.read ∙ t text refl)
 
 -- what is known of the polyhedron of a text, and what is told of it, is of one polyhedron
-pub of_one : (P Q : Polyhedron → Type 0) (source : Option (List ℕ)) → Knows source (Describes P) → WhereTold source (Describes Q) → (p : Polyhedron) × P p × Q p
+pub of_one : (P Q : Polyhedron → Type 0) (source : Option (List ℕ)) → Knows source (Describes P) → Told source (Describes Q) → (p : Polyhedron) × P p × Q p
 of_one P Q None k t = absurd k
 of_one P Q (Some text) k t =
-    (k.polyhedron, k.holds, subst Q (same_polyhedron text t.polyhedron k.polyhedron t.read k.read) t.holds)
+    let q = t text refl in
+    (k.polyhedron, k.holds, subst Q (same_polyhedron text q.polyhedron k.polyhedron q.read k.read) q.holds)
 
-not_overflow : (source : Option (List ℕ)) → Knows source HasNoObstacle → (o : Passed) → WhereTold source (HasOverflow o) → ⊥
+not_overflow : (source : Option (List ℕ)) → Knows source HasNoObstacle → (o : Passed) → Told source (HasOverflow o) → ⊥
 not_overflow source k o t =
     let one = of_one (λ p. (o : Passed) → IsDueInSearch p o → ⊥) (λ p. IsDueInSearch p o) source k t in
     one.1 o one.2
@@ -38,7 +40,7 @@ not_overflow source k o t =
 -- of a polyhedron's answers those are left that end
 module _ (source : Option (List ℕ)) (known : Knows source HasNoObstacle) where
   pub ends : (s : Status) → ComesOfPolyhedron s → (s ≡ WriteFault → ⊥) →
-      ((o : Passed) → s ≡ Overflow o → WhereTold source (HasOverflow o)) → Ends s
+      ((o : Passed) → s ≡ Overflow o → Told source (HasOverflow o)) → Ends s
   ends (Done rows lines) l w d = tt
   ends Infeasible l w d = tt
   ends OutOfMemory l w d = tt

@@ -9,9 +9,9 @@ use Rattle.work_core.specs.Searches.{Search}
 use Rattle.disk_core.specs.declared.disk.Disk.{Ghosts as Disk}
 use Rattle.workers_io.specs.declared.workers.Workers.{Ghosts as Workers}
 use Rattle.coordinator_core.specs.declared.options.Options.{Options}
+use Rattle.disk_core.specs.Contents.{Told}
 use Rattle.lrs_cli.specs.declared.status.Status.{Status}
 use Rattle.lrs_cli.specs.declared.status.Status.TheVariants.{Done, Usage, BadFile, BadJob, Infeasible, Overflow, ReadFault, WriteFault, DiskFault, Lost, NoRun, HasRun, BadLedger, LedgerLimit, OutOfMemory}
-use Rattle.lrs_cli.specs.Answers.{WhereTold}
 use Rattle.lrs_cli.specs.Ledgers.{DiskRose, Resources, RoseAt, resources}
 use Rattle.lrs_cli.specs.Run.{EndsSearch, IsDueBeforeSearch, MaySearch, RefusesFile, RefusesPolyhedron, RunsFile, RunsSearch}
 use Rattle.lrs_cli.specs.Streams.{Streams}
@@ -21,8 +21,8 @@ use Rattle.lrs_cli.proofs.FaultLemmas.{described}
 pub rose_at : (fault answer : Status) (before now : ℕ) → before ≤ now → (answer ≡ fault → Rose before now) → (¬ (answer ≡ fault) → now ≡ before) → RoseAt fault answer before now
 rose_at fault answer before now later failed same = record { later = later; failed = failed; same = same }
 
-pub disk_rose : (answer : Status) (before now : ℕ) → before ≤ now → (answer ≡ DiskFault → Rose before now) → (¬ (answer ≡ DiskFault) → now ≡ before) → DiskRose answer before now
-disk_rose answer before now later failed same = record { later = later; failed = failed; same = λ n m. same n }
+pub disk_rose : (answer : Status) (before now : ℕ) → RoseAt DiskFault answer before now → DiskRose answer before now
+disk_rose answer before now r = record { later = r.later; failed = r.failed; same = λ n m. r.same n }
 
 pub none_rose : (fault answer : Status) (count : ℕ) → (answer ≡ fault → ⊥) → RoseAt fault answer count count
 none_rose fault answer count n = record { later = omega arith; failed = λ e. absurd (n e); same = λ m. refl }
@@ -31,7 +31,7 @@ pub no_disk_rose : (answer : Status) (count : ℕ) → (answer ≡ DiskFault →
 no_disk_rose answer count n = record { later = omega arith; failed = λ e. absurd (n e); same = λ m o. refl }
 
 -- ---- a polyhedron of a file
-refused_file : (left : Option (List ℕ)) (p : Polyhedron) → WhereTold left (λ text. IsFileOf text p) → (answer : Status) → RefusesPolyhedron p answer → RefusesFile left answer
+refused_file : (left : Option (List ℕ)) (p : Polyhedron) → Told left (λ text. IsFileOf text p) → (answer : Status) → RefusesPolyhedron p answer → RefusesFile left answer
 refused_file left p text (Done rows lines) r = absurd r
 refused_file left p text Usage r = absurd r
 refused_file left p text (BadFile f) r = absurd r
@@ -68,13 +68,13 @@ module _ {D W : Type 0} (disk : Disk D) (workers : Workers W) (options : Options
   never_read (inl r) e = subst (RefusesPolyhedron p) e r.0
   never_read (inr r) e = subst (EndsSearch disk workers options limit r.0 old new before.written after.written U) e r.3.ends
 
-  pub runs_file : Runs → WhereTold before.left (λ text. IsFileOf text p) → IsAtEnd after.left → before.read_faults ≤ after.read_faults → after.read_faults ≡ before.read_faults →
+  pub runs_file : Runs → Told before.left (λ text. IsFileOf text p) → IsAtEnd after.left → before.read_faults ≤ after.read_faults → after.read_faults ≡ before.read_faults →
       RoseAt WriteFault answer before.write_faults after.write_faults → DiskRose answer (disk.faults d) (disk.faults d') →
       RunsFile disk workers options limit old new before after U answer
   runs_file runs text ends later same writes calls = record {
     comes = elim runs [
       | inl r ↦ inl (refused_file before.left p text answer r.0, same_resources d d' w w' r.1 r.2, r.3)
-      | inr r ↦ inr (r.0, r.1, subst (λ (q : Polyhedron). WhereTold before.left (λ text. IsFileOf text q)) (sym r.2) text, ends, r.3)
+      | inr r ↦ inr (r.0, r.1, subst (λ (q : Polyhedron). Told before.left (λ text. IsFileOf text q)) (sym r.2) text, ends, r.3)
     ];
     reads = record { later = later; failed = λ e. absurd (never_read runs e); same = λ n. same };
     writes = writes;

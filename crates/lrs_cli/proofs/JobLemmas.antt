@@ -27,16 +27,18 @@ front_of_all text rest within (inl end) = rw (end, append-nil text) (take_all mo
 front_of_all text rest within (inr long) =
     take-append-le most text rest (omega (arith, long)) ∙ take_all most text (omega (arith, long))
 
-pub of_front : (old new : Option (List ℕ)) (P : List ℕ → Type 0) → TakesText old new P → OfFront old P
-of_front None new P t = tt
-of_front (Some whole) None P t = absurd t.taken
-of_front (Some whole) (Some rest) P t =
+front_of_known : (whole : List ℕ) (new : Option (List ℕ)) (P : List ℕ → Type 0) → TakesText (Some whole) new P → P (take most whole)
+front_of_known whole None P t = absurd t.taken
+front_of_known whole (Some rest) P t =
     subst P (sym (ap (take most) t.taken ∙ front_of_all t.text rest t.within t.enough)) t.holds
+
+pub of_front : (old new : Option (List ℕ)) (P : List ℕ → Type 0) → TakesText old new P → OfFront old P
+of_front old new P t whole told =
+    front_of_known whole new P (subst (λ (s : Option (List ℕ)). TakesText s new P) told t)
 
 also : (left : Option (List ℕ)) (P Q : List ℕ → Type 0) → ((text : List ℕ) → P text → Q text) → OfFront left P →
     OfFront left Q
-also None P Q f h = tt
-also (Some text) P Q f h = f (take most text) h
+also left P Q f h text told = f (take most text) (h text told)
 
 pub done_of_front : (left after old new : Option (List ℕ)) (count : Count) → TakesText left after (Replies old new (End count)) →
     OfFront left (IsReplied old new count.rows)

@@ -1,3 +1,4 @@
+pub mod CountLemmas
 pub mod FaultLemmas
 pub mod EndLemmas
 pub mod AnswerLemmas
@@ -7,6 +8,7 @@ pub mod LineLemmas
 pub mod JobLemmas
 pub mod TrustLemmas
 pub mod ListingLemmas
+pub mod CarriedEnds
 pub mod SearchLemmas
 pub mod FileLemmas
 pub mod RunThrough

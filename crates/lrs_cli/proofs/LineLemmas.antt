@@ -27,7 +27,6 @@ use Rattle.lrs_cli.specs.Run.{AnswersRun, IsLeftByRun}
 use Rattle.lrs_cli.specs.Streams.{Streams}
 use Rattle.lrs_cli.proofs.DemoLemmas.{answers_memory}
 use Rattle.lrs_cli.proofs.FileLemmas.{no_disk_rose, none_rose}
-use Rattle.lrs_cli.proofs.RunHeadline.{where_all}
 
 -- nothing was taken
 pub none_taken : (left : Option (List ℕ)) (most : ℕ) → TakesAtMost left left most
@@ -66,7 +65,7 @@ module _ {D W : Type 0} (disk : Disk D) (workers : Workers W) (only_now : (d : D
   run_memory : (options : Options) → AnswersRun disk workers options most_ledger_bytes here here before before Unwritten OutOfMemory
   run_memory options = record {
     lists = λ rows lines e. absurd (cc);
-    leaves = λ t f told. where_all before.left (IsLeftByRun disk here.disk here.disk) (λ text. inl still);
+    leaves = λ t f told text given. inl still;
     part = λ t. inl unwritten;
     overflow = λ o e. absurd (cc);
     texts = λ f told. weaker disk.moment disk.since here.disk here.disk _ _ still (λ c i. inl i);

@@ -10,9 +10,9 @@ use Rattle.coordinator_core.specs.declared.options.Options.{Options}
 use Rattle.coordinator.specs.Calls.{PrintsRecords, RecordedRun}
 use Rattle.coordinator.specs.Leaving.{HasFront}
 use Rattle.lrs_cli.specs.declared.status.Status.{Status}
-use Rattle.lrs_cli.specs.declared.status.Status.TheVariants.{Done, Usage, BadFile, BadJob, Infeasible, Overflow, ReadFault, WriteFault, DiskFault, Lost, NoRun, HasRun, BadLedger, LedgerLimit, OutOfMemory}
 use Rattle.lrs_cli.specs.Ledgers.{Resources, WritesRecordsPart, resources}
 use Rattle.lrs_cli.specs.Resume.{EndsRecorded, GoesOn}
+use Rattle.lrs_cli.proofs.CarriedEnds.{carried}
 use Rattle.lrs_cli.proofs.SearchLemmas.{part_of}
 
 -- what is read stays the same, so the records do
@@ -60,22 +60,23 @@ module _ {D W : Type 0} (disk : Disk D) (workers : Workers W) (options : Options
 
   ends_attached : (written now : Option (List ℕ)) (U : Type 0) (answer : Status) → EndsRecorded disk workers options limit from to written now U answer →
       EndsRecorded disk workers options limit at_first to written now U answer
-  ends_attached written now U (Done rows lines) e = (here e.0, e.1, e.2, back _ e.3, back _ e.4)
-  ends_attached written now U (Lost lost strays) e = (e.0, here e.1, e.2, e.3, back _ e.4)
-  ends_attached written now U (Overflow o) (u, r, inl own) = (u, here r, inl (own.0, own.1, back _ own.2))
-  ends_attached written now U (Overflow o) (u, r, inr told) = (u, here r, inr (told.0, told.1, back _ told.2))
-  ends_attached written now U Infeasible e = (e.0, e.1, here e.2, e.3, back _ e.4)
-  ends_attached written now U NoRun e = (e.0, e.1, back _ e.2)
-  ends_attached written now U (BadLedger place) e = back _ e
-  ends_attached written now U (LedgerLimit need most) e = (e.0, here e.1, e.2, e.3, back _ e.4)
-  ends_attached written now U DiskFault e = tt
-  ends_attached written now U WriteFault e = tt
-  ends_attached written now U OutOfMemory e = tt
-  ends_attached written now U Usage e = e
-  ends_attached written now U (BadFile f) e = e
-  ends_attached written now U (BadJob place) e = e
-  ends_attached written now U ReadFault e = e
-  ends_attached written now U HasRun e = e
+  ends_attached written now U answer e = carried _ _ (record {
+    done = λ rows lines e. (here e.0, e.1, e.2, back _ e.3, back _ e.4);
+    lost = λ lost strays e. (e.0, here e.1, e.2, e.3, back _ e.4);
+    overflow = λ o e. (
+      e.0,
+      here e.1,
+      elim e.2 [
+        | inl own ↦ inl (own.0, own.1, back _ own.2)
+        | inr told ↦ inr (told.0, told.1, back _ told.2)
+      ],
+    );
+    infeasible = λ e. (e.0, e.1, here e.2, e.3, back _ e.4);
+    no_run = λ e. (e.0, e.1, back _ e.2);
+    has_run = λ e. e;
+    bad_ledger = λ place e. back _ e;
+    ledger_limit = λ need most e. (e.0, here e.1, e.2, e.3, back _ e.4);
+  }) answer e
 
   pub attached : (written now : Option (List ℕ)) (U : Type 0) (answer : Status) → GoesOn disk workers options limit from to written now U answer →
       GoesOn disk workers options limit at_first to written now U answer

@@ -6,9 +6,10 @@ use Rattle.disk_core.specs.declared.disk.Disk.{Ghosts as Disk}
 use Rattle.workers_io.specs.declared.workers.Workers.{Ghosts as Workers}
 use Rattle.coordinator_core.specs.declared.options.Options.{Options}
 use Rattle.lrs_cli.specs.declared.status.Status.{Status}
-use Rattle.lrs_cli.specs.declared.status.Status.TheVariants.{Done, Usage, BadFile, BadJob, Infeasible, Overflow, ReadFault, WriteFault, DiskFault, Lost, NoRun, HasRun, BadLedger, LedgerLimit, OutOfMemory}
+use Rattle.lrs_cli.specs.declared.status.Status.TheVariants.{WriteFault}
 use Rattle.lrs_cli.specs.Ledgers.{Resources}
 use Rattle.lrs_cli.specs.Resume.{EndsRecorded, GoesOn}
+use Rattle.lrs_cli.proofs.CarriedEnds.{carried}
 use Rattle.lrs_cli.proofs.RunThrough.{kept_part, kept_whole}
 use Rattle.lrs_cli.proofs.ThroughLemmas.{not_ok}
 
@@ -21,21 +22,16 @@ module _ {D W : Type 0} (disk : Disk D) (workers : Workers W) (options : Options
   EndsBelow answer = EndsRecorded disk workers options limit first last old new V answer
 
   ends_ok : Keeps told new → (U → V) → (answer : Status) → Ends answer → EndsBelow answer
-  ends_ok keeps f (Done rows lines) e = (e.0, e.1, e.2, e.3, λ file t. kept_whole e.0.search _ old told new keeps rows lines (e.4 file t))
-  ends_ok keeps f (Lost lost strays) e = (f e.0, e.1, e.2, e.3, e.4)
-  ends_ok keeps f (Overflow o) e = (f e.0, e.1, e.2)
-  ends_ok keeps f Infeasible e = (f e.0, e.1, e.2, e.3, e.4)
-  ends_ok keeps f NoRun e = (f e.0, e.1, e.2)
-  ends_ok keeps f (BadLedger place) e = λ file t. let b = e file t in (b.0, b.1, f b.2, b.3)
-  ends_ok keeps f (LedgerLimit need most) e = (f e.0, e.1, e.2, e.3, e.4)
-  ends_ok keeps f DiskFault e = tt
-  ends_ok keeps f WriteFault e = tt
-  ends_ok keeps f OutOfMemory e = tt
-  ends_ok keeps f Usage e = e
-  ends_ok keeps f (BadFile x) e = e
-  ends_ok keeps f (BadJob place) e = e
-  ends_ok keeps f ReadFault e = e
-  ends_ok keeps f HasRun e = e
+  ends_ok keeps f answer e = carried _ _ (record {
+    done = λ rows lines e. (e.0, e.1, e.2, e.3, λ file t. kept_whole e.0.search _ old told new keeps rows lines (e.4 file t));
+    lost = λ lost strays e. (f e.0, e.1, e.2, e.3, e.4);
+    overflow = λ o e. (f e.0, e.1, e.2);
+    infeasible = λ e. (f e.0, e.1, e.2, e.3, e.4);
+    no_run = λ e. (f e.0, e.1, e.2);
+    has_run = λ e. e;
+    bad_ledger = λ place e file t. let b = e file t in (b.0, b.1, f b.2, b.3);
+    ledger_limit = λ need most e. (f e.0, e.1, e.2, e.3, e.4);
+  }) answer e
 
   abbrev On : Status → Type 0
   On answer = GoesOn disk workers options limit first last old told U answer

@@ -13,9 +13,10 @@ use Rattle.coordinator_core.specs.Machine.{AreOptions}
 use Rattle.run_laws.specs.Laws.{IsAnsweredCall, TellsFullAnswers}
 use Rattle.run_laws.proofs.EndingLaws.{answered_calls_go_on, answered_overflows_pass}
 use Rattle.run_laws.proofs.RunLaws.{first_record_is_legal}
+use Rattle.disk_core.specs.Contents.{Told}
 use Rattle.lrs_cli.specs.declared.status.Status.{Status}
 use Rattle.lrs_cli.specs.declared.status.Status.TheVariants.{Done, Usage, BadFile, BadJob, Infeasible, Overflow, ReadFault, WriteFault, DiskFault, Lost, NoRun, HasRun, BadLedger, LedgerLimit, OutOfMemory}
-use Rattle.lrs_cli.specs.Answers.{Describes, Knows, PassesNowhere, WhereTold}
+use Rattle.lrs_cli.specs.Answers.{Describes, Knows, PassesNowhere}
 use Rattle.lrs_cli.specs.Ledgers.{ComesToItsEnd, Resources}
 use Rattle.lrs_cli.specs.Run.{EndsSearch, IsDueBeforeSearch, IsTextOf, MaySearch, RefusesFile}
 use Rattle.lrs_cli.proofs.EndLemmas.{not_bad, of_one}
@@ -34,14 +35,11 @@ passes_before p o (inl d) = d.passes
 passes_before p o (inr d) = d.passes
 
 module _ (left : Option (List ℕ)) (known : Knows left (Describes PassesNowhere)) where
-  nothing_passes : (s : Search) → WhereTold left (IsTextOf s) → PassesNowhere s.polyhedron
-  nothing_passes s text o passes = none left known text
-    where
-      none : (source : Option (List ℕ)) → Knows source (Describes PassesNowhere) → WhereTold source (IsTextOf s) → ⊥
-      none None k t = k
-      none (Some file) k t =
-          let one = of_one PassesNowhere (λ p. Passes p o) (Some file) k (record { polyhedron = s.polyhedron; read = t; holds = passes }) in
-          one.1 o one.2
+  nothing_passes : (s : Search) → Told left (IsTextOf s) → PassesNowhere s.polyhedron
+  nothing_passes s text o passes =
+      let one = of_one PassesNowhere (λ p. Passes p o) left known
+      (λ file told. record { polyhedron = s.polyhedron; read = text file told; holds = passes }) in
+      one.1 o one.2
 
   -- a file that is refused
   pub refused_ends : (answer : Status) → RefusesFile left answer → (answer ≡ ReadFault → ⊥) → IsWell answer
@@ -67,7 +65,7 @@ module _ (left : Option (List ℕ)) (known : Knows left (Describes PassesNowhere
   module _ {D W : Type 0} (disk : Disk D) (workers : Workers W) (options : Options) (in_range : AreOptions options) (limit : ℕ)
       (old new : Resources D W) (fresh : Knows (disk.seen old.disk) HasNoRun)
       (answered : TellsFullAnswers (workers.history old.workers) (workers.history new.workers)) (s : Search) (may : MaySearch s)
-      (text : WhereTold left (IsTextOf s)) (written now : Option (List ℕ)) (Unwritten : Type 0) where
+      (text : Told left (IsTextOf s)) (written now : Option (List ℕ)) (Unwritten : Type 0) where
     answered_call : IsAnsweredCall options s [] (first_payload s ∷ []) (workers.history old.workers) (workers.history new.workers)
     answered_call = record {
       in_range = in_range;

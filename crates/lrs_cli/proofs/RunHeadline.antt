@@ -20,7 +20,7 @@ use Rattle.run_laws.proofs.EndingLaws.{overflows_pass}
 use Rattle.run_laws.proofs.RunLaws.{first_record_is_legal, fronts_stay_legal, fronts_stay_text}
 use Rattle.lrs_cli.specs.declared.status.Status.{Status}
 use Rattle.lrs_cli.specs.declared.status.Status.TheVariants.{Done, Infeasible, Overflow}
-use Rattle.lrs_cli.specs.Answers.{Describes, IsListed, IsPartlyListed, Knows, PassesNowhere, WhereTold, WritesPart, WritesWhole}
+use Rattle.lrs_cli.specs.Answers.{Describes, IsListed, IsPartlyListed, Knows, PassesNowhere, WritesPart, WritesWhole}
 use Rattle.lrs_cli.specs.Ledgers.{AreTrusted, ComesToItsEnd, GoesOnFrom, Resources}
 use Rattle.lrs_cli.specs.Run.{AnswersRun, EndsSearch, IsDueBeforeSearch, IsLeftByRun, IsTextOf, MaySearch, RefusesFile, RunsFile, RunsSearch}
 use Rattle.lrs_cli.specs.Streams.{Streams}
@@ -29,14 +29,6 @@ use Rattle.coordinator.proofs.RunsAgain.{are_short}
 use Rattle.lrs_cli.proofs.ListingLemmas.{lists_part, lists_whole}
 use Rattle.lrs_cli.proofs.RunComplete.{passes_before, refused_ends, search_ends}
 use Rattle.lrs_cli.proofs.TrustLemmas.{tells_honestly}
-
-where_also : (left : Option (List ℕ)) (P Q : List ℕ → Type 0) → ((text : List ℕ) → P text → Q text) → WhereTold left P → WhereTold left Q
-where_also None P Q f h = tt
-where_also (Some text) P Q f h = f text h
-
-pub where_all : (left : Option (List ℕ)) (P : List ℕ → Type 0) → ((text : List ℕ) → P text) → WhereTold left P
-where_all None P f = tt
-where_all (Some text) P f = f text
 
 -- no file is refused with an answer that it was listed
 not_done : (left : Option (List ℕ)) (answer : Status) (rows lines : ℕ) → answer ≡ Done rows lines → RefusesFile left answer → ⊥
@@ -116,7 +108,7 @@ module _ {D W : Type 0} (disk : Disk D) (workers : Workers W)
     still = started disk.moment disk.since old.disk (disk.images old.disk) (only_now old.disk)
 
     lists : (rows lines : ℕ) → answer ≡ Done rows lines → AreTrusted workers old.workers new.workers →
-        Told (disk.seen old.disk) (λ f. WhereTold before.left (IsListed before.written after.written rows lines))
+        Told (disk.seen old.disk) (λ f. Told before.left (IsListed before.written after.written rows lines))
     lists rows lines e t f told = elim runs.comes [
       | inl r ↦ absurd (not_done before.left answer rows lines e r.0)
       | inr r ↦ described (WritesWhole before.written after.written rows lines) r.0.polyhedron before.left r.2
@@ -124,15 +116,14 @@ module _ {D W : Type 0} (disk : Disk D) (workers : Workers W)
     ]
 
     leaves : AreTrusted workers old.workers new.workers →
-        Told (disk.seen old.disk) (λ f. WhereTold before.left (IsLeftByRun disk old.disk new.disk))
+        Told (disk.seen old.disk) (λ f. Told before.left (IsLeftByRun disk old.disk new.disk))
     leaves t f told = elim runs.comes [
-      | inl r ↦ where_all before.left (IsLeftByRun disk old.disk new.disk) (λ text. inl (subst (λ (z : Resources D W). LeavesOnly disk.moment disk.since old.disk z.disk (disk.images old.disk)) (sym r.1) still))
-      | inr r ↦ where_also before.left (IsTextOf r.0) (IsLeftByRun disk old.disk new.disk)
-          (λ text h. inr (r.0, h, left r.0 r.1 before.written after.written Unwritten answer r.4 t f told)) r.2
+      | inl r ↦ λ text given. inl (subst (λ (z : Resources D W). LeavesOnly disk.moment disk.since old.disk z.disk (disk.images old.disk)) (sym r.1) still)
+      | inr r ↦ λ text given. inr (r.0, r.2 text given, left r.0 r.1 before.written after.written Unwritten answer r.4 t f told)
     ]
 
     part : AreTrusted workers old.workers new.workers → Unwritten
-        ⊎ Told (disk.seen old.disk) (λ f. WhereTold before.left (IsPartlyListed before.written after.written))
+        ⊎ Told (disk.seen old.disk) (λ f. Told before.left (IsPartlyListed before.written after.written))
     part t = elim runs.comes [
       | inl r ↦ inl r.2
       | inr r ↦ elim (partly r.0 r.1 before.written after.written Unwritten answer r.4 t) [
@@ -148,10 +139,11 @@ module _ {D W : Type 0} (disk : Disk D) (workers : Workers W)
       | inr r ↦ texts_of r.0 r.1 before.written after.written Unwritten answer r.4 f told
     ]
 
-    overflow : (o : Passed) → answer ≡ Overflow o → AreTrusted workers old.workers new.workers → WhereTold before.left (Describes (λ p. Passes p o))
+    overflow : (o : Passed) → answer ≡ Overflow o → AreTrusted workers old.workers new.workers → Told before.left (Describes (λ p. Passes p o))
     overflow o e t = elim runs.comes [
-      | inl r ↦ where_also before.left (Describes (λ p. IsDueBeforeSearch p o)) (Describes (λ p. Passes p o))
-          (λ text d. record { polyhedron = d.polyhedron; read = d.read; holds = passes_before d.polyhedron o d.holds }) (subst (RefusesFile before.left) e r.0)
+      | inl r ↦ λ text given.
+          let d = (subst (RefusesFile before.left) e r.0) text given in
+          record { polyhedron = d.polyhedron; read = d.read; holds = passes_before d.polyhedron o d.holds }
       | inr r ↦ described (λ p. Passes p o) r.0.polyhedron before.left r.2 (passes r.0 r.1 before.written after.written Unwritten answer r.4 t o e)
     ]
 

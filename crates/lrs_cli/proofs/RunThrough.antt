@@ -9,10 +9,11 @@ use Rattle.disk_core.specs.declared.disk.Disk.{Ghosts as Disk}
 use Rattle.workers_io.specs.declared.workers.Workers.{Ghosts as Workers}
 use Rattle.coordinator_core.specs.declared.options.Options.{Options}
 use Rattle.lrs_cli.specs.declared.status.Status.{Status}
-use Rattle.lrs_cli.specs.declared.status.Status.TheVariants.{Done, Usage, BadFile, BadJob, Infeasible, Overflow, ReadFault, WriteFault, DiskFault, Lost, NoRun, HasRun, BadLedger, LedgerLimit, OutOfMemory}
+use Rattle.lrs_cli.specs.declared.status.Status.TheVariants.{ReadFault, WriteFault}
 use Rattle.lrs_cli.specs.Ledgers.{DiskRose, Resources, RoseAt, WritesRecords, WritesRecordsPart}
 use Rattle.lrs_cli.specs.Run.{EndsSearch, RunsFile, RunsSearch}
 use Rattle.lrs_cli.specs.Streams.{streams}
+use Rattle.lrs_cli.proofs.CarriedEnds.{carried}
 use Rattle.lrs_cli.proofs.ThroughLemmas.{not_ok}
 
 -- ---- what records list
@@ -69,22 +70,16 @@ module _ {D W : Type 0} (disk : Disk D) (workers : Workers W) (options : Options
     EndsBelow answer = EndsSearch disk workers options limit s first last old new V answer
 
     ends_ok : Keeps told new → (U → V) → (answer : Status) → Ends answer → EndsBelow answer
-    ends_ok keeps f (Done rows lines) e =
-        (e.0, e.1, e.2, λ file t. let d = e.3 file t in (d.0, kept_whole s _ old told new keeps rows lines d.1))
-    ends_ok keeps f (Lost lost strays) e = (f e.0, e.1, e.2, e.3)
-    ends_ok keeps f (Overflow o) e = (f e.0, e.1)
-    ends_ok keeps f HasRun e = (f e.0, e.1, e.2, e.3)
-    ends_ok keeps f (LedgerLimit need most) e = (f e.0, e.1, e.2, e.3)
-    ends_ok keeps f (BadLedger place) e = e
-    ends_ok keeps f DiskFault e = tt
-    ends_ok keeps f WriteFault e = tt
-    ends_ok keeps f OutOfMemory e = tt
-    ends_ok keeps f Usage e = e
-    ends_ok keeps f (BadFile x) e = e
-    ends_ok keeps f (BadJob place) e = e
-    ends_ok keeps f Infeasible e = e
-    ends_ok keeps f ReadFault e = e
-    ends_ok keeps f NoRun e = e
+    ends_ok keeps f answer e = carried _ _ (record {
+      done = λ rows lines e. (e.0, e.1, e.2, λ file t. let d = e.3 file t in (d.0, kept_whole s _ old told new keeps rows lines d.1));
+      lost = λ lost strays e. (f e.0, e.1, e.2, e.3);
+      overflow = λ o e. (f e.0, e.1);
+      infeasible = λ e. e;
+      no_run = λ e. e;
+      has_run = λ e. (f e.0, e.1, e.2, e.3);
+      bad_ledger = λ place e. e;
+      ledger_limit = λ need most e. (f e.0, e.1, e.2, e.3);
+    }) answer e
 
     -- of a search no read fails
     pub no_read : (answer : Status) → Ends answer → answer ≡ ReadFault → ⊥

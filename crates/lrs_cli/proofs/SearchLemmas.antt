@@ -35,9 +35,9 @@ use Rattle.coordinator_core.specs.declared.options.Options.{Options}
 use Rattle.coordinator.specs.Calls.{MayRun, PrintsRecords}
 use Rattle.coordinator.specs.Leaving.{HasFront}
 use Rattle.lrs_cli.specs.declared.status.Status.{Status}
-use Rattle.lrs_cli.specs.declared.status.Status.TheVariants.{Done, Usage, BadFile, BadJob, Infeasible, Overflow, ReadFault, WriteFault, DiskFault, Lost, NoRun, HasRun, BadLedger, LedgerLimit, OutOfMemory}
 use Rattle.lrs_cli.specs.Ledgers.{Resources, WritesRecords, WritesRecordsPart, resources}
 use Rattle.lrs_cli.specs.Run.{EndsSearch, MaySearch, RunsSearch}
+use Rattle.lrs_cli.proofs.CarriedEnds.{carried}
 
 -- ---- what records list
 pub whole_of : {E : Type 0} (s : Search) (records : List (List ℕ)) (old new : Option (List ℕ)) (listed : Listed) →
@@ -130,22 +130,22 @@ module _ {D W : Type 0} (disk : Disk D) (workers : Workers W) (options : Options
 
   ends_attached : (written now : Option (List ℕ)) (U : Type 0) (answer : Status) → EndsSearch disk workers options limit s from to written now U answer →
       EndsSearch disk workers options limit s back to written now U answer
-  ends_attached written now U (Done rows lines) e = (e.0, e.1, from_old _ e.2, from_old _ e.3)
-  ends_attached written now U (Lost lost strays) e = (e.0, e.1, e.2, from_old _ e.3)
-  ends_attached written now U (Overflow o) (u, inl own) = (u, inl (own.0, own.1, leaves_images own.2))
-  ends_attached written now U (Overflow o) (u, inr told) = (u, inr (told.0, told.1, from_old _ told.2))
-  ends_attached written now U HasRun e = (e.0, e.1, leaves_images e.2, from_old _ e.3)
-  ends_attached written now U (LedgerLimit need most) e = e
-  ends_attached written now U (BadLedger place) e = from_old _ e
-  ends_attached written now U DiskFault e = tt
-  ends_attached written now U WriteFault e = tt
-  ends_attached written now U OutOfMemory e = tt
-  ends_attached written now U Usage e = e
-  ends_attached written now U (BadFile f) e = e
-  ends_attached written now U (BadJob place) e = e
-  ends_attached written now U Infeasible e = e
-  ends_attached written now U ReadFault e = e
-  ends_attached written now U NoRun e = e
+  ends_attached written now U answer e = carried _ _ (record {
+    done = λ rows lines e. (e.0, e.1, from_old _ e.2, from_old _ e.3);
+    lost = λ lost strays e. (e.0, e.1, e.2, from_old _ e.3);
+    overflow = λ o e. (
+      e.0,
+      elim e.1 [
+        | inl own ↦ inl (own.0, own.1, leaves_images own.2)
+        | inr told ↦ inr (told.0, told.1, from_old _ told.2)
+      ],
+    );
+    infeasible = λ e. e;
+    no_run = λ e. e;
+    has_run = λ e. (e.0, e.1, leaves_images e.2, from_old _ e.3);
+    bad_ledger = λ place e. from_old _ e;
+    ledger_limit = λ need most e. e;
+  }) answer e
 
   pub attached : (written now : Option (List ℕ)) (U : Type 0) (answer : Status) → RunsSearch disk workers options limit s from to written now U answer →
       RunsSearch disk workers options limit s back to written now U answer

@@ -7,17 +7,18 @@ use Rattle.poly_io.specs.Causes.{Rose, HasCause}
 use Rattle.poly_io.specs.Written.{AppendsPart}
 use Rattle.poly_model.specs.Systems.{Polyhedron, cone_of}
 use Rattle.poly_model.specs.Extreme.{IsFeasible}
+use Rattle.disk_core.specs.Contents.{Told}
 use Rattle.lrs_cli.specs.declared.status.Status.{Status}
 use Rattle.lrs_cli.specs.declared.status.Status.TheVariants.{Done, Usage, BadFile, BadJob, Infeasible, Overflow, ReadFault, WriteFault, DiskFault, Lost, NoRun, HasRun, BadLedger, LedgerLimit, OutOfMemory}
-use Rattle.lrs_cli.specs.Answers.{WhereTold, Describes, WritesWhole, WritesPart, IsPartlyListed, IsFeasibleFile, WritesNothing}
+use Rattle.lrs_cli.specs.Answers.{Describes, WritesWhole, WritesPart, IsPartlyListed, IsFeasibleFile, WritesNothing}
 use Rattle.lrs_cli.specs.Streams.{Streams, streams}
 use Rattle.lrs_cli.specs.Convert.{AnswersConvert}
 
 -- a fact of a described polyhedron gives another
 told_also : (left : Option (List ℕ)) (P Q : Polyhedron → Type 0) → ((p : Polyhedron) → P p → Q p) →
-    WhereTold left (λ t. Describes P t) → WhereTold left (λ t. Describes Q t)
-told_also None P Q f d = tt
-told_also (Some t) P Q f d = record { polyhedron = d.polyhedron; read = d.read; holds = f d.polyhedron d.holds }
+    Told left (λ t. Describes P t) → Told left (λ t. Describes Q t)
+told_also left P Q f d text told =
+    let t = d text told in record { polyhedron = t.polyhedron; read = t.read; holds = f t.polyhedron t.holds }
 
 -- the sink below has all that the buffered one tells
 pub through_ok : (left after_left : Option (List ℕ)) (reads after_reads : ℕ) (old told new : Option (List ℕ))
@@ -62,7 +63,7 @@ through_ok left after_left reads after_reads old told new faults mid_faults new_
 
 -- what the buffered sink tells, whatever the answer was, where something was written
 partly : (before mid : Streams) (U : Type 0) (status : Status) → AnswersConvert before mid U status → (U → ⊥) →
-    WhereTold before.left (IsPartlyListed before.written mid.written)
+    Told before.left (IsPartlyListed before.written mid.written)
 partly before mid U (Done rows lines) h never =
     let old = before.written in
     let told = mid.written in
@@ -88,7 +89,7 @@ partly before mid U (LedgerLimit need limit) h never = absurd (never (h.unwritte
 
 -- then the file has a point
 feasible : (before mid : Streams) (U : Type 0) (status : Status) → AnswersConvert before mid U status → (U → ⊥) →
-    WhereTold before.left IsFeasibleFile
+    Told before.left IsFeasibleFile
 feasible before mid U (Done rows lines) h never =
     told_also before.left (WritesWhole before.written mid.written rows lines) (λ p. IsFeasible (cone_of p))
     (λ p w. w.feasible) (h.done rows lines refl).1

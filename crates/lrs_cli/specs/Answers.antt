@@ -1,5 +1,5 @@
 -- What an answer of the program says of the text that was read, and of what was written.
-use Rattle.std.specs.Prelude.{ℕ, List, Option, Some, None, ⊤}
+use Rattle.std.specs.Prelude.{ℕ, List, Option, Some, None}
 use Rattle.std.specs.Io.KnownBytes.{Appends}
 use Rattle.poly_model.specs.declared.overflow.Overflow.{Overflow as Passed}
 use Rattle.poly_model.specs.Systems.{Polyhedron, cone_of}
@@ -13,11 +13,6 @@ use Rattle.row_printer.specs.Listings.{IsCountedListing}
 use Rattle.convert_core.specs.Listed.{IsDueInSearch}
 use Rattle.lrs_cli.specs.declared.status.Status.{Status}
 use Rattle.lrs_cli.specs.declared.status.Status.TheVariants.{Done, BadFile, Infeasible, Overflow, ReadFault, WriteFault, OutOfMemory}
-
--- a fact about bytes, where they are told
-abbrev pub WhereTold : Option (List ℕ) → (List ℕ → Type 0) → Type 0
-WhereTold None P = ⊤
-WhereTold (Some bytes) P = P bytes
 
 -- a fact about bytes, which are told
 abbrev pub Knows : Option (List ℕ) → (List ℕ → Type 0) → Type 0

@@ -6,14 +6,14 @@ use Rattle.poly_model.specs.declared.listed.Count.{Count}
 use Rattle.job_text.specs.declared.reply.Tail.TheVariants.{End, Overflow as Overflowed, Memory}
 use Rattle.job_text.specs.Limits.{most_job_bytes}
 use Rattle.worker_job.specs.Runs.{IsBadJob, Replies, RepliesInPart}
+use Rattle.disk_core.specs.Contents.{Told}
 use Rattle.lrs_cli.specs.declared.status.Status.{Status}
 use Rattle.lrs_cli.specs.declared.status.Status.TheVariants.{Done, BadJob, Overflow, ReadFault, WriteFault, OutOfMemory}
-use Rattle.lrs_cli.specs.Answers.{WhereTold}
 use Rattle.lrs_cli.specs.Streams.{Streams}
 
 -- a fact about the front of the bytes, where they are told: about all of them, or one byte more than a job text may have
 abbrev pub OfFront : Option (List ℕ) → (List ℕ → Type 0) → Type 0
-OfFront left P = WhereTold left (λ text. P (take (most_job_bytes + 1) text))
+OfFront left P = Told left (λ text. P (take (most_job_bytes + 1) text))
 
 -- the text is a job, and a whole reply of it was written, which ends in `end` with so many rows
 abbrev pub IsReplied : Option (List ℕ) → Option (List ℕ) → ℕ → List ℕ → Type 0

@@ -3,6 +3,7 @@ use Rattle.std.specs.Prelude.{◌≡◌, ◌≤◌, ◌++◌, ◌∷◌, ⊤, �
 use Rattle.std.specs.Io.KnownBytes.{Appends}
 use Rattle.poly_io.specs.Causes.{Rose}
 use Rattle.poly_io.specs.Written.{AppendsPart}
+use Rattle.poly_model.specs.declared.overflow.Overflow.{Overflow as Passed}
 use Rattle.poly_model.specs.Systems.{Polyhedron}
 use Rattle.work_core.specs.Searches.{Search}
 use Rattle.disk_core.specs.Images.{Images}
@@ -15,7 +16,7 @@ use Rattle.run_state.specs.Payloads.{IsLedgerText}
 use Rattle.workers_io.specs.declared.workers.Workers.{Ghosts as Workers}
 use Rattle.run_ledger.specs.Printing.{IsCountedRunListing, IsRunListing}
 use Rattle.lrs_cli.specs.declared.status.Status.{Status}
-use Rattle.lrs_cli.specs.declared.status.Status.TheVariants.{Done, WriteFault, DiskFault, LedgerLimit, OutOfMemory}
+use Rattle.lrs_cli.specs.declared.status.Status.TheVariants.{Done, Infeasible, Overflow, WriteFault, DiskFault, Lost, NoRun, HasRun, BadLedger, LedgerLimit, OutOfMemory}
 
 -- the disk of a ledger, and workers, at a moment
 pub record Resources (D W : Type 0) : Type 0 where
@@ -85,6 +86,33 @@ pub record WritesRecordsPart (s : Search) (records : List (List ℕ)) (old new :
   pub text : List ℕ
   pub is_listing : IsRunListing s replies text
   pub written : AppendsPart old new text
+
+-- ---- how a call ends
+-- what each answer of a call in a ledger says
+pub record LedgerEnds : Type 1 where
+  pub done : ℕ → ℕ → Type 0
+  pub lost : ℕ → ℕ → Type 0
+  pub overflow : Passed → Type 0
+  pub infeasible : Type 0
+  pub no_run : Type 0
+  pub has_run : Type 0
+  pub bad_ledger : ℕ → Type 0
+  pub ledger_limit : ℕ → ℕ → Type 0
+
+-- what this one says: at a fault and at want of memory no more than that, and the others are no answers of such a call
+abbrev pub EndsAs : LedgerEnds → Status → Type 0
+EndsAs ends (Done rows lines) = ends.done rows lines
+EndsAs ends (Lost lost strays) = ends.lost lost strays
+EndsAs ends (Overflow o) = ends.overflow o
+EndsAs ends Infeasible = ends.infeasible
+EndsAs ends NoRun = ends.no_run
+EndsAs ends HasRun = ends.has_run
+EndsAs ends (BadLedger place) = ends.bad_ledger place
+EndsAs ends (LedgerLimit need most) = ends.ledger_limit need most
+EndsAs ends DiskFault = ⊤
+EndsAs ends WriteFault = ⊤
+EndsAs ends OutOfMemory = ⊤
+EndsAs ends _ = ⊥
 
 -- ---- how a call ends where nothing is in its way
 -- at its end, or for want of room in the ledger or of memory

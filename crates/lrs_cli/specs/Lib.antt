@@ -1,3 +1,4 @@
+pub mod Counts
 pub mod StatusLine
 pub mod Answers
 pub mod Streams

@@ -22,7 +22,7 @@ use Rattle.run_laws.specs.Laws.{IsLedgerFile, TellsFullAnswers}
 use Rattle.lrs_cli.specs.declared.status.Status.{Status}
 use Rattle.lrs_cli.specs.declared.status.Status.TheVariants.{Done, Usage, BadFile, BadJob, Infeasible, Overflow, ReadFault, WriteFault, DiskFault, Lost, NoRun, HasRun, BadLedger, LedgerLimit, OutOfMemory}
 use Rattle.lrs_cli.specs.Answers.{Knows, PassesNowhere, WritesPart, WritesWhole}
-use Rattle.lrs_cli.specs.Ledgers.{AllGoOnFrom, AreTrusted, ComesToItsEnd, DiskRose, GoesOnFrom, Resources, RoseAt, TellsOf, WritesRecords, WritesRecordsPart}
+use Rattle.lrs_cli.specs.Ledgers.{AllGoOnFrom, AreTrusted, ComesToItsEnd, DiskRose, EndsAs, GoesOnFrom, Resources, RoseAt, TellsOf, WritesRecords, WritesRecordsPart}
 
 module _ {D W : Type 0} (disk : Disk D) (workers : Workers W) (options : Options) (limit : ℕ) (old new : Resources D W) where
   -- the records of the file
@@ -56,40 +56,35 @@ module _ {D W : Type 0} (disk : Disk D) (workers : Workers W) (options : Options
   -- what each answer says of the course of the call, of the ledger, and of the output, which was `written` and is `now`;
   -- `Unwritten` says that it is as it was
   abbrev pub EndsRecorded : Option (List ℕ) → Option (List ℕ) → Type 0 → Status → Type 0
-  -- nothing is left to do; the listing that the records tell was written
-  EndsRecorded written now Unwritten (Done rows lines) = (r : Recorded) × (texts : List (List ℕ))
-      × Finishes (state_at options r) before after texts × RestsWithMore r texts
-      × Told (disk.seen old.disk) (λ f. WritesRecords r.search (r.payloads ++ texts) written now rows lines)
-  -- so many losses and strays came; what was accepted is kept
-  EndsRecorded written now Unwritten (Lost lost strays) = Unwritten × (r : Recorded) × (texts : List (List ℕ))
-      × GivesUp (state_at options r) lost strays before after texts × RestsWithMore r texts
-  -- of a pivot that is asked for when the lines are prepared, and then nothing was started; or a reply says so
-  EndsRecorded written now Unwritten (Overflow o) = Unwritten × (r : Recorded)
-      × ((IsDue r.search.polyhedron o (IsAskedBefore r.search.polyhedron o) × (new.workers ≡ old.workers)
-      × Told (disk.seen old.disk) ReadsTheSame)
-      ⊎ ((texts : List (List ℕ)) × EndsBy (state_at options r) o before after texts × RestsWithMore r texts))
-  -- the equations of the recorded polyhedron have no common point, and nothing was started
-  EndsRecorded written now Unwritten Infeasible = Unwritten × (new.workers ≡ old.workers) × (r : Recorded)
-      × (AreConsistent r.search.polyhedron → ⊥) × Told (disk.seen old.disk) ReadsTheSame
-  -- the file is empty or its first gate is closed, and nothing was started
-  EndsRecorded written now Unwritten NoRun = Unwritten × (new.workers ≡ old.workers)
-      × Told (disk.seen old.disk) (λ f. HasNoRun f × ReadsTheSame f)
-  -- the first record that breaks the ledger text, and nothing was started
-  EndsRecorded written now Unwritten (BadLedger place) = Told (disk.seen old.disk)
-      (λ f. IsBadLedger place f × ReadsTheSame f × Unwritten × (new.workers ≡ old.workers))
-  -- the next record would pass the limit
-  EndsRecorded written now Unwritten (LedgerLimit need most) = Unwritten × (r : Recorded) × (texts : List (List ℕ))
-      × LeadsSomewhere (state_at options r) before after texts
-      × Told (disk.seen old.disk) (λ f. IsRefusedBy (new_ledger limit) (r.payloads ++ texts) need most)
-  EndsRecorded written now Unwritten DiskFault = ⊤
-  EndsRecorded written now Unwritten WriteFault = ⊤
-  EndsRecorded written now Unwritten OutOfMemory = ⊤
-  -- these are no answers of `resume`
-  EndsRecorded written now Unwritten Usage = ⊥
-  EndsRecorded written now Unwritten (BadFile f) = ⊥
-  EndsRecorded written now Unwritten (BadJob place) = ⊥
-  EndsRecorded written now Unwritten ReadFault = ⊥
-  EndsRecorded written now Unwritten HasRun = ⊥
+  EndsRecorded written now Unwritten = EndsAs (record {
+    -- nothing is left to do; the listing that the records tell was written
+    done = λ rows lines. (r : Recorded) × (texts : List (List ℕ))
+        × Finishes (state_at options r) before after texts × RestsWithMore r texts
+        × Told (disk.seen old.disk) (λ f. WritesRecords r.search (r.payloads ++ texts) written now rows lines);
+    -- so many losses and strays came; what was accepted is kept
+    lost = λ lost strays. Unwritten × (r : Recorded) × (texts : List (List ℕ))
+        × GivesUp (state_at options r) lost strays before after texts × RestsWithMore r texts;
+    -- of a pivot that is asked for when the lines are prepared, and then nothing was started; or a reply says so
+    overflow = λ o. Unwritten × (r : Recorded)
+        × ((IsDue r.search.polyhedron o (IsAskedBefore r.search.polyhedron o) × (new.workers ≡ old.workers)
+        × Told (disk.seen old.disk) ReadsTheSame)
+        ⊎ ((texts : List (List ℕ)) × EndsBy (state_at options r) o before after texts × RestsWithMore r texts));
+    -- the equations of the recorded polyhedron have no common point, and nothing was started
+    infeasible = Unwritten × (new.workers ≡ old.workers) × (r : Recorded)
+        × (AreConsistent r.search.polyhedron → ⊥) × Told (disk.seen old.disk) ReadsTheSame;
+    -- the file is empty or its first gate is closed, and nothing was started
+    no_run = Unwritten × (new.workers ≡ old.workers)
+        × Told (disk.seen old.disk) (λ f. HasNoRun f × ReadsTheSame f);
+    -- this is no answer of `resume`
+    has_run = ⊥;
+    -- the first record that breaks the ledger text, and nothing was started
+    bad_ledger = λ place. Told (disk.seen old.disk)
+        (λ f. IsBadLedger place f × ReadsTheSame f × Unwritten × (new.workers ≡ old.workers));
+    -- the next record would pass the limit
+    ledger_limit = λ need most. Unwritten × (r : Recorded) × (texts : List (List ℕ))
+        × LeadsSomewhere (state_at options r) before after texts
+        × Told (disk.seen old.disk) (λ f. IsRefusedBy (new_ledger limit) (r.payloads ++ texts) need most);
+  })
 
   -- The run goes on from the records of the file, under any workers, honest or not. `goes`: whatever the answer, nothing was
   -- started and no image is new; or the starts and collects are steps of the machine from the records on. `prints`: nothing

@@ -27,8 +27,8 @@ use Rattle.coordinator.specs.Leaving.{HasFront, IsRefusedBy}
 use Rattle.run_laws.specs.Laws.{IsLedgerFile, TellsFullAnswers}
 use Rattle.lrs_cli.specs.declared.status.Status.{Status}
 use Rattle.lrs_cli.specs.declared.status.Status.TheVariants.{Done, Usage, BadFile, BadJob, Infeasible, Overflow, ReadFault, WriteFault, DiskFault, Lost, NoRun, HasRun, BadLedger, LedgerLimit, OutOfMemory}
-use Rattle.lrs_cli.specs.Answers.{Describes, IsBadFile, IsInfeasibleFile, IsListed, IsPartlyListed, Knows, PassesNowhere, WhereTold}
-use Rattle.lrs_cli.specs.Ledgers.{AreTrusted, ComesToItsEnd, DiskRose, GoesOnFrom, Resources, RoseAt, WritesRecords, WritesRecordsPart}
+use Rattle.lrs_cli.specs.Answers.{Describes, IsBadFile, IsInfeasibleFile, IsListed, IsPartlyListed, Knows, PassesNowhere}
+use Rattle.lrs_cli.specs.Ledgers.{AreTrusted, ComesToItsEnd, DiskRose, EndsAs, GoesOnFrom, Resources, RoseAt, WritesRecords, WritesRecordsPart}
 use Rattle.lrs_cli.specs.Streams.{Streams}
 
 -- a search that a new run may do: by subtrees of a polyhedron with a point, from a root at which it may begin
@@ -78,35 +78,29 @@ module _ {D W : Type 0} (disk : Disk D) (workers : Workers W) (options : Options
   -- what each answer says of the course of the call, of the ledger, and of the output, which was `written` and is `now`;
   -- `Unwritten` says that it is as it was
   abbrev pub EndsSearch : Option (List ℕ) → Option (List ℕ) → Type 0 → Status → Type 0
-  -- nothing is left to do; the listing that the records tell was written
-  EndsSearch written now Unwritten (Done rows lines) =
-      (texts : List (List ℕ)) × Finishes start before after texts × RestsWithFirst texts
-      × Told (disk.seen old.disk) (λ f. HasNoRun f × WritesRecords s (with_first texts) written now rows lines)
-  -- so many losses and strays came; what was accepted is kept
-  EndsSearch written now Unwritten (Lost lost strays) =
-      Unwritten × (texts : List (List ℕ)) × GivesUp start lost strays before after texts × RestsWithFirst texts
-  -- of a pivot that is asked for when the lines are prepared, and then nothing was started; or a reply says so
-  EndsSearch written now Unwritten (Overflow o) = Unwritten
-      × ((IsDue s.polyhedron o (IsAskedBefore s.polyhedron o) × (new.workers ≡ old.workers) × LeavesImages)
-      ⊎ ((texts : List (List ℕ)) × EndsBy start o before after texts × RestsWithFirst texts))
-  -- the first gate is open, and nothing was changed or started
-  EndsSearch written now Unwritten HasRun = Unwritten × (new.workers ≡ old.workers) × LeavesImages
-      × Told (disk.seen old.disk) (λ f. IsOpen f × (disk.seen new.disk ≡ Some f))
-  -- the next record would pass the limit
-  EndsSearch written now Unwritten (LedgerLimit need most) = Unwritten × (texts : List (List ℕ))
-      × LeadsSomewhere start before after texts × IsRefusedBy (new_ledger limit) (with_first texts) need most
-  -- only over a disk that does not keep its model
-  EndsSearch written now Unwritten (BadLedger place) = Told (disk.seen old.disk) (λ f. ⊥)
-  EndsSearch written now Unwritten DiskFault = ⊤
-  EndsSearch written now Unwritten WriteFault = ⊤
-  EndsSearch written now Unwritten OutOfMemory = ⊤
-  -- these are no answers of a search
-  EndsSearch written now Unwritten Usage = ⊥
-  EndsSearch written now Unwritten (BadFile f) = ⊥
-  EndsSearch written now Unwritten (BadJob place) = ⊥
-  EndsSearch written now Unwritten Infeasible = ⊥
-  EndsSearch written now Unwritten ReadFault = ⊥
-  EndsSearch written now Unwritten NoRun = ⊥
+  EndsSearch written now Unwritten = EndsAs (record {
+    -- nothing is left to do; the listing that the records tell was written
+    done = λ rows lines. (texts : List (List ℕ)) × Finishes start before after texts × RestsWithFirst texts
+        × Told (disk.seen old.disk) (λ f. HasNoRun f × WritesRecords s (with_first texts) written now rows lines);
+    -- so many losses and strays came; what was accepted is kept
+    lost = λ lost strays. Unwritten
+        × (texts : List (List ℕ)) × GivesUp start lost strays before after texts × RestsWithFirst texts;
+    -- of a pivot that is asked for when the lines are prepared, and then nothing was started; or a reply says so
+    overflow = λ o. Unwritten
+        × ((IsDue s.polyhedron o (IsAskedBefore s.polyhedron o) × (new.workers ≡ old.workers) × LeavesImages)
+        ⊎ ((texts : List (List ℕ)) × EndsBy start o before after texts × RestsWithFirst texts));
+    -- these are no answers of a search
+    infeasible = ⊥;
+    no_run = ⊥;
+    -- the first gate is open, and nothing was changed or started
+    has_run = Unwritten × (new.workers ≡ old.workers) × LeavesImages
+        × Told (disk.seen old.disk) (λ f. IsOpen f × (disk.seen new.disk ≡ Some f));
+    -- only over a disk that does not keep its model
+    bad_ledger = λ place. Told (disk.seen old.disk) (λ f. ⊥);
+    -- the next record would pass the limit
+    ledger_limit = λ need most. Unwritten × (texts : List (List ℕ))
+        × LeadsSomewhere start before after texts × IsRefusedBy (new_ledger limit) (with_first texts) need most;
+  })
 
   -- The search was run. `goes`: whatever the answer, the starts and collects are steps of the machine from the first record
   -- on. `prints`: nothing was written, or nothing was left to do, and first bytes of what the records list were.
@@ -130,10 +124,10 @@ RefusesPolyhedron p _ = ⊥
 -- no search was run of the file with these bytes, where they are told
 abbrev pub RefusesFile : Option (List ℕ) → Status → Type 0
 RefusesFile left ReadFault = ⊤
-RefusesFile left (BadFile f) = WhereTold left (IsBadFile f)
+RefusesFile left (BadFile f) = Told left (IsBadFile f)
 RefusesFile left OutOfMemory = ⊤
-RefusesFile left Infeasible = WhereTold left IsInfeasibleFile
-RefusesFile left (Overflow o) = WhereTold left (Describes (λ p. IsDueBeforeSearch p o))
+RefusesFile left Infeasible = Told left IsInfeasibleFile
+RefusesFile left (Overflow o) = Told left (Describes (λ p. IsDueBeforeSearch p o))
 RefusesFile left _ = ⊥
 
 -- since then each image is one from before; or there is one search of the text, and each other image has no run, or has legal
@@ -149,7 +143,7 @@ module _ {D W : Type 0} (disk : Disk D) (workers : Workers W) (options : Options
   -- read to its end, and a search of its text was run.
   pub record RunsFile (answer : Status) : Type 0 where
     pub comes : (RefusesFile before.left answer × (new ≡ old) × Unwritten)
-        ⊎ ((s : Search) × MaySearch s × WhereTold before.left (IsTextOf s) × IsAtEnd after.left
+        ⊎ ((s : Search) × MaySearch s × Told before.left (IsTextOf s) × IsAtEnd after.left
         × RunsSearch disk workers options limit s old new before.written after.written Unwritten answer)
     -- a read, a write failed exactly where the answer says so, a call of the disk nowhere else
     pub reads : RoseAt ReadFault answer before.read_faults after.read_faults
@@ -161,16 +155,16 @@ module _ {D W : Type 0} (disk : Disk D) (workers : Workers W) (options : Options
     -- THE HEADLINE. Done, under workers that are trusted: the text describes a polyhedron that has a point, and its listing
     -- was written, of so many rows and lines, each row once
     pub lists : (rows lines : ℕ) → answer ≡ Done rows lines → AreTrusted workers old.workers new.workers →
-        Told (disk.seen old.disk) (λ f. WhereTold before.left (IsListed before.written after.written rows lines))
+        Told (disk.seen old.disk) (λ f. Told before.left (IsListed before.written after.written rows lines))
     -- whatever the answer, wherever a crash comes: there is no run, or one with which `resume` goes on
     pub leaves : AreTrusted workers old.workers new.workers →
-        Told (disk.seen old.disk) (λ f. WhereTold before.left (IsLeftByRun disk old.disk new.disk))
+        Told (disk.seen old.disk) (λ f. Told before.left (IsLeftByRun disk old.disk new.disk))
     -- whatever the answer: nothing was written, or the beginning of the listing
     pub part : AreTrusted workers old.workers new.workers → Unwritten
-        ⊎ Told (disk.seen old.disk) (λ f. WhereTold before.left (IsPartlyListed before.written after.written))
+        ⊎ Told (disk.seen old.disk) (λ f. Told before.left (IsPartlyListed before.written after.written))
     -- an overflow: of the polyhedron that the text describes a product passes
     pub overflow : (o : Passed) → answer ≡ Overflow o → AreTrusted workers old.workers new.workers →
-        WhereTold before.left (Describes (λ p. Passes p o))
+        Told before.left (Describes (λ p. Passes p o))
     -- whatever the workers gave: no image since then is a bad ledger that was not there before
     pub texts : Told (disk.seen old.disk) (λ f. LeavesOnly disk.moment disk.since old.disk new.disk
         (λ c. disk.images old.disk c ⊎ (HasNoRun c ⊎ IsLedgerFile c)))

@@ -1,5 +1,7 @@
 -- The input and the output of a call.
 use Rattle.std.specs.Prelude.{ℕ, List, Option}
+use Rattle.poly_io.specs.declared.sink.Sink.{Ghosts as Sink}
+use Rattle.poly_io.specs.declared.source.Source.{Ghosts as Source}
 
 -- the input and the output at a moment: the bytes that are left and that were written, where they are told, and how
 -- often a read and a write has failed
@@ -16,3 +18,8 @@ streams left read_faults written write_faults = record {
   written = written;
   write_faults = write_faults;
 }
+
+-- what this input and this output tell
+abbrev pub streams_at : {I O : Type 0} → Source I → Sink O → I → O → Streams
+streams_at source sink input out =
+    streams (source.left input) (source.faults input) (sink.written out) (sink.faults out)

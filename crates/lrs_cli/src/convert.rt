@@ -9,7 +9,7 @@ ghost use Rattle.poly_reader.specs.Limits.{most_file_bytes};
 ghost use Rattle.convert_core.specs.Listed.{IsDueInSearch};
 ghost use Rattle.lrs_cli.specs.Answers.{WritesWhole, WritesPart, ComesOfPolyhedron, StopsListing, WritesNothing};
 ghost use Rattle.lrs_cli.specs.Convert.{AnswersConvert};
-ghost use Rattle.lrs_cli.specs.Streams.{streams};
+ghost use Rattle.lrs_cli.specs.Streams.{streams_at};
 
 use crate::status::Status;
 use convert_core::list;
@@ -23,8 +23,7 @@ use std::alloc::Global;
 pub fn convert<I: Source, O: Sink>(alloc: Global, input: &mut I, out: &mut O) -> Status
     ensures line { result ≡ Status.Usage → ⊥ }
     ensures answers { AnswersConvert
-        (streams (I.left input.old) (I.faults input.old) (O.written out.old) (O.faults out.old))
-        (streams (I.left input.new) (I.faults input.new) (O.written out.new) (O.faults out.new))
+        (streams_at I.Source O.Sink input.old out.old) (streams_at I.Source O.Sink input.new out.new)
         (out.new ≡ out.old) result }
     ensures taken { TakesAtMost (I.left input.old) (I.left input.new) (most_file_bytes + 1) }
 {

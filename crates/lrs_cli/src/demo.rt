@@ -6,10 +6,11 @@ ghost use Rattle.poly_model.specs.Systems.{cone_of};
 ghost use Rattle.example_polys.specs.Examples.{example_of};
 ghost use Rattle.lrs_cli.specs.Demo.{AnswersDemo, totals_text};
 
+use crate::counts::{CountBehind, write_counts};
 use crate::status::Status;
 use convert_core::{SearchStop, Totals, totals_of};
 use example_polys::{ExampleKind, example};
-use poly_io::{Sink, WriteFault, write_all, write_count};
+use poly_io::{Sink, WriteFault};
 use poly_model::Poly;
 use std::alloc::Global;
 
@@ -57,11 +58,13 @@ fn print_totals<O: Sink>(alloc: Global, poly: &Poly, out: &mut O) -> Status
 fn write_totals<O: Sink>(totals: Totals, out: &mut O) -> Result<(), WriteFault>
     ensures { Prints O.Sink out.old out.new result (totals_text totals) }
 {
-    write_all(out, b"rows ")?;
-    write_count(totals.rows, out)?;
-    write_all(out, b"\nlines ")?;
-    write_count(totals.lines as u64, out)?;
-    write_all(out, b"\nsum ")?;
-    write_count(totals.sum, out)?;
-    write_all(out, b"\n")
+    write_counts(
+        &[
+            CountBehind(b"rows ", totals.rows),
+            CountBehind(b"\nlines ", totals.lines as u64),
+            CountBehind(b"\nsum ", totals.sum),
+        ],
+        b"\n",
+        out,
+    )
 }

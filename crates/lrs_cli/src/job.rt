@@ -3,7 +3,7 @@ ghost use Rattle.std.specs.Prelude.{◌≡◌, ◌≤◌, ◌+◌};
 ghost use Rattle.job_text.specs.Limits.{most_job_bytes};
 ghost use Rattle.poly_io.specs.Taken.{TakesAtMost};
 ghost use Rattle.lrs_cli.specs.Job.{AnswersJob};
-ghost use Rattle.lrs_cli.specs.Streams.{streams};
+ghost use Rattle.lrs_cli.specs.Streams.{streams_at};
 
 use crate::status::Status;
 use crate::through::ended;
@@ -22,8 +22,7 @@ const MOST_HELD: usize = 67_108_864;
 pub fn job_through<I: Source, O: Sink>(alloc: Global, input: &mut I, out: O) -> (Status, O)
     ensures line { result.0 ≡ Status.Usage → ⊥ }
     ensures answers { AnswersJob
-        (streams (I.left input.old) (I.faults input.old) (O.written out) (O.faults out))
-        (streams (I.left input.new) (I.faults input.new) (O.written result.1) (O.faults result.1))
+        (streams_at I.Source O.Sink input.old out) (streams_at I.Source O.Sink input.new result.1)
         (result.1 ≡ out) result.0 }
     ensures taken { TakesAtMost (I.left input.old) (I.left input.new) (most_job_bytes + 1) }
 {
@@ -35,8 +34,7 @@ fn job_over<B: Base, I: Source, O: Sink>(alloc: Global, input: &mut I, out: O) -
     requires { B.base ≡ O.written out }
     ensures line { result.0 ≡ Status.Usage → ⊥ }
     ensures answers { AnswersJob
-        (streams (I.left input.old) (I.faults input.old) (O.written out) (O.faults out))
-        (streams (I.left input.new) (I.faults input.new) (O.written result.1) (O.faults result.1))
+        (streams_at I.Source O.Sink input.old out) (streams_at I.Source O.Sink input.new result.1)
         (result.1 ≡ out) result.0 }
     ensures taken { TakesAtMost (I.left input.old) (I.left input.new) (most_job_bytes + 1) }
 {
@@ -50,8 +48,7 @@ fn job_over<B: Base, I: Source, O: Sink>(alloc: Global, input: &mut I, out: O) -
 fn answer_job<I: Source, O: Sink>(alloc: Global, input: &mut I, out: &mut O) -> Status
     ensures line { result ≡ Status.Usage → ⊥ }
     ensures answers { AnswersJob
-        (streams (I.left input.old) (I.faults input.old) (O.written out.old) (O.faults out.old))
-        (streams (I.left input.new) (I.faults input.new) (O.written out.new) (O.faults out.new))
+        (streams_at I.Source O.Sink input.old out.old) (streams_at I.Source O.Sink input.new out.new)
         (out.new ≡ out.old) result }
     ensures taken { TakesAtMost (I.left input.old) (I.left input.new) (most_job_bytes + 1) }
     ensures later { O.faults out.old ≤ O.faults out.new }

@@ -3,6 +3,7 @@
 
 mod chain;
 mod convert;
+mod counts;
 mod demo;
 mod devices;
 mod job;

@@ -2,8 +2,7 @@
 ghost use Rattle.std.specs.Prelude.{◌≡◌, map, drop, string_bytes, IfOk};
 ghost use Rattle.std.specs.Result.{result_map_both};
 ghost use Rattle.lrs_cli.specs.Ledgers.{resources};
-ghost use Rattle.lrs_cli.specs.Lrs.{Answers};
-ghost use Rattle.lrs_cli.specs.Streams.{streams};
+ghost use Rattle.lrs_cli.specs.Streams.{streams_at};
 ghost use Rattle.lrs_cli.specs.Endings.{AnswersArguments, Ending, IsSaid};
 
 use crate::devices::Devices;
@@ -28,8 +27,7 @@ pub fn respond<I: Source, O: Sink, E: Sink, D: Disk, W: Workers>(
 ) -> (u8, O)
     ensures { Ending D.Disk W.Workers
         (resources devices.old.disk devices.old.workers) (resources devices.new.disk devices.new.workers)
-        (streams (I.left devices.old.input) (I.faults devices.old.input) (O.written out) (O.faults out))
-        (streams (I.left devices.new.input) (I.faults devices.new.input) (O.written result.1) (O.faults result.1))
+        (streams_at I.Source O.Sink devices.old.input out) (streams_at I.Source O.Sink devices.new.input result.1)
         (devices.new.input ≡ devices.old.input) (result.1 ≡ out)
         (IsSaid (E.written errors.old) (E.written errors.new) (E.faults errors.old) (E.faults errors.new))
         (result_map_both (λ v. map string_bytes (drop 1 v.items)) (λ e. e) arguments) result.0 }
@@ -48,35 +46,17 @@ fn answer<I: Source, O: Sink, D: Disk, W: Workers>(
 ) -> (Status, O)
     ensures { AnswersArguments D.Disk W.Workers
         (resources devices.old.disk devices.old.workers) (resources devices.new.disk devices.new.workers)
-        (streams (I.left devices.old.input) (I.faults devices.old.input) (O.written out) (O.faults out))
-        (streams (I.left devices.new.input) (I.faults devices.new.input) (O.written result.1) (O.faults result.1))
+        (streams_at I.Source O.Sink devices.old.input out) (streams_at I.Source O.Sink devices.new.input result.1)
         (devices.new.input ≡ devices.old.input) (result.1 ≡ out)
         (result_map_both (λ v. map string_bytes (drop 1 v.items)) (λ e. e) arguments) result.0 }
 {
     match arguments {
-        Ok(given) => answer_given(alloc, &given, devices, out),
+        Ok(given) => match words_of(alloc, &given) {
+            Ok(words) => lrs(alloc, &words, devices, out),
+            Err(_) => (Status::OutOfMemory, out),
+        },
         Err(LineStop::Usage) => (Status::Usage, out),
         Err(LineStop::Memory) => (Status::OutOfMemory, out),
-    }
-}
-
-// The answer to the arguments that were given.
-fn answer_given<I: Source, O: Sink, D: Disk, W: Workers>(
-    alloc: Global,
-    given: &[String],
-    devices: &mut Devices<I, D, W>,
-    out: O,
-) -> (Status, O)
-    ensures { Answers D.Disk W.Workers
-        (resources devices.old.disk devices.old.workers) (resources devices.new.disk devices.new.workers)
-        (streams (I.left devices.old.input) (I.faults devices.old.input) (O.written out) (O.faults out))
-        (streams (I.left devices.new.input) (I.faults devices.new.input) (O.written result.1) (O.faults result.1))
-        (devices.new.input ≡ devices.old.input) (result.1 ≡ out)
-        (map string_bytes (drop 1 given.now)) result.0 }
-{
-    match words_of(alloc, given) {
-        Ok(words) => lrs(alloc, &words, devices, out),
-        Err(_) => (Status::OutOfMemory, out),
     }
 }
 

@@ -1,6 +1,5 @@
 //! `resume`: on from a ledger, and the listing of what it searches.
-ghost use Rattle.std.specs.Prelude.{◌≡◌, ◌≤◌};
-ghost use Rattle.poly_io.specs.Causes.{Rose};
+ghost use Rattle.std.specs.Prelude.{◌≡◌};
 ghost use Rattle.coordinator.specs.Calls.{AreTerms};
 ghost use Rattle.lrs_cli.specs.Ledgers.{DiskRose, RoseAt, resources};
 ghost use Rattle.lrs_cli.specs.Resume.{AnswersResume, GoesOn};
@@ -15,7 +14,7 @@ use poly_io::{Failed, Sink};
 use std::marker::Brand;
 use workers_io::Workers;
 
-/// Goes on from the records of a ledger and prints the listing of what they search, in large pieces; gives the sink back.
+/// Attaches a ledger, goes on from its records and prints the listing of what they search, in large pieces; gives the sink back.
 pub fn resume_through<O: Sink, D: Disk, W: Workers>(
     call: &LedgerCall,
     disk: &mut D,
@@ -27,10 +26,13 @@ pub fn resume_through<O: Sink, D: Disk, W: Workers>(
         (resources disk.old workers.old) (resources disk.new workers.new) (O.written out) (O.written result.1) (O.faults out) (O.faults result.1)
         (result.1 ≡ out) result.0 }
 {
-    resume_over::<Brand, O, D, W>(call, disk, workers, out)
+    match disk.attach(call.ledger) {
+        Ok(()) => resume_over::<Brand, O, D, W>(call, disk, workers, out),
+        Err(Failed) => (Status::DiskFault, out),
+    }
 }
 
-// The base is what the sink has written at this call.
+// The same of a ledger that is attached. The base is what the sink has written at this call.
 fn resume_over<B: Base, O: Sink, D: Disk, W: Workers>(
     call: &LedgerCall,
     disk: &mut D,
@@ -46,33 +48,9 @@ fn resume_over<B: Base, O: Sink, D: Disk, W: Workers>(
     ensures disk_calls { DiskRose result.0 (D.faults disk.old) (D.faults disk.new) }
 {
     let mut sink = Buffered::<B, O>::new(out);
-    let status = resume_ledger(call, disk, workers, &mut sink);
+    let status = resume_attached(call, disk, workers, &mut sink);
     let (out, end) = sink.finish();
     (ended(status, end), out)
-}
-
-// Attaches the ledger, and goes on from its records.
-fn resume_ledger<O: Sink, D: Disk, W: Workers>(
-    call: &LedgerCall,
-    disk: &mut D,
-    workers: &mut W,
-    out: &mut O,
-) -> Status
-    requires terms { AreTerms call.now.terms }
-    ensures goes_on { GoesOn D.Disk W.Workers call.now.terms.options call.now.terms.limit
-        (resources disk.old workers.old) (resources disk.new workers.new) (O.written out.old) (O.written out.new)
-        (out.new ≡ out.old) result }
-    ensures sink_later { O.faults out.old ≤ O.faults out.new }
-    ensures write_fault { result ≡ Status.WriteFault → Rose (O.faults out.old) (O.faults out.new) }
-    ensures writes { ¬ (result ≡ Status.WriteFault) → O.faults out.new ≡ O.faults out.old }
-    ensures disk_later { D.faults disk.old ≤ D.faults disk.new }
-    ensures disk_fault { result ≡ Status.DiskFault → Rose (D.faults disk.old) (D.faults disk.new) }
-    ensures disk_calls { ¬ (result ≡ Status.DiskFault) → D.faults disk.new ≡ D.faults disk.old }
-{
-    match disk.attach(call.ledger) {
-        Ok(()) => resume_attached(call, disk, workers, out),
-        Err(Failed) => Status::DiskFault,
-    }
 }
 
 // Goes on from the records of a ledger that is attached.
@@ -86,12 +64,8 @@ fn resume_attached<O: Sink, D: Disk, W: Workers>(
     ensures goes_on { GoesOn D.Disk W.Workers call.now.terms.options call.now.terms.limit
         (resources disk.old workers.old) (resources disk.new workers.new) (O.written out.old) (O.written out.new)
         (out.new ≡ out.old) result }
-    ensures sink_later { O.faults out.old ≤ O.faults out.new }
-    ensures write_fault { result ≡ Status.WriteFault → Rose (O.faults out.old) (O.faults out.new) }
-    ensures writes { ¬ (result ≡ Status.WriteFault) → O.faults out.new ≡ O.faults out.old }
-    ensures disk_later { D.faults disk.old ≤ D.faults disk.new }
-    ensures disk_fault { result ≡ Status.DiskFault → Rose (D.faults disk.old) (D.faults disk.new) }
-    ensures disk_calls { ¬ (result ≡ Status.DiskFault) → D.faults disk.new ≡ D.faults disk.old }
+    ensures writes { RoseAt Status.WriteFault result (O.faults out.old) (O.faults out.new) }
+    ensures disk_calls { RoseAt Status.DiskFault result (D.faults disk.old) (D.faults disk.new) }
 {
     match resume(&call.terms, disk, workers, out) {
         Ok(listed) => Status::Done {

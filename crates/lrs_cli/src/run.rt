@@ -1,15 +1,14 @@
 //! `run`: a file from the input, its listing by workers, recorded in a new ledger.
-ghost use Rattle.std.specs.Prelude.{◌≡◌, ◌⊎◌, ◌+◌, ◌≤◌};
-ghost use Rattle.poly_io.specs.Causes.{Rose};
+ghost use Rattle.std.specs.Prelude.{◌≡◌, ◌⊎◌, ◌+◌};
 ghost use Rattle.poly_io.specs.Taken.{TakesAtMost};
 ghost use Rattle.poly_reader.specs.Limits.{most_file_bytes};
 ghost use Rattle.coordinator.specs.Calls.{AreTerms};
 ghost use Rattle.poly_reader.specs.Reading.{IsOfItsText};
 ghost use Rattle.run_ledger.specs.Recorded.{search_in};
 ghost use Rattle.work_core.specs.Searches.{Search as Searched};
-ghost use Rattle.lrs_cli.specs.Ledgers.{resources};
+ghost use Rattle.lrs_cli.specs.Ledgers.{RoseAt, resources};
 ghost use Rattle.lrs_cli.specs.Run.{AnswersRun, MaySearch, RefusesPolyhedron, RunsFile, RunsSearch};
-ghost use Rattle.lrs_cli.specs.Streams.{streams};
+ghost use Rattle.lrs_cli.specs.Streams.{streams_at};
 
 use crate::devices::{Devices, LedgerCall};
 use crate::status::Status;
@@ -35,8 +34,7 @@ pub fn run_through<I: Source, O: Sink, D: Disk, W: Workers>(
     requires terms { AreTerms call.now.terms }
     ensures answers { AnswersRun D.Disk W.Workers call.now.terms.options call.now.terms.limit
         (resources devices.old.disk devices.old.workers) (resources devices.new.disk devices.new.workers)
-        (streams (I.left devices.old.input) (I.faults devices.old.input) (O.written out) (O.faults out))
-        (streams (I.left devices.new.input) (I.faults devices.new.input) (O.written result.1) (O.faults result.1))
+        (streams_at I.Source O.Sink devices.old.input out) (streams_at I.Source O.Sink devices.new.input result.1)
         (result.1 ≡ out) result.0 }
     ensures taken { TakesAtMost (I.left devices.old.input) (I.left devices.new.input) (most_file_bytes + 1) }
 {
@@ -53,8 +51,7 @@ fn run_over<B: Base, I: Source, O: Sink, D: Disk, W: Workers>(
     requires terms { AreTerms call.now.terms }
     ensures runs { RunsFile D.Disk W.Workers call.now.terms.options call.now.terms.limit
         (resources devices.old.disk devices.old.workers) (resources devices.new.disk devices.new.workers)
-        (streams (I.left devices.old.input) (I.faults devices.old.input) (O.written out) (O.faults out))
-        (streams (I.left devices.new.input) (I.faults devices.new.input) (O.written result.1) (O.faults result.1))
+        (streams_at I.Source O.Sink devices.old.input out) (streams_at I.Source O.Sink devices.new.input result.1)
         (result.1 ≡ out) result.0 }
     ensures taken { TakesAtMost (I.left devices.old.input) (I.left devices.new.input) (most_file_bytes + 1) }
 {
@@ -73,8 +70,7 @@ fn run_file<I: Source, O: Sink, D: Disk, W: Workers>(
     requires terms { AreTerms call.now.terms }
     ensures runs { RunsFile D.Disk W.Workers call.now.terms.options call.now.terms.limit
         (resources devices.old.disk devices.old.workers) (resources devices.new.disk devices.new.workers)
-        (streams (I.left devices.old.input) (I.faults devices.old.input) (O.written out.old) (O.faults out.old))
-        (streams (I.left devices.new.input) (I.faults devices.new.input) (O.written out.new) (O.faults out.new))
+        (streams_at I.Source O.Sink devices.old.input out.old) (streams_at I.Source O.Sink devices.new.input out.new)
         (out.new ≡ out.old) result }
     ensures taken { TakesAtMost (I.left devices.old.input) (I.left devices.new.input) (most_file_bytes + 1) }
 {
@@ -86,7 +82,7 @@ fn run_file<I: Source, O: Sink, D: Disk, W: Workers>(
     }
 }
 
-// Runs the search of a polyhedron, by subtrees from the root that phase one gives.
+// Runs the search of a polyhedron, by subtrees from the root that phase one gives, in the ledger, which is attached first.
 fn run_poly<O: Sink, D: Disk, W: Workers>(
     call: &LedgerCall,
     poly: Poly,
@@ -100,12 +96,8 @@ fn run_poly<O: Sink, D: Disk, W: Workers>(
         ⊎ ((s : Searched) × MaySearch s × (s.polyhedron ≡ poly) × RunsSearch D.Disk W.Workers call.now.terms.options call.now.terms.limit s
         (resources disk.old workers.old) (resources disk.new workers.new) (O.written out.old) (O.written out.new)
         (out.new ≡ out.old) result) }
-    ensures sink_later { O.faults out.old ≤ O.faults out.new }
-    ensures write_fault { result ≡ Status.WriteFault → Rose (O.faults out.old) (O.faults out.new) }
-    ensures writes { ¬ (result ≡ Status.WriteFault) → O.faults out.new ≡ O.faults out.old }
-    ensures disk_later { D.faults disk.old ≤ D.faults disk.new }
-    ensures disk_fault { result ≡ Status.DiskFault → Rose (D.faults disk.old) (D.faults disk.new) }
-    ensures disk_calls { ¬ (result ≡ Status.DiskFault) → D.faults disk.new ≡ D.faults disk.old }
+    ensures writes { RoseAt Status.WriteFault result (O.faults out.old) (O.faults out.new) }
+    ensures disk_calls { RoseAt Status.DiskFault result (D.faults disk.old) (D.faults disk.new) }
 {
     match search_root(call.terms.alloc, &poly) {
         Ok(root) => {
@@ -114,37 +106,14 @@ fn run_poly<O: Sink, D: Disk, W: Workers>(
                 root,
                 poly,
             };
-            run_search(call, first, disk, workers, out)
+            match disk.attach(call.ledger) {
+                Ok(()) => run_attached(call, first, disk, workers, out),
+                Err(Failed) => Status::DiskFault,
+            }
         }
         Err(SearchStop::Infeasible) => Status::Infeasible,
         Err(SearchStop::Overflow(overflow)) => Status::Overflow(overflow),
         Err(SearchStop::Memory) => Status::OutOfMemory,
-    }
-}
-
-// Attaches the ledger, and runs a search in it.
-fn run_search<O: Sink, D: Disk, W: Workers>(
-    call: &LedgerCall,
-    first: FirstPayload,
-    disk: &mut D,
-    workers: &mut W,
-    out: &mut O,
-) -> Status
-    requires terms { AreTerms call.now.terms }
-    requires may { MaySearch (search_in first) }
-    ensures runs { RunsSearch D.Disk W.Workers call.now.terms.options call.now.terms.limit (search_in first)
-        (resources disk.old workers.old) (resources disk.new workers.new) (O.written out.old) (O.written out.new)
-        (out.new ≡ out.old) result }
-    ensures sink_later { O.faults out.old ≤ O.faults out.new }
-    ensures write_fault { result ≡ Status.WriteFault → Rose (O.faults out.old) (O.faults out.new) }
-    ensures writes { ¬ (result ≡ Status.WriteFault) → O.faults out.new ≡ O.faults out.old }
-    ensures disk_later { D.faults disk.old ≤ D.faults disk.new }
-    ensures disk_fault { result ≡ Status.DiskFault → Rose (D.faults disk.old) (D.faults disk.new) }
-    ensures disk_calls { ¬ (result ≡ Status.DiskFault) → D.faults disk.new ≡ D.faults disk.old }
-{
-    match disk.attach(call.ledger) {
-        Ok(()) => run_attached(call, first, disk, workers, out),
-        Err(Failed) => Status::DiskFault,
     }
 }
 
@@ -161,12 +130,8 @@ fn run_attached<O: Sink, D: Disk, W: Workers>(
     ensures runs { RunsSearch D.Disk W.Workers call.now.terms.options call.now.terms.limit (search_in first)
         (resources disk.old workers.old) (resources disk.new workers.new) (O.written out.old) (O.written out.new)
         (out.new ≡ out.old) result }
-    ensures sink_later { O.faults out.old ≤ O.faults out.new }
-    ensures write_fault { result ≡ Status.WriteFault → Rose (O.faults out.old) (O.faults out.new) }
-    ensures writes { ¬ (result ≡ Status.WriteFault) → O.faults out.new ≡ O.faults out.old }
-    ensures disk_later { D.faults disk.old ≤ D.faults disk.new }
-    ensures disk_fault { result ≡ Status.DiskFault → Rose (D.faults disk.old) (D.faults disk.new) }
-    ensures disk_calls { ¬ (result ≡ Status.DiskFault) → D.faults disk.new ≡ D.faults disk.old }
+    ensures writes { RoseAt Status.WriteFault result (O.faults out.old) (O.faults out.new) }
+    ensures disk_calls { RoseAt Status.DiskFault result (D.faults disk.old) (D.faults disk.new) }
 {
     match run(&call.terms, first, disk, workers, out) {
         Ok(listed) => Status::Done {

@@ -18,18 +18,9 @@ const PYRAMID: &str =
 const LISTING: &str =
     "V-representation\nbegin\n***** 4 rational\n 1 1 1 0\n 1 1 -1 0\n 1 -1 1 0\n 1 -1 -1 0\n 1 0 0 1\nend\n";
 
-const RUN: &[&str] = &["run", "L", "--workers", "2", "--bases", "1"];
+const RUN: &[&str] = &["run", "L", "--workers=2", "--bases=1"];
 
-const RUN_THAT_BEARS_NOTHING: &[&str] = &[
-    "run",
-    "L",
-    "--workers",
-    "2",
-    "--bases",
-    "1",
-    "--lost",
-    "0",
-];
+const RUN_THAT_BEARS_NOTHING: &[&str] = &["run", "L", "--workers=2", "--bases=1", "--lost=0"];
 
 const RESUME: &[&str] = &["resume", "L", "--lost", "0"];
 

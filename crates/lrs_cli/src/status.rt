@@ -3,7 +3,9 @@ ghost use Rattle.std.specs.Prelude.{◌≡◌, ◌∷◌, ◌++◌, codes, decim
 ghost use Rattle.poly_io.specs.Written.{Prints};
 ghost use Rattle.lrs_cli.specs.StatusLine.{status_text, status_number, kind_text};
 
-use poly_io::{Sink, WriteFault, write_all, write_count};
+use crate::counts::{CountBehind, write_counts};
+use job_text::write_count_line;
+use poly_io::{Sink, WriteFault, write_all};
 use poly_model::Overflow;
 use poly_reader::{BadFile, BadKind};
 use row_printer::write_overflow;
@@ -81,7 +83,7 @@ pub fn status_line<S: Sink>(status: &Status, out: &mut S) -> Result<(), WriteFau
             b"lrs: usage: lrs convert / run LEDGER / resume LEDGER / status LEDGER / job / demo KIND N\n",
         ),
         Status::BadFile(bad) => bad_file_line(*bad, out),
-        Status::BadJob { place } => bad_job_line(*place, out),
+        Status::BadJob { place } => write_count_line(b"lrs: bad job: line ", *place, out),
         Status::Infeasible => write_all(out, b"lrs: infeasible\n"),
         Status::Overflow(overflow) => overflow_line(overflow, out),
         Status::ReadFault => write_all(out, b"lrs: read fault\n"),
@@ -90,20 +92,24 @@ pub fn status_line<S: Sink>(status: &Status, out: &mut S) -> Result<(), WriteFau
         Status::Lost { lost, strays } => lost_line(*lost, *strays, out),
         Status::NoRun => write_all(out, b"lrs: no run in ledger\n"),
         Status::HasRun => write_all(out, b"lrs: ledger has a run\n"),
-        Status::BadLedger { place } => bad_ledger_line(*place, out),
+        Status::BadLedger { place } => write_count_line(b"lrs: bad ledger: record ", *place, out),
         Status::LedgerLimit { need, limit } => ledger_limit_line(*need, *limit, out),
         Status::OutOfMemory => write_all(out, b"lrs: out of memory\n"),
     }
 }
 
+#[tactic(auto, unfolding(crate::specs::StatusLine::status_text))]
 fn done_line<S: Sink>(rows: u64, lines: u32, out: &mut S) -> Result<(), WriteFault>
     ensures { Prints S.Sink out.old out.new result (status_text (Status.Done rows lines)) }
 {
-    write_all(out, b"lrs: done ")?;
-    write_count(rows, out)?;
-    write_all(out, b" rows ")?;
-    write_count(lines as u64, out)?;
-    write_all(out, b" lines\n")
+    write_counts(
+        &[
+            CountBehind(b"lrs: done ", rows),
+            CountBehind(b" rows ", lines as u64),
+        ],
+        b" lines\n",
+        out,
+    )
 }
 
 fn bad_file_line<S: Sink>(bad: BadFile, out: &mut S) -> Result<(), WriteFault>
@@ -111,45 +117,35 @@ fn bad_file_line<S: Sink>(bad: BadFile, out: &mut S) -> Result<(), WriteFault>
 {
     write_all(out, b"lrs: bad file: ")?;
     write_kind(bad.kind, out)?;
-    write_all(out, b" at line ")?;
-    write_count(bad.line, out)?;
-    write_all(out, b"\n")
+    write_count_line(b" at line ", bad.line, out)
 }
 
-fn bad_job_line<S: Sink>(place: u64, out: &mut S) -> Result<(), WriteFault>
-    ensures { Prints S.Sink out.old out.new result (status_text (Status.BadJob place)) }
-{
-    write_all(out, b"lrs: bad job: line ")?;
-    write_count(place, out)?;
-    write_all(out, b"\n")
-}
-
+#[tactic(auto, unfolding(crate::specs::StatusLine::status_text))]
 fn lost_line<S: Sink>(lost: u64, strays: u64, out: &mut S) -> Result<(), WriteFault>
     ensures { Prints S.Sink out.old out.new result (status_text (Status.Lost lost strays)) }
 {
-    write_all(out, b"lrs: lost ")?;
-    write_count(lost, out)?;
-    write_all(out, b" strays ")?;
-    write_count(strays, out)?;
-    write_all(out, b"\n")
+    write_counts(
+        &[
+            CountBehind(b"lrs: lost ", lost),
+            CountBehind(b" strays ", strays),
+        ],
+        b"\n",
+        out,
+    )
 }
 
-fn bad_ledger_line<S: Sink>(place: u64, out: &mut S) -> Result<(), WriteFault>
-    ensures { Prints S.Sink out.old out.new result (status_text (Status.BadLedger place)) }
-{
-    write_all(out, b"lrs: bad ledger: record ")?;
-    write_count(place, out)?;
-    write_all(out, b"\n")
-}
-
+#[tactic(auto, unfolding(crate::specs::StatusLine::status_text))]
 fn ledger_limit_line<S: Sink>(need: u64, limit: u64, out: &mut S) -> Result<(), WriteFault>
     ensures { Prints S.Sink out.old out.new result (status_text (Status.LedgerLimit need limit)) }
 {
-    write_all(out, b"lrs: ledger limit: need ")?;
-    write_count(need, out)?;
-    write_all(out, b" limit ")?;
-    write_count(limit, out)?;
-    write_all(out, b"\n")
+    write_counts(
+        &[
+            CountBehind(b"lrs: ledger limit: need ", need),
+            CountBehind(b" limit ", limit),
+        ],
+        b"\n",
+        out,
+    )
 }
 
 fn write_kind<S: Sink>(kind: BadKind, out: &mut S) -> Result<(), WriteFault>

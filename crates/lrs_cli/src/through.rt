@@ -3,7 +3,7 @@ ghost use Rattle.std.specs.Prelude.{◌≡◌, ◌+◌, OnOk, OnErr};
 ghost use Rattle.poly_io.specs.Taken.{TakesAtMost};
 ghost use Rattle.poly_reader.specs.Limits.{most_file_bytes};
 ghost use Rattle.lrs_cli.specs.Convert.{AnswersConvert};
-ghost use Rattle.lrs_cli.specs.Streams.{streams};
+ghost use Rattle.lrs_cli.specs.Streams.{streams_at};
 
 use crate::convert::convert;
 use crate::status::Status;
@@ -16,8 +16,7 @@ use std::marker::Brand;
 pub fn convert_through<I: Source, O: Sink>(alloc: Global, input: &mut I, out: O) -> (Status, O)
     ensures line { result.0 ≡ Status.Usage → ⊥ }
     ensures answers { AnswersConvert
-        (streams (I.left input.old) (I.faults input.old) (O.written out) (O.faults out))
-        (streams (I.left input.new) (I.faults input.new) (O.written result.1) (O.faults result.1))
+        (streams_at I.Source O.Sink input.old out) (streams_at I.Source O.Sink input.new result.1)
         (result.1 ≡ out) result.0 }
     ensures taken { TakesAtMost (I.left input.old) (I.left input.new) (most_file_bytes + 1) }
 {
@@ -29,8 +28,7 @@ fn convert_over<B: Base, I: Source, O: Sink>(alloc: Global, input: &mut I, out: 
     requires { B.base ≡ O.written out }
     ensures line { result.0 ≡ Status.Usage → ⊥ }
     ensures answers { AnswersConvert
-        (streams (I.left input.old) (I.faults input.old) (O.written out) (O.faults out))
-        (streams (I.left input.new) (I.faults input.new) (O.written result.1) (O.faults result.1))
+        (streams_at I.Source O.Sink input.old out) (streams_at I.Source O.Sink input.new result.1)
         (result.1 ≡ out) result.0 }
     ensures taken { TakesAtMost (I.left input.old) (I.left input.new) (most_file_bytes + 1) }
 {

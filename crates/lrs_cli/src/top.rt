@@ -6,7 +6,7 @@ ghost use Rattle.job_text.specs.Limits.{most_job_bytes};
 ghost use Rattle.poly_io.specs.Taken.{TakesAtMost};
 ghost use Rattle.lrs_cli.specs.Ledgers.{resources};
 ghost use Rattle.lrs_cli.specs.Lrs.{Answers, AnswersLine, most_ledger_bytes, options_of};
-ghost use Rattle.lrs_cli.specs.Streams.{streams};
+ghost use Rattle.lrs_cli.specs.Streams.{streams_at};
 
 use crate::demo::demo;
 use crate::devices::{Devices, LedgerCall, MOST_LEDGER_BYTES};
@@ -36,8 +36,7 @@ pub fn lrs<I: Source, O: Sink, D: Disk, W: Workers>(
 ) -> (Status, O)
     ensures { Answers D.Disk W.Workers
         (resources devices.old.disk devices.old.workers) (resources devices.new.disk devices.new.workers)
-        (streams (I.left devices.old.input) (I.faults devices.old.input) (O.written out) (O.faults out))
-        (streams (I.left devices.new.input) (I.faults devices.new.input) (O.written result.1) (O.faults result.1))
+        (streams_at I.Source O.Sink devices.old.input out) (streams_at I.Source O.Sink devices.new.input result.1)
         (devices.new.input ≡ devices.old.input) (result.1 ≡ out) (map (λ w. w.now) words.now) result.0 }
 {
     match read_line(alloc, words) {
@@ -59,8 +58,7 @@ fn answer_line<I: Source, O: Sink, D: Disk, W: Workers>(
     ensures taken { TakesAtMost (I.left devices.old.input) (I.left devices.new.input) (most_job_bytes + 1) }
     ensures answers { AnswersLine D.Disk W.Workers
         (resources devices.old.disk devices.old.workers) (resources devices.new.disk devices.new.workers)
-        (streams (I.left devices.old.input) (I.faults devices.old.input) (O.written out) (O.faults out))
-        (streams (I.left devices.new.input) (I.faults devices.new.input) (O.written result.1) (O.faults result.1))
+        (streams_at I.Source O.Sink devices.old.input out) (streams_at I.Source O.Sink devices.new.input result.1)
         (devices.new.input ≡ devices.old.input) (result.1 ≡ out) line.entry result.0 }
 {
     match line {

@@ -12,8 +12,7 @@ pub returns-in-Ok-clause-runs : goal.returns-in-Ok-clause-runs
 returns-in-Ok-clause-runs g c =
     let e = c.run_poly.ensures in
     runs_file g.D.Disk g.W.Workers _ _ c.in-Ok.poly _ _ _ _ _ _ _ c.run_poly.result e.runs (text_of_source _ _ c.in-Ok.poly c.in-Ok.ensures.ok) c.in-Ok.ensures.ok.ends
-    c.read_poly.ensures.later (c.in-Ok.ensures.same (λ x. cc)) (rose_at WriteFault c.run_poly.result _ _ e.sink_later e.write_fault e.writes)
-    (disk_rose c.run_poly.result _ _ e.disk_later e.disk_fault e.disk_calls)
+    c.read_poly.ensures.later (c.in-Ok.ensures.same (λ x. cc)) e.writes (disk_rose c.run_poly.result _ _ e.disk_calls)
 
 -- a text that describes no polyhedron is no fault of reading
 bad_is_no_fault : {T : Type 0} (stop : ReadStop) (f : BadFile) → stop ≡ Bad f → IsErrOf {T = T} {E = ReadStop} (Err stop) Fault → ⊥

@@ -12,25 +12,6 @@ returns-in_err-write_kind g c =
     prints_then c.in_ok-write_all.ensures
     (prints_cut _ c.from_residual-in_err-write_kind.ensures.0 c.in_err-write_kind.ensures)
 
-pub returns-in_err-write_all-2 : goal.returns-in_err-write_all-2
-unfolding status_text
-returns-in_err-write_all-2 g c =
-    prints_then c.in_ok-write_all.ensures
-    (prints_then c.in_ok-write_kind.ensures
-    (prints_cut _ c.from_residual-in_err-write_all-2.ensures.0 c.in_err-write_all-2.ensures))
-
-pub returns-in_err-write_count : goal.returns-in_err-write_count
-unfolding status_text
-returns-in_err-write_count g c =
-    prints_then c.in_ok-write_all.ensures
-    (prints_then c.in_ok-write_kind.ensures
-    (prints_then c.in_ok-write_all-2.ensures
-    (prints_cut _ c.from_residual-in_err-write_count.ensures.0 c.in_err-write_count.ensures)))
-
 pub returns : goal.returns
 unfolding status_text
-returns g c =
-    prints_then c.in_ok-write_all.ensures
-    (prints_then c.in_ok-write_kind.ensures
-    (prints_then c.in_ok-write_all-2.ensures
-    (prints_then c.in_ok-write_count.ensures c.write_all-3.ensures)))
+returns g c = prints_then c.in_ok-write_all.ensures (prints_then c.in_ok-write_kind.ensures c.write_count_line.ensures)

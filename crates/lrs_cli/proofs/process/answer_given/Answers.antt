@@ -1,7 +1,0 @@
-use Rattle.std.proofs.Common.{drop, map, refl, string_bytes}
-use Rattle.lrs_cli.proofs.LineLemmas.{words_memory}
-use Rattle.lrs_cli.proofs.process.answer_given.Goals as goal
-
-pub returns-in-Err : goal.returns-in-Err
-returns-in-Err g c =
-    words_memory g.D.Disk g.W.Workers g.met.D.Disk.only_now _ _ _ _ refl refl (map string_bytes (drop 1 c.args.given.now))
