@@ -23,7 +23,7 @@ use Rattle.lrs_cli.specs.Ledgers.{DiskRose, Resources}
 use Rattle.lrs_cli.specs.Lrs.{Answers, AnswersLine, most_ledger_bytes, options_of}
 use Rattle.lrs_cli.specs.Progress.{AnswersStatus}
 use Rattle.lrs_cli.specs.Resume.{AnswersResume}
-use Rattle.lrs_cli.specs.Run.{AnswersRun, IsLeftByRun}
+use Rattle.lrs_cli.specs.Run.{AnswersRun}
 use Rattle.lrs_cli.specs.Streams.{Streams}
 use Rattle.lrs_cli.proofs.DemoLemmas.{answers_memory}
 use Rattle.lrs_cli.proofs.FileLemmas.{no_disk_rose, none_rose}

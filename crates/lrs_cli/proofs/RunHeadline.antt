@@ -1,5 +1,5 @@
 -- The headline of `run`: what was printed and left, where the workers are trusted.
-use Rattle.std.proofs.Common.{ℕ, List, ◌≡◌, ◌⊎◌, inl, inr, [], ◌∷◌, sym, subst, Option, Some, None}
+use Rattle.std.proofs.Common.{ℕ, List, ◌≡◌, ◌⊎◌, inl, inr, [], ◌∷◌, sym, subst, Option, Some}
 use Rattle.work_core.specs.Searches.{Search}
 use Rattle.poly_io.specs.Causes.{Rose}
 use Rattle.poly_model.specs.declared.overflow.Overflow.{Overflow as Passed}
@@ -22,7 +22,7 @@ use Rattle.lrs_cli.specs.declared.status.Status.{Status}
 use Rattle.lrs_cli.specs.declared.status.Status.TheVariants.{Done, Infeasible, Overflow}
 use Rattle.lrs_cli.specs.Answers.{Describes, IsListed, IsPartlyListed, Knows, PassesNowhere, WritesPart, WritesWhole}
 use Rattle.lrs_cli.specs.Ledgers.{AreTrusted, ComesToItsEnd, GoesOnFrom, Resources}
-use Rattle.lrs_cli.specs.Run.{AnswersRun, EndsSearch, IsDueBeforeSearch, IsLeftByRun, IsTextOf, MaySearch, RefusesFile, RunsFile, RunsSearch}
+use Rattle.lrs_cli.specs.Run.{AnswersRun, EndsSearch, IsLeftByRun, MaySearch, RefusesFile, RunsFile, RunsSearch}
 use Rattle.lrs_cli.specs.Streams.{Streams}
 use Rattle.lrs_cli.proofs.FaultLemmas.{described}
 use Rattle.coordinator.proofs.RunsAgain.{are_short}

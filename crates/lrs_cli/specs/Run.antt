@@ -26,7 +26,7 @@ use Rattle.coordinator.specs.Following.{EndsBy, Finishes, GivesUp, LeadsSomewher
 use Rattle.coordinator.specs.Leaving.{HasFront, IsRefusedBy}
 use Rattle.run_laws.specs.Laws.{IsLedgerFile, TellsFullAnswers}
 use Rattle.lrs_cli.specs.declared.status.Status.{Status}
-use Rattle.lrs_cli.specs.declared.status.Status.TheVariants.{Done, Usage, BadFile, BadJob, Infeasible, Overflow, ReadFault, WriteFault, DiskFault, Lost, NoRun, HasRun, BadLedger, LedgerLimit, OutOfMemory}
+use Rattle.lrs_cli.specs.declared.status.Status.TheVariants.{Done, BadFile, Infeasible, Overflow, ReadFault, WriteFault, OutOfMemory}
 use Rattle.lrs_cli.specs.Answers.{Describes, IsBadFile, IsInfeasibleFile, IsListed, IsPartlyListed, Knows, PassesNowhere}
 use Rattle.lrs_cli.specs.Ledgers.{AreTrusted, ComesToItsEnd, DiskRose, EndsAs, GoesOnFrom, Resources, RoseAt, WritesRecords, WritesRecordsPart}
 use Rattle.lrs_cli.specs.Streams.{Streams}

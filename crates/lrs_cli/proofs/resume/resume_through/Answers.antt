@@ -1,7 +1,6 @@
-use Rattle.std.proofs.Common.{inl, refl, subst}
+use Rattle.std.proofs.Common.{inl, refl}
 use Rattle.disk_core.proofs.Quiets.{leaves_nothing_new}
 use Rattle.lrs_cli.specs.declared.status.Status.TheVariants.{DiskFault, WriteFault}
-use Rattle.lrs_cli.specs.Ledgers.{DiskRose}
 use Rattle.lrs_cli.proofs.FileLemmas.{disk_rose, none_rose, rose_at}
 use Rattle.lrs_cli.proofs.RecordedLemmas.{attached}
 use Rattle.lrs_cli.proofs.ResumeHeadline.{answers_resume}
