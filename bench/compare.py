@@ -313,7 +313,9 @@ for title, (given, wanted, *otherwise) in SMALL.items():
         sys.exit(f"bench/compare: {title}: this program has another listing")
 minutes = (time.time() - began) / 60
 differing += [f"{asked[k]}, {title}" for title, _, *answers in small for k, answer in enumerate(answers) if answer == DIFFERS]
-verdict = f"Of ours differ: {'; '.join(differing)}." if differing else "Where both read a file alike, no listing of ours differs from another program's but as the remarks say."
+verdict = "Where both read a file alike, no listing of ours differs from another program's but as the remarks say."
+if differing:
+    verdict = f"Of ours differ: {'; '.join(differing)}."
 
 
 def mean(name):
@@ -346,11 +348,11 @@ than a second. `> {limit:.0f}`: stopped after {limit:.0f} seconds. Rows are thos
 in the folder for temporary files, and each of its records is synced.
 
 Wherever two programs answered, their listings were compared as sets, here and in the table of small files.
-**{verdict}** A remark is a row that is printed
-again, a facet `1 0 .. 0` that no point touches, or the vertex of a cone, which cddlib leaves out, and takes for granted where it
-reads rays alone. A listing that differs is **wrong** where as many of the other programs or more agree with ours. The transportation polytope
-is given without the equation that follows from the others: with that one mplrs left out 17 of its 95412 vertices on 2026-11-29,
-lrs and Normaliz none; cddlib and PPL were stopped.
+**{verdict}**
+A remark is a row that is printed again, a facet `1 0 .. 0` that no point touches, or the vertex of a cone, which cddlib leaves
+out, and takes for granted where it reads rays alone. A listing that differs is **wrong** where as many of the other programs or
+more agree with ours. The transportation polytope is given without the equation that follows from the others: with that one mplrs
+left out 17 of its 95412 vertices on 2026-11-29, lrs and Normaliz none; cddlib and PPL were stopped.
 
 {table(["input", "m x n", "rows"] + names, lines)}
 
