@@ -16,6 +16,7 @@ pub mod JobOrBadLemmas
 pub mod JobLineLemmas
 pub mod JobTextLemmas
 pub mod RowTextLemmas
+pub mod LeftRowLemmas
 pub mod FirstPayloadLemmas
 pub mod TriedTexts
 pub mod FirstPayloadsTried

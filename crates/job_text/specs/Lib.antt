@@ -5,6 +5,7 @@ pub mod RowTexts
 pub mod Overflows
 pub mod LineTexts
 pub mod Replies
+pub mod LeftRows
 pub mod Rule
 pub mod FirstPayloads
 pub mod Keywords

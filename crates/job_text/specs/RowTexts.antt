@@ -1,9 +1,7 @@
 -- The rows that the lines of a text say.
-use Rattle.std.specs.Prelude.{◌≡◌, length, ℕ, ℤ, Bool, false, ◌==◌, List, [], ◌∷◌, map, drop}
-use Rattle.std.specs.List.{filter, slice_split, AllByRecursion}
+use Rattle.std.specs.Prelude.{ℕ, ℤ, Bool, false, ◌==◌, List, [], ◌∷◌, map, drop}
+use Rattle.std.specs.List.{filter, slice_split}
 use Rattle.std.specs.Option.{option_map_or}
-use Rattle.poly_num.specs.Numbers.{IsNum}
-use Rattle.poly_model.specs.ListingText.{entries_text}
 use Rattle.plain_text.specs.Cuts.{is_newline, is_space}
 use Rattle.plain_text.specs.Digits.{decimal_of, is_negative, without_minus, signed}
 use Rattle.poly_num.specs.Vectors.{Vector}
@@ -21,17 +19,6 @@ abbrev pub is_row_line : List ℕ → Bool
 is_row_line [] = false
 is_row_line (b ∷ line) = b == 114
 
--- each row has as many numbers
-abbrev pub AreWide : ℕ → List Vector → Type 0
-AreWide n rows = AllByRecursion (λ v. length v ≡ n) rows
-
 -- the rows that a text shows, one to a line
 unfoldable pub shown_rows : List ℕ → List Vector
 shown_rows text = map entries_in (filter is_row_line (slice_split is_newline text))
-
--- the text is the entries of the first of these rows, and the others are left
-pub record TakesRowText (rows : List Vector) (text : List ℕ) (rest : List Vector) : Type 0 where
-  pub row : Vector
-  pub nums : AllByRecursion IsNum row
-  pub is_text : text ≡ entries_text row
-  pub first : rows ≡ row ∷ rest

@@ -2,7 +2,6 @@
 ghost use Rattle.std.specs.Prelude.{◌≡◌, ◌<◌, ◌+◌, ◌^◌, ℕ, length, IfOk, IsErrOf};
 ghost use Rattle.job_text.specs.Replies.{IsWholeReply, IsNotWhole};
 ghost use Rattle.job_text.specs.declared.reply.Reply.{Reply as Whole};
-ghost use Rattle.job_text.specs.RowTexts.{AreWide};
 
 use crate::entries::zeros;
 use crate::lines::key_behind;
@@ -37,7 +36,6 @@ impl ReplyReader {
         text: &'a [u8],
     ) -> Result<Reply<'a>, ReplyStop>
         ensures ok { IfOk result (λ r. (r.key ≡ key.now) × IsWholeReply n r text.now) }
-        ensures wide { IfOk result (λ r. AreWide n r.rows) }
         ensures one { IfOk result (λ r. (other : Whole) → IsWholeReply n other text.now → other ≡ r) }
         ensures not_whole { (place : ℕ) → IsErrOf result (ReplyStop.NotWhole place) → IsNotWhole n key.now text.now place }
     {
@@ -64,7 +62,6 @@ impl ReplyReader {
     /// The reply that a text is, whole, whatever its key, for a file with rows of n numbers. `Bad` where it is none.
     pub fn read_any<'a>(alloc: Global, n: u32, text: &'a [u8]) -> Result<Reply<'a>, PayloadStop>
         ensures ok { IfOk result (λ r. IsWholeReply n r text.now) }
-        ensures wide { IfOk result (λ r. AreWide n r.rows) }
         ensures one { IfOk result (λ r. (other : Whole) → IsWholeReply n other text.now → other ≡ r) }
         ensures bad { IsErrOf result PayloadStop.Bad → (reply : Whole) → IsWholeReply n reply text.now → ⊥ }
     {

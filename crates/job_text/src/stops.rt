@@ -29,6 +29,10 @@ pub enum PayloadStop {
     Memory,
 }
 
+/// A text is not what is left of a reply that ends in `end`.
+#[derive(Clone, Copy, PartialEq, Eq, Debug)]
+pub struct BadReply;
+
 impl From<AllocError> for ReplyStop {
     ghost use Rattle.job_text.specs.declared.stops.ReplyStop.TheVariants.{Memory};
     ghost use Rattle.std.specs.Prelude.{◌≡◌};

@@ -1,8 +1,8 @@
 //! A job and a reply that were written out by hand, and texts that are none.
 use crate::{
-    JobHead, JobReadStop, PayloadStop, Reply, ReplyReader, ReplyStop, Tail, read_entries,
-    read_first_payload, read_job, read_key, write_first_payload, write_job, write_reply_head,
-    write_tail,
+    BadReply, JobHead, JobReadStop, PayloadStop, ReplyReader, ReplyStop, Tail, next_row,
+    read_entries, read_first_payload, read_job, read_key, rows_behind, write_first_payload,
+    write_job, write_reply_head, write_tail,
 };
 use poly_io::MemSink;
 use poly_model::{Count, Key, Label, Overflow, Phase, Place, Root, WorkKind};
@@ -226,9 +226,6 @@ fn writes_a_reply(rt: HostRuntime) {
 
 const REPLY: &str = "reply 0\nrow 1 0 0\njob 1 9\nend 1 1 1\n";
 
-// Two rows, with a key between them.
-const ROWS: &str = "reply 0\nrow 1 0 -12\njob 1 9\nrow 0 1 0\nend 2 1 3\n";
-
 // What makes a reply none, a piece of its text, what stands there instead, and how many bytes are lines that fit.
 const NO_REPLIES: [(&str, &str, &str, u64); 12] = [
     ("another key", "reply 0", "reply 1 9", 0),
@@ -277,20 +274,51 @@ fn reads_a_reply(rt: HostRuntime) {
     );
 }
 
+/// What is left of a reply, and its rows up to the first line of another form.
+const LEFT: [(&str, &[&str], Result<(), BadReply>); 6] = [
+    ("end 0 0 1\n", &[], Ok(())),
+    (
+        "row 1 0 -12\njob 1 9\nrow 0 1 0\nend 2 1 1\n",
+        &[" 1 0 -12", " 0 1 0"],
+        Ok(()),
+    ),
+    ("row 1 0 -12\nmemory\n", &[" 1 0 -12"], Err(BadReply)),
+    (
+        "row 1 0 -12\nrows 2\nend 2 0 1\n",
+        &[" 1 0 -12"],
+        Err(BadReply),
+    ),
+    ("row 1 0 -12\nend 1 0 1", &[" 1 0 -12"], Err(BadReply)),
+    ("", &[], Err(BadReply)),
+];
+
+/// Takes these rows, and tells how it goes on behind them; another row is a failure.
+fn take_rows(text: &str, rows: &[&str]) -> Result<Result<(), BadReply>, Fail> {
+    let mut left = text.as_bytes();
+    for row in rows {
+        match next_row(left) {
+            Ok(Some((entries, rest))) if entries == row.as_bytes() => left = rest,
+            _ => return Err("another row")?,
+        }
+    }
+    match next_row(left) {
+        Ok(Some(_)) => Err("one row more")?,
+        Ok(None) => Ok(Ok(())),
+        Err(stop) => Ok(Err(stop)),
+    }
+}
+
 #[test]
-fn rows_are_taken_one_by_one(rt: HostRuntime) {
-    let reply = ReplyReader::read(rt.alloc(), &Key::empty(), 3, ROWS.as_bytes()).expect(
-        &rt, "a reply",
-    );
-    let Reply { mut rows, .. } = reply;
+fn rows_are_taken_one_by_one(rt: HostRuntime) -> Result<(), Fail> {
+    for (text, rows, end) in LEFT {
+        assert_eq!(rt; take_rows(text, rows)?, end, "{}", text);
+    }
+    assert_eq!(rt; rows_behind(b"reply 0\nend"), Some(b"end".as_slice()));
+    assert_eq!(rt; rows_behind(b"job 0\nend"), None);
     let mut row = [Num::ZERO; 3];
-    let text = rows.next_text().expect(&rt, "a row");
-    assert_eq!(rt; text, b" 1 0 -12".as_slice());
-    assert!(rt; read_entries(&mut row, text));
+    assert!(rt; read_entries(&mut row, b" 1 0 -12"));
     assert_eq!(rt; row.map(Num::get), [1, 0, -12]);
-    assert_eq!(rt; rows.len(), 1);
-    assert_eq!(rt; rows.next_text(), Some(b" 0 1 0".as_slice()));
-    assert_eq!(rt; rows.next_text(), None);
+    Ok(())
 }
 
 #[test]

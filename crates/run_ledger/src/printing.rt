@@ -7,24 +7,21 @@ ghost use Rattle.poly_model.specs.Limits.{most_columns};
 ghost use Rattle.poly_model.specs.Systems.{cone_of};
 ghost use Rattle.work_core.specs.Searches.{Search};
 ghost use Rattle.job_text.specs.declared.reply.Reply.{Reply as TheReply};
-ghost use Rattle.job_text.specs.Replies.{IsWholeReply};
-ghost use Rattle.job_text.specs.RowTexts.{AreWide};
 ghost use Rattle.job_ledger.specs.Ledgers.{IsLedgerAt};
-ghost use Rattle.run_state.specs.Payloads.{IsLedgerText, SaysEnd};
+ghost use Rattle.run_state.specs.Payloads.{IsLedgerText};
 ghost use Rattle.run_state.specs.Runs.{recorded_rows};
 ghost use Rattle.run_ledger.specs.Printing.{PrintsRows, WritesRun};
 ghost use Rattle.run_ledger.specs.Recorded.{IsNoReplyAt, IsReplyAt};
 
 use crate::PrintStop;
 use crate::printed::Printed;
-use crate::rows::print_rows;
+use crate::rows::print_reply;
 use disk_core::Disk;
 use job_ledger::{Ledger, LedgerStop};
-use job_text::{PayloadStop, Reply, ReplyRows, zeros};
+use job_text::zeros;
 use poly_io::{Bytes, Sink};
 use poly_model::{Listed, Poly, Vector};
 use row_printer::Listing;
-use run_state::read_next_payload;
 use std::alloc::Global;
 
 /// A run that is to be printed: its ledger, the polyhedron that it searches, and the lines of that.
@@ -60,35 +57,6 @@ fn read_payload<D: Disk>(ledger: &Ledger, disk: &mut D, i: u64) -> Result<Bytes,
     }
 }
 
-// The rows alone.
-fn rows_of(reply: Reply) -> ReplyRows
-    ensures { result ≡ reply.entry.rows }
-{
-    let Reply {
-        key: _,
-        rows,
-        keys: _,
-        tail: _,
-    } = reply;
-    rows
-}
-
-// The rows of the payload of the record of this number, from 1.
-fn rows_at<'a>(records: &Records, place: u64, payload: &'a [u8]) -> Result<ReplyRows<'a>, PrintStop>
-    ensures rows { (r : TheReply) → IsWholeReply records.now.n r payload.now → IfOk result (λ rows. rows ≡ r.rows) }
-    ensures wide { IfOk result (λ rows. AreWide records.now.n rows) }
-    ensures bad { (number : ℕ) → IsErrOf result (PrintStop.BadLedger number) → (number ≡ place)
-        × ((r : TheReply) → IsWholeReply records.now.n r payload.now → SaysEnd r.tail → ⊥) }
-    ensures never_disk { IsErrOf result PrintStop.DiskFault → ⊥ }
-    ensures never_write { IsErrOf result PrintStop.WriteFault → ⊥ }
-{
-    match read_next_payload(records.alloc, records.n, payload) {
-        Ok(reply) => Ok(rows_of(reply)),
-        Err(PayloadStop::Bad) => Err(PrintStop::BadLedger { place }),
-        Err(PayloadStop::Memory) => Err(PrintStop::Memory),
-    }
-}
-
 // Prints the rows of one record, by its number from 0.
 fn print_record<D: Disk, O: Sink>(
     records: &Records,
@@ -112,9 +80,8 @@ fn print_record<D: Disk, O: Sink>(
     ensures sink_cause { RisesAt PrintStop.WriteFault (O.faults out.old) (O.faults out.new) result }
 {
     let payload = read_payload(records.ledger, disk, i)?;
-    let rows = rows_at(records, i + 1, payload.as_slice())?;
     let mut row = zeros(records.alloc, records.n)?;
-    Ok(print_rows(rows, &mut row, printed, out)?)
+    print_reply(i + 1, payload.as_slice(), &mut row, printed, out)
 }
 
 // Prints the rows of all records behind the first.
@@ -145,8 +112,10 @@ fn print_records<D: Disk, O: Sink>(
 
 /// Prints a run as a listing: the lines, and the rows of each record behind the first, of which one payload is in
 /// memory at a time. The answer says how many rows and lines it has. Where it stops, first bytes of that listing were
-/// written. `BadLedger` comes where a record behind the first is no reply that ends in `end`, and is its number. No
-/// image of the disk is new.
+/// written. No image of the disk is new.
+///
+/// The records are those that were judged when they were recorded or read again, so their numbers are not read once more.
+/// `BadLedger` comes where a record behind the first has a line that no reply which ends in `end` has, and is its number.
 pub fn print_run<D: Disk, O: Sink>(
     alloc: Global,
     run: &PrintedRun,

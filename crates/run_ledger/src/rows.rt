@@ -1,18 +1,22 @@
 //! The rows of a reply, printed.
-ghost use Rattle.std.specs.Prelude.{◌≡◌, IfOk, IsTrue, length};
+ghost use Rattle.std.specs.Prelude.{◌≡◌, ℕ, List, IfOk, IsErrOf, IsTrue, length};
 ghost use Rattle.std.specs.List.{AllByRecursion};
 ghost use Rattle.poly_num.specs.Numbers.{IsNum};
 ghost use Rattle.poly_num.specs.Vectors.{Vector};
 ghost use Rattle.poly_model.specs.ListingText.{entries_text, row_text, vector_text};
-ghost use Rattle.poly_io.specs.Causes.{HasCause};
+ghost use Rattle.poly_io.specs.Causes.{HasCause, RisesAt};
 ghost use Rattle.poly_io.specs.Written.{Prints};
 ghost use Rattle.plain_text.specs.Cuts.{GoesOnWith};
-ghost use Rattle.job_text.specs.RowTexts.{AreWide};
+ghost use Rattle.job_text.specs.declared.reply.Reply.{Reply as TheReply};
+ghost use Rattle.job_text.specs.LeftRows.{LeavesRows};
+ghost use Rattle.job_text.specs.Replies.{IsWholeReply};
 ghost use Rattle.row_printer.specs.Rows.{counted};
+ghost use Rattle.run_state.specs.Payloads.{SaysEnd};
 ghost use Rattle.run_ledger.specs.Printing.{PrintsRows};
 
+use crate::PrintStop;
 use crate::printed::Printed;
-use job_text::{ReplyRows, read_entries};
+use job_text::{BadReply, next_row, read_entries, rows_behind};
 use plain_text::{is_text, next_word};
 use poly_io::{Sink, WriteFault};
 use poly_model::Kind;
@@ -80,22 +84,55 @@ fn print_row<O: Sink>(
     })
 }
 
-/// Prints the rows of a reply that are left to read, and counts them; `row` is room for one.
-pub(crate) fn print_rows<O: Sink>(
-    rows: ReplyRows,
+// Prints the rows of what is left of the reply that the record of this number, from 1, has, and counts them.
+fn print_left<O: Sink>(
+    place: u64,
+    left: &[u8],
     row: &mut [Num],
     printed: Printed,
     out: &mut O,
-) -> Result<Printed, WriteFault>
-    requires { AreWide (length row.old) rows }
-    ensures rows { PrintsRows rows.entry printed (O.written out.old) (O.written out.new) result }
+) -> Result<Printed, PrintStop>
+    ensures rows { (rows : List Vector) → LeavesRows (length row.old) rows left.now
+        → PrintsRows rows printed (O.written out.old) (O.written out.new) result }
     ensures kind { IfOk result (λ s. s.listing ≡ printed.listing) }
-    ensures cause { HasCause (O.faults out.old) (O.faults out.new) result }
+    ensures bad { (number : ℕ) → IsErrOf result (PrintStop.BadLedger number) → (number ≡ place)
+        × ((rows : List Vector) → LeavesRows (length row.old) rows left.now → ⊥) }
+    ensures never_disk { IsErrOf result PrintStop.DiskFault → ⊥ }
+    ensures cause { RisesAt PrintStop.WriteFault (O.faults out.old) (O.faults out.new) result }
 {
-    let mut rows = rows;
+    let mut left = left;
     let mut printed = printed;
-    'rows: while let Some(text) = rows.next_text() {
-        printed = print_row(text, row, printed, out)?;
+    'rows: loop {
+        match next_row(left) {
+            Ok(Some((entries, rest))) => {
+                printed = print_row(entries, row, printed, out)?;
+                left = rest;
+            }
+            Ok(None) => return Ok(printed),
+            Err(BadReply) => return Err(PrintStop::BadLedger { place }),
+        }
     }
-    Ok(printed)
+}
+
+/// Prints the rows of the reply that the record of this number, from 1, has as its payload, and counts them; `row` is room
+/// for one. `BadLedger` comes for no reply that ends in `end`; beyond that the payload is not judged: it was read before.
+pub(crate) fn print_reply<O: Sink>(
+    place: u64,
+    payload: &[u8],
+    row: &mut [Num],
+    printed: Printed,
+    out: &mut O,
+) -> Result<Printed, PrintStop>
+    ensures rows { (r : TheReply) → IsWholeReply (length row.old) r payload.now → SaysEnd r.tail
+        → PrintsRows r.rows printed (O.written out.old) (O.written out.new) result }
+    ensures kind { IfOk result (λ s. s.listing ≡ printed.listing) }
+    ensures bad { (number : ℕ) → IsErrOf result (PrintStop.BadLedger number) → (number ≡ place)
+        × ((r : TheReply) → IsWholeReply (length row.old) r payload.now → SaysEnd r.tail → ⊥) }
+    ensures never_disk { IsErrOf result PrintStop.DiskFault → ⊥ }
+    ensures cause { RisesAt PrintStop.WriteFault (O.faults out.old) (O.faults out.new) result }
+{
+    match rows_behind(payload) {
+        Some(left) => print_left(place, left, row, printed, out),
+        None => Err(PrintStop::BadLedger { place }),
+    }
 }

@@ -65,7 +65,7 @@ const CASES: [Case; 6] = [
         told: Err(StatusStop::BadLedger { place: 3 }),
         told_text: "",
         printed: Err(PrintStop::BadLedger { place: 3 }),
-        printed_text: "V-representation\nlinearity 1 1\nbegin\n***** 3 rational\n 0 1 0\n 1 0 0\n",
+        printed_text: "V-representation\nlinearity 1 1\nbegin\n***** 3 rational\n 0 1 0\n 1 0 0\n 0 1 0\n",
     },
     Case {
         name: "a reply twice: its rows are printed all the same",

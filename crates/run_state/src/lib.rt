@@ -13,6 +13,5 @@ mod tests;
 pub use laws::{
     honest_keys_are_new, legal_keys_lie_side_by_side, legal_records_part, payloads_have_one_meaning,
 };
-pub use payloads::read_next_payload;
 pub use state::RunState;
 pub use stops::{AcceptStop, ReplayStop};

@@ -2,7 +2,6 @@
 ghost use Rattle.std.specs.Prelude.{◌≡◌, IfOk, IsErrOf, IsTrue, IsFalse};
 ghost use Rattle.job_text.specs.declared.reply.Reply.{Reply as TheReply};
 ghost use Rattle.job_text.specs.Replies.{IsWholeReply};
-ghost use Rattle.job_text.specs.RowTexts.{AreWide};
 ghost use Rattle.run_state.specs.Payloads.{SaysEnd};
 
 use job_text::{PayloadStop, Reply, ReplyReader, Tail};
@@ -21,14 +20,13 @@ fn says_end(tail: &Tail) -> bool
 }
 
 /// A payload behind the first: a whole reply that ends in `end`, of rows of n numbers. `Bad` where it is none.
-pub fn read_next_payload<'a>(
+pub(crate) fn read_next_payload<'a>(
     alloc: Global,
     n: u32,
     payload: &'a [u8],
 ) -> Result<Reply<'a>, PayloadStop>
     ensures whole { IfOk result (λ r. IsWholeReply n r payload.now) }
     ensures ends { IfOk result (λ r. SaysEnd r.tail) }
-    ensures wide { IfOk result (λ r. AreWide n r.rows) }
     ensures one { IfOk result (λ r. (other : TheReply) → IsWholeReply n other payload.now → other ≡ r) }
     ensures bad { IsErrOf result PayloadStop.Bad → (other : TheReply)
         → IsWholeReply n other payload.now → SaysEnd other.tail → ⊥ }

@@ -1,7 +1,7 @@
 use Rattle.std.proofs.Common.{◌≡◌, ◌∙◌, ◌+◌, ◌++◌, ℕ, List, length, refl, sym, ap, subst, arith, rules, length-append, Result, Ok, Err, true, false}
 use Rattle.std.specs.Result.{IsErrOf}
 use Rattle.job_text.specs.Replies.{IsNotWhole, reply_head}
-use Rattle.job_text.specs.RowTexts.{shown_rows, AreWide}
+use Rattle.job_text.specs.RowTexts.{shown_rows}
 use Rattle.poly_num.specs.Vectors.{Vector}
 use Rattle.job_text.specs.Scans.{StopsScanAt, IsScanOf}
 use Rattle.job_text.specs.declared.scan.Scan.{Scan}
@@ -10,7 +10,7 @@ use Rattle.job_text.specs.declared.stops.ReplyStop.{ReplyStop}
 use Rattle.job_text.specs.declared.stops.ReplyStop.TheVariants.{NotWhole, Memory}
 use Rattle.job_text.proofs.NotWholeLemmas.{no_head, not_whole, stop_within, head_is, head_from, other_head}
 use Rattle.job_text.proofs.OneReplyLemmas.{one_reply}
-use Rattle.job_text.proofs.RowTextLemmas.{rows_are, rows_are_wide, shown_lines}
+use Rattle.job_text.proofs.RowTextLemmas.{rows_are}
 use Rattle.job_text.proofs.reader.ReplyReader.read.Goals as goal
 
 stop_of : Result Reply ReplyStop → ReplyStop
@@ -75,21 +75,10 @@ returns-in-Ok-clause-ok c =
       },
     )
 
-pub of_lines-requires-clause-lines : goal.of_lines-requires-clause-lines
-of_lines-requires-clause-lines c =
-    let s = c.in-Ok.ensures.ok in shown_lines _ c.in-Ok.scan.front.now s.lines s.fit s.front
-
-pub of_lines-requires-clause-count : goal.of_lines-requires-clause-count
-of_lines-requires-clause-count c =
+pub of_lines-requires : goal.of_lines-requires
+of_lines-requires c =
     let s = c.in-Ok.ensures.ok in
     s.rows_are ∙ ap (λ (rows : List Vector). length rows) (sym (ap shown_rows s.front ∙ rows_are _ s.lines s.fit))
-
-pub returns-in-Ok-clause-wide : goal.returns-in-Ok-clause-wide
-returns-in-Ok-clause-wide c =
-    let s = c.in-Ok.ensures.ok in
-    let size : length c.deref_mut.result.now ≡ c.args.n = search rules in
-    subst (λ (n : ℕ). AreWide n c.of_lines.result) size
-    (rows_are_wide _ c.of_lines.result s.lines (c.of_lines.ensures ∙ ap shown_rows s.front ∙ rows_are _ s.lines s.fit) s.fit)
 
 pub returns-in-Ok-clause-one : goal.returns-in-Ok-clause-one
 returns-in-Ok-clause-one c other whole =
