@@ -61,15 +61,21 @@ collect_runs items left i x num out out_now b within is split named less run =
     let others : map num left ≡ map num front ++ map num back = ap (map num) split ∙ map-append num front back in
     ∥∥₁_map run (λ (h : AreRun (map num items) out). rw (less, others) (others_run (map num front) (map num back) out b (subst (λ l. AreRun l out) all h)))
 
--- the same where all of them were lent, and are written back
-pub lent_runs : {X : Type 0} (items lent left : List X) (len i : ℕ) (x : X) (num : X → ℕ) (out out_now : List ℕ) (b : ℕ) → len ≡ length lent → map num lent ≡ map num items → i < length lent →
-    x ≡ slice_index_or (take len (lent ++ drop (length lent) items)) i x → left ≡ take i (take len (lent ++ drop (length lent) items)) ++ drop (i + 1) (take len (lent ++ drop (length lent) items)) →
-    num x ≡ b → out_now ≡ out_after out b → ∥ AreRun (map num items) out ∥₁ → ∥ AreRun (map num left) out_now ∥₁
-lent_runs items lent left len i x num out out_now b size same within is split named less run =
-    let back : take len (lent ++ drop (length lent) items) ≡ lent =
-    subst (λ (n : ℕ). take n (lent ++ drop (length lent) items) ≡ lent) (sym size) (take-append_seam lent (drop (length lent) items)) in
-    collect_runs (take len (lent ++ drop (length lent) items)) left i x num out out_now b (subst (λ l. i < length l) (sym back) within) is split named less
-    (subst (λ ns. ∥ AreRun ns out ∥₁) (sym (ap (map num) back ∙ same)) run)
+-- all of them were lent, and are written back
+pub lent_back : {X : Type 0} (items lent : List X) (len : ℕ) → len ≡ length lent → take len (lent ++ drop (length lent) items) ≡ lent
+lent_back items lent len size =
+    subst (λ (n : ℕ). take n (lent ++ drop (length lent) items) ≡ lent) (sym size) (take-append_seam lent (drop (length lent) items))
+
+pub lent_runs : {X : Type 0} (items lent : List X) (len : ℕ) (num : X → ℕ) (out : List ℕ) → len ≡ length lent → map num lent ≡ map num items
+    → ∥ AreRun (map num items) out ∥₁ → ∥ AreRun (map num (take len (lent ++ drop (length lent) items))) out ∥₁
+lent_runs items lent len num out size same run =
+    subst (λ ns. ∥ AreRun ns out ∥₁) (sym (ap (map num) (lent_back items lent len size) ∙ same)) run
+
+-- a place among those that were lent is one among those that are there now
+pub lent_within : {X : Type 0} (items lent now : List X) (len i : ℕ) → len ≡ length lent
+    → now ≡ take len (lent ++ drop (length lent) items) → i < length lent → i < length now
+lent_within items lent now len i size is within =
+    subst (λ l. i < length l) (sym (is ∙ lent_back items lent len size)) within
 
 -- one of them has changed, and not its number
 pub same_numbers : {X : Type 0} (items : List X) (num : X → ℕ) (i : ℕ) (x was : X) → num x ≡ num (slice_index_or items i was) → map num (slice_set items i x) ≡ map num items

@@ -51,7 +51,8 @@ struct Running<P: OpenProcess + Drop> {
 /// prints; so no collect answers `AllocError`. Whatever has failed is killed and waited for. Processes that are not collected
 /// are left to themselves where these workers are dropped.
 ///
-/// To start a process takes about a millisecond. So a collect starts one before it waits, which waits for the text of the
+/// To start a process takes about a millisecond. So a collect that has found one at its end starts the next, which begins
+/// on the processor that is free then, while what was printed is read, judged and recorded, and waits for the text of the
 /// next attempt: from the first collect on there is one process more than attempts that are out, which does nothing. Where it
 /// was not started, or takes no text, the next attempt starts its own; that is no fault. It ends where these workers are
 /// dropped: it finds its input empty.
@@ -172,6 +173,7 @@ impl<'r, R: Processes + Files<File = File> + Clock> ChildWorkers<'r, R> {
     // Starts a process for the next attempt, where none waits for it.
     fn look_ahead(&mut self)
         ensures out { self.new.out.items ≡ self.old.out.items }
+        ensures running { self.new.running.items ≡ self.old.running.items }
         ensures faults { self.new.faults ≡ self.old.faults }
     {
         if self.next.is_none() {
@@ -319,9 +321,9 @@ impl<'r, R: Processes + Files<File = File> + Clock> Workers for ChildWorkers<'r,
     }
 
     fn collect(&mut self) -> Result<Collected, AllocError> {
-        self.look_ahead();
         // A child runs for each attempt that is out.
         let place = wait_for_one(self.rt, &mut self.running);
+        self.look_ahead();
         let collected = self.running.remove(place).finish(self.alloc);
         take_off(&mut self.out, attempt_of(&collected));
         self.faults = faults_after(self.faults, &collected);
