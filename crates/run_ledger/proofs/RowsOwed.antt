@@ -1,5 +1,5 @@
 -- Rows that are printed one after the other: what was written and counted of them, and what is owed.
-use Rattle.std.proofs.Common.{◌≡◌, ℕ, List, [], ◌++◌, Option, Result, Ok, Err, IsErr, refl, sym, ap, subst, ◌∙◌, append_assoc, append-nil, length, length-append}
+use Rattle.std.proofs.Common.{◌≡◌, ℕ, List, [], ◌++◌, Result, Ok, Err, IsErr, refl, sym, ap, subst, ◌∙◌, append_assoc, append-nil, length, length-append}
 use Rattle.std.specs.List.{flat_map}
 use Rattle.std.specs.Io.KnownBytes.{Appends}
 use Rattle.std.proofs.KnownBytes.{Appends-nil, Appends-trans}
@@ -23,24 +23,6 @@ pub record OwesRows {O : Type 0} (sink : Sink O) (rows : List Vector) (before : 
   pub bytes : Appends (sink.written old) (sink.written new) (flat_map (row_text before.listing) sent)
   pub count : now.rows ≡ counted before.rows (length sent)
   pub same : sink.faults new ≡ sink.faults old
-
--- the same with an error of another type
-pub stops_again : {E F : Type 0} (rows more : List Vector) (s : Printed) (a b : Option (List ℕ)) (e : E)
-    (r : Result Printed F) → rows ≡ more → PrintsRows rows s a b (Err e) → IsErr r → PrintsRows more s a b r
-stops_again rows more s a b e (Ok x) same writes bad = let h : ⊥ = cc in absurd h
-stops_again rows more s a b e (Err f) same writes bad = record {
-  count = tt;
-  whole = tt;
-  part = subst (λ l. AppendsPart a b (flat_map (row_text s.listing) l)) same writes.part;
-}
-
-pub writes_again : {E F : Type 0} (rows more : List Vector) (s t : Printed) (a b : Option (List ℕ)) → rows ≡ more →
-    PrintsRows {E = E} rows s a b (Ok t) → PrintsRows {E = F} more s a b (Ok t)
-writes_again rows more s t a b same writes = record {
-  count = writes.count ∙ ap (λ (l : List Vector). counted s.rows (length l)) same;
-  whole = subst (λ l. Appends a b (flat_map (row_text s.listing) l)) same writes.whole;
-  part = tt;
-}
 
 module _ {O : Type 0} (sink : Sink O) where
   -- at first all are owed
