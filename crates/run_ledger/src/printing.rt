@@ -114,8 +114,9 @@ fn print_records<D: Disk, O: Sink>(
 /// memory at a time. The answer says how many rows and lines it has. Where it stops, first bytes of that listing were
 /// written. No image of the disk is new.
 ///
-/// The records are those that were judged when they were recorded or read again, so their numbers are not read once more.
-/// `BadLedger` comes where a record behind the first has a line that no reply which ends in `end` has, and is its number.
+/// This is for records that were judged when they were recorded or read again: of each line of a record its first word is
+/// looked at, and no number is read. `BadLedger` comes where these are not the words of a reply that ends in `end`, and is the
+/// number of the record; so it comes for no such reply, and not for each other record. The rows before that line were written.
 pub fn print_run<D: Disk, O: Sink>(
     alloc: Global,
     run: &PrintedRun,

@@ -53,9 +53,9 @@ struct Running<P: OpenProcess + Drop> {
 ///
 /// To start a process takes about a millisecond. So a collect that has found one at its end starts the next, which begins
 /// on the processor that is free then, while what was printed is read, judged and recorded, and waits for the text of the
-/// next attempt. It does nothing until then: so many as there were attempts out are at work. Where it was not started, or takes
-/// no text, the next attempt starts its own; that is no fault. It ends where these workers are dropped: it finds its input
-/// empty.
+/// next attempt. It does nothing until then, so no more processes are at work than attempts are out. Where it was not started,
+/// or takes no text, the next attempt starts its own; that is no fault. It ends where these workers are dropped: it finds its
+/// input empty.
 #[derive(Drop)]
 pub struct ChildWorkers<'r, R: Processes + Files<File = File> + Clock> {
     rt: &'r R,
