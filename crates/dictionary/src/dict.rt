@@ -229,8 +229,8 @@ impl Dict {
         ensures { result ≡ number self.now label column }
     {
         match self.position(label) {
-            Position::Row(i) => self.cells.at(self.rows.len(), i, column),
-            Position::Column(own) => self.own_number(own, column),
+            Position::Row(i) => self.cells.at(self.rows.len(), i as usize, column),
+            Position::Column(own) => self.own_number(own as usize, column),
         }
     }
 

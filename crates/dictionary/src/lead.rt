@@ -34,8 +34,8 @@ impl Dict {
     {
         let _ = &self.phase;
         match self.position(label) {
-            Position::Row(i) => cells.is_nonzero(i),
-            Position::Column(own) => own == j,
+            Position::Row(i) => cells.is_nonzero(i as usize),
+            Position::Column(own) => own as usize == j,
         }
     }
 }

@@ -1,5 +1,5 @@
 //! Where the labels of a dictionary stand, in a list by labels.
-ghost use Rattle.std.specs.Prelude.{◌≡◌, ◌<◌, ◌↔◌, ℕ, suc, IsTrue, IfOk, length, set};
+ghost use Rattle.std.specs.Prelude.{◌≡◌, ◌<◌, ◌≤◌, ◌↔◌, ℕ, suc, IsTrue, IfOk, length, set};
 ghost use Rattle.std.specs.List.{Contains, slice_index_or};
 ghost use Rattle.linear_laws.specs.Distinct.{AreDistinct};
 ghost use Rattle.dictionary_laws.specs.Keys.{place_in};
@@ -10,11 +10,12 @@ use poly_model::{Label, MOST_COLUMNS, OutOfMemory};
 use std::alloc::Global;
 
 /// Where a label stands: outside the cobasis in a row of cells, and inside in a column. Rows are counted from 0, and so are
-/// columns, but column 0 has the constants: the first label of the cobasis has column 1.
+/// columns, but column 0 has the constants: the first label of the cobasis has column 1. In 16 bits, as labels are: a list
+/// of positions has one for each label that there can be, and each job of a run fills some anew.
 #[derive(Clone, Copy, PartialEq, Eq, Debug)]
 pub enum Position {
-    Row(usize),
-    Column(usize),
+    Row(u16),
+    Column(u16),
 }
 
 impl Position {
@@ -23,8 +24,8 @@ impl Position {
         ensures { result ≡ index_of self }
     {
         match self {
-            Position::Row(i) => i,
-            Position::Column(j) => j,
+            Position::Row(i) => i as usize,
+            Position::Column(j) => j as usize,
         }
     }
 }
@@ -63,28 +64,30 @@ pub fn write_positions(positions: &mut [Position], rows: &[Label], columns: &[La
 
 // Writes those of the labels of rows.
 fn write_rows(positions: &mut [Position], rows: &[Label])
+    requires room { length positions.old ≡ label_count }
     requires once { AreDistinct rows.now }
-    requires below { AreBelow rows.now (length positions.old) }
+    requires below { AreBelow rows.now label_count }
     ensures room { length positions.new ≡ length positions.old }
     ensures rows { HaveRows rows.now positions.new }
 {
     // positions(rows(i)) = row i
     'rows: for i in 0..rows.len() {
-        positions[number_of(rows, i) as usize] = Position::Row(i);
+        positions[number_of(rows, i) as usize] = Position::Row(i as u16);
     }
 }
 
 // Writes those of the labels of columns; those of the others stay.
 fn write_columns(positions: &mut [Position], columns: &[Label])
+    requires room { length positions.old ≡ label_count }
     requires once { AreDistinct columns.now }
-    requires below { AreBelow columns.now (length positions.old) }
+    requires below { AreBelow columns.now label_count }
     ensures room { length positions.new ≡ length positions.old }
     ensures columns { HaveColumns columns.now positions.new }
     ensures others { (l : ℕ) → (Contains columns.now l → ⊥) → position_at positions.new l ≡ position_at positions.old l }
 {
     // positions(columns(j)) = column j + 1
     'columns: for j in 0..columns.len() {
-        positions[number_of(columns, j) as usize] = Position::Column(j + 1);
+        positions[number_of(columns, j) as usize] = Position::Column(j as u16 + 1);
     }
 }
 
@@ -106,10 +109,12 @@ pub fn exchange_positions(
 )
     requires leaving { leaving < length positions.old }
     requires entering { entering < length positions.old }
+    requires row { row < label_count }
+    requires column { column ≤ label_count }
     ensures { positions.new ≡ set (set positions.old leaving (Row row)) entering (Column column) }
 {
-    positions[leaving.number() as usize] = Position::Row(row);
-    positions[entering.number() as usize] = Position::Column(column);
+    positions[leaving.number() as usize] = Position::Row(row as u16);
+    positions[entering.number() as usize] = Position::Column(column as u16);
 }
 
 /// What stands at a label.
@@ -130,7 +135,7 @@ pub fn is_in_row(positions: &[Position], rows: &[Label], label: Label) -> bool
         return false;
     }
     match position_at(positions, label) {
-        Position::Row(i) => has_at(rows, i, label),
+        Position::Row(i) => has_at(rows, i as usize, label),
         Position::Column(_) => false,
     }
 }
@@ -146,7 +151,7 @@ pub fn is_in_column(positions: &[Position], columns: &[Label], label: Label) -> 
     }
     match position_at(positions, label) {
         Position::Row(_) => false,
-        Position::Column(j) => j > 0 && has_at(columns, j - 1, label),
+        Position::Column(j) => j > 0 && has_at(columns, j as usize - 1, label),
     }
 }
 

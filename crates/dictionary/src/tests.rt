@@ -487,8 +487,8 @@ fn standings_of(alloc: Global) -> Result<Standings, OutOfMemory> {
 
 #[test]
 fn knows_where_labels_stand(rt: HostRuntime) -> Result<(), Fail> {
-    let at_row = |i: usize| Some(Position::Row(i));
-    let at_column = |j: usize| Some(Position::Column(j));
+    let at_row = |i: u16| Some(Position::Row(i));
+    let at_column = |j: u16| Some(Position::Column(j));
     let pivoted = [at_column(1), at_row(1), at_row(0), at_column(2)];
     let want = Standings {
         first: [at_row(0), at_row(1), at_column(1), at_column(2)],

@@ -1,5 +1,5 @@
 //! The rows of a reply, which stay in its text, and how they are taken from there.
-ghost use Rattle.std.specs.Prelude.{◌≡◌, ◌<◌, ℕ, [], List, length, IfOk, IfSome, IsNone, IsTrue, IsFalse, OnErr};
+ghost use Rattle.std.specs.Prelude.{◌≡◌, ◌<◌, ℕ, [], List, length, IfOk, IfSome, IsNone, OnErr};
 ghost use Rattle.poly_num.specs.Vectors.{Vector};
 ghost use Rattle.plain_text.specs.Cuts.{GoesOnWith};
 ghost use Rattle.poly_model.specs.declared.listed.Count.{Count};
@@ -10,7 +10,7 @@ ghost use Rattle.job_text.specs.Replies.{IsWholeReply};
 ghost use Rattle.job_text.specs.RowTexts.{shown_rows};
 
 use crate::BadReply;
-use plain_text::{split_line, strip_front};
+use plain_text::{goes_on, split_line, strip_front};
 use std::marker::Model;
 
 /// The rows of a reply, in its text. Contracts see the list of them.
@@ -59,17 +59,6 @@ pub fn rows_behind(text: &[u8]) -> Option<&[u8]>
     let (line, left) = split_line(text)?;
     let _key = strip_front(line, b"reply ")?;
     Some(left)
-}
-
-// Whether a text goes on with a blank, or is empty.
-fn goes_on(text: &[u8]) -> bool
-    ensures yes { IsTrue result → GoesOnWith 32 text.now }
-    ensures no { IsFalse result → GoesOnWith 32 text.now → ⊥ }
-{
-    match text {
-        [b, ..] => *b == b' ',
-        [] => true,
-    }
 }
 
 /// The next row of what is left of a reply that ends in `end`: the text of its entries, each behind one blank, as

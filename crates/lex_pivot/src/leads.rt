@@ -97,8 +97,8 @@ fn add_row(dict: &Dict, label: Label, signs: &mut [Ordering])
         return;
     }
     match dict.position(label) {
-        Position::Row(place) => add_cells(dict, place, signs),
-        Position::Column(column) => add_unit(dict, column - 1, signs),
+        Position::Row(place) => add_cells(dict, place as usize, signs),
+        Position::Column(column) => add_unit(dict, column as usize - 1, signs),
     }
 }
 

@@ -42,7 +42,7 @@ impl Reading {
         ensures { result ≡ sign_of (reading_at (table_of dict.now) self.now row) }
     {
         match dict.position(row) {
-            Position::Row(place) => self.sign_in_cells(dict, place),
+            Position::Row(place) => self.sign_in_cells(dict, place as usize),
             Position::Column(_) => self.sign_of_unit(dict, row),
         }
     }

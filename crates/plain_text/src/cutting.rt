@@ -1,6 +1,6 @@
 //! Lines and words in front of a text.
-ghost use Rattle.std.specs.Prelude.{◌≡◌, ◌≢◌, ◌++◌, ◌∷◌, ℕ, List, position, IsTrue, ◌↔◌, MatchOption};
-ghost use Rattle.plain_text.specs.Cuts.{is_newline, is_space, Lacks, CutsLine, CutsWord};
+ghost use Rattle.std.specs.Prelude.{◌≡◌, ◌≢◌, ◌++◌, ◌∷◌, ℕ, List, position, IsTrue, IsFalse, ◌↔◌, MatchOption};
+ghost use Rattle.plain_text.specs.Cuts.{is_newline, is_space, Lacks, GoesOnWith, CutsLine, CutsWord};
 
 use crate::newline_at;
 
@@ -49,6 +49,17 @@ pub fn split_word(text: &[u8]) -> (&[u8], &[u8])
     match space_at(text) {
         Some(at) => (&text[..at], &text[at..]),
         None => (text, &[]),
+    }
+}
+
+/// Whether a text is empty or goes on with a blank, as one does behind a word.
+pub fn goes_on(text: &[u8]) -> bool
+    ensures yes { IsTrue result → GoesOnWith 32 text.now }
+    ensures no { IsFalse result → GoesOnWith 32 text.now → ⊥ }
+{
+    match text {
+        [b, ..] => *b == b' ',
+        [] => true,
     }
 }
 

@@ -1,25 +1,15 @@
 //! Numbers with which a text goes on, read into place: each byte of a short one is looked at once.
-ghost use Rattle.std.specs.Prelude.{◌≡◌, ◌<◌, ℕ, ℤ, true, List, ◌∷◌, ◌++◌, IfSome, IsNone, IsTrue};
+ghost use Rattle.std.specs.Prelude.{◌≡◌, ◌<◌, ℕ, ℤ, true, List, ◌∷◌, ◌++◌, IfSome, IsNone};
 ghost use Rattle.std.specs.Fmt.{signed_decimal};
 ghost use Rattle.poly_num.specs.Numbers.{IsNum};
 ghost use Rattle.plain_text.specs.Cuts.{GoesOnWith};
 ghost use Rattle.plain_text.specs.Digits.{is_negative, without_minus};
 ghost use Rattle.plain_text.specs.Texts.{BeginsWithDecimal};
 
-use crate::cutting::split_word;
+use crate::cutting::{goes_on, split_word};
 use crate::digits::{is_digit_byte, leading_digits};
 use crate::numbers::{is_negative_zero, leads_with_zero, read_num, split_minus};
 use poly_num::Num;
-
-// Whether a text goes on with a blank, or is empty.
-fn goes_on(text: &[u8]) -> bool
-    ensures { IsTrue result → GoesOnWith 32 text.now }
-{
-    match text {
-        [b, ..] => *b == b' ',
-        [] => true,
-    }
-}
 
 // The digit with which a text begins, and what stands behind it, where that is a number of one digit; none says nothing.
 fn digit_in(text: &[u8]) -> Option<(u64, &[u8])>

@@ -9,7 +9,7 @@ mod numbers;
 #[cfg(test)]
 mod tests;
 
-pub use cutting::{is_text, next_word, split_line, split_word, strip_front};
+pub use cutting::{goes_on, is_text, next_word, split_line, split_word, strip_front};
 pub use digits::{TOO_WIDE, count, is_count, leading_digits, value};
 pub use front::next_num;
 pub use newline::newline_at;

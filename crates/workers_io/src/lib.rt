@@ -11,14 +11,16 @@ mod fated;
 mod log;
 mod memory;
 mod queue;
+mod running;
 mod told;
 mod unnamed;
 mod workers;
 
-pub use children::{ChildWorkers, MOST_REPLY_BYTES};
+pub use children::ChildWorkers;
 pub use collected::Collected;
 pub use fate::Fate;
 pub use memory::MemWorkers;
+pub use running::MOST_REPLY_BYTES;
 pub use workers::Workers;
 
 #[cfg(test)]

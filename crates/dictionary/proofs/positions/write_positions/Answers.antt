@@ -1,13 +1,8 @@
-use Rattle.std.proofs.Common.{◌∙◌, arith}
+use Rattle.std.proofs.Common.{◌∙◌}
 use Rattle.dictionary.proofs.positions.write_positions.Goals as goal
 
-pub write_rows-requires-clause-below : goal.write_rows-requires-clause-below
-write_rows-requires-clause-below c l m = let b = c.requires.apart.rows_below l m in omega (arith, b, c.requires.room)
-
-pub write_columns-requires-clause-below : goal.write_columns-requires-clause-below
-write_columns-requires-clause-below c l m =
-    let b = c.requires.apart.columns_below l m in
-    omega (arith, b, c.requires.room, c.write_rows.ensures.room)
+pub write_columns-requires-clause-room : goal.write_columns-requires-clause-room
+write_columns-requires-clause-room c = c.write_rows.ensures.room ∙ c.requires.room
 
 pub returns : goal.returns
 returns c = record {

@@ -16,5 +16,5 @@ returns c =
       digits = take n text;
       whole = sym (take-append-drop n text) ∙ ap (λ (l : List ℕ). take n text ++ l) (sym c.split_at.ensures.back);
       reads = decimal_of_count (take n text) plain ∙ read;
-      goes_on = c.goes_on.ensures c.if-not-goes_on.false;
+      goes_on = c.goes_on.ensures.yes c.if-not-goes_on.false;
     }

@@ -1,4 +1,4 @@
-use Rattle.std.proofs.Common.{◌≡◌, ℤ, List, ◌-◌, length, set, remove, arith, sym, ap, subst, ◌∙◌}
+use Rattle.std.proofs.Common.{◌≡◌, ℤ, List, ◌-◌, ◌≤◌, length, set, remove, arith, refl, sym, ap, subst, ◌∙◌}
 use Rattle.std.proofs.lemmas.List.{length-set}
 use Rattle.poly_model.specs.Keys.{with_label}
 use Rattle.dictionary_laws.specs.Keys.{place_in}
@@ -6,10 +6,12 @@ use Rattle.columns.specs.Cells.{AllowsExchange}
 use Rattle.dictionary.specs.Views.{Dictionary, IsPivot, IsWhole}
 use Rattle.dictionary.proofs.CarriedOut.{allows_exchange, column_bound, row_bound, carried_out}
 use Rattle.dictionary.proofs.dict.Dict.pivot.Given.{Over}
-use Rattle.dictionary.proofs.dict.Dict.pivot.Goals.{After-index_mut-in-Ok}
+use Rattle.dictionary.proofs.dict.Dict.pivot.Goals.{After-exchange_of-x, After-index_mut-in-Ok}
 use Rattle.std.proofs.lemmas.List.{with_items_is}
 use Rattle.dictionary.specs.declared.positions.Position.TheVariants.{Row, Column}
 use Rattle.dictionary.specs.Positions.{label_count, AreBelow, ArePositions}
+use Rattle.dictionary.proofs.Counts.{few_below}
+use Rattle.dictionary.proofs.PositionLemmas.{labels_apart}
 use Rattle.dictionary.proofs.PositionsAfter.{positions_after}
 use Rattle.dictionary.proofs.dict.Dict.pivot.Goals as goal
 
@@ -69,6 +71,30 @@ exchange_positions-requires-clause-entering g c =
     let l = below c.args.row c.requires.label in
     let room = ap length c.deref_mut.ensures.value ∙ c.self.invariant.4.room in
     omega (arith, l, room)
+
+-- its rows and columns are few, and so are their labels
+few : (g : Over) (c : After-exchange_of-x g) → (length c.args.self.now.rows ≤ label_count) × (length c.args.self.now.columns ≤ label_count)
+few g c =
+    let d = c.args.self.now in
+    let apart = labels_apart d (subst (λ (d : Dictionary). IsWhole d) c.self.view_is c.self.invariant.2)
+    (subst (λ (d : Dictionary). AreBelow d.labels label_count) c.self.view_is c.self.invariant.3) in
+    (few_below label_count d.rows apart.rows_once apart.rows_below, few_below label_count d.columns apart.columns_once apart.columns_below)
+
+pub exchange_positions-requires-clause-row : goal.exchange_positions-requires-clause-row
+exchange_positions-requires-clause-row g c =
+    let whole = subst (λ (d : Dictionary). IsWhole d) c.self.view_is c.self.invariant.2 in
+    let within = row_bound c.args.self.now c.args.row c.args.col whole c.requires c.exchange_of-x.result
+    c.exchange_of-x.ensures _ refl in
+    let most = (few g (goal.at.exchange_positions-requires-clause-row g c).After-exchange_of-x).0 in
+    omega (arith, within, most)
+
+pub exchange_positions-requires-clause-column : goal.exchange_positions-requires-clause-column
+exchange_positions-requires-clause-column g c =
+    let whole = subst (λ (d : Dictionary). IsWhole d) c.self.view_is c.self.invariant.2 in
+    let within = column_bound c.args.self.now c.args.row c.args.col whole c.requires c.exchange_of-x.result
+    c.exchange_of-x.ensures _ refl in
+    let most = (few g (goal.at.exchange_positions-requires-clause-column g c).After-exchange_of-x).1 in
+    omega (arith, within, most)
 
 pub invariant_of-self : goal.invariant_of-self
 invariant_of-self g c =

@@ -1,6 +1,6 @@
 use Rattle.std.proofs.Common.{◌∙◌}
 use Rattle.workers_io.proofs.RunLemmas.{same_numbers}
-use Rattle.workers_io.proofs.children.first_ended.Goals as goal
+use Rattle.workers_io.proofs.running.first_ended.Goals as goal
 
 pub returns-then-has_ended-clause-same : goal.returns-then-has_ended-clause-same
 returns-then-has_ended-clause-same g c =
