@@ -1,5 +1,5 @@
 -- Numbers with which a text begins, before a blank or the end.
-use Rattle.std.proofs.Common.{◌≡◌, ◌<◌, ◌^◌, ◌-◌, ℕ, ℤ, Bool, true, false, List, [], ◌∷◌, ◌++◌, Option, None, Some, length, refl, sym, ap, ◌∙◌, cond, arith}
+use Rattle.std.proofs.Common.{◌≡◌, ◌<◌, ◌^◌, ◌-◌, ℕ, ℤ, Bool, true, false, List, [], ◌∷◌, ◌++◌, Option, None, Some, pos, length, refl, sym, ap, ◌∙◌, cond, arith}
 use Rattle.std.specs.Prelude.{◌==◌, option_map}
 use Rattle.std.specs.Fmt.{signed_decimal}
 use Rattle.std.proofs.lemmas.Bool.{eqb-true}
@@ -41,6 +41,12 @@ one_digit d h = rw h (ap (λ (n : ℕ). Some n) (omega arith))
 pub front_is_signed : (text rest : List ℕ) (size : ℕ) → BeginsWithDecimal (without_minus text) size rest
     → size < 2 ^ 127 → (is_negative text ≡ true → 0 < size) → text ≡ signed_decimal (signed (is_negative text) size) ++ rest
 front_is_signed text rest size h lt some = signed_in_front text h.digits rest size h.whole h.reads lt some
+
+-- where the digits of the size stand in front, so does the number
+pub front_is_decimal : (text rest : List ℕ) (size : ℕ) → BeginsWithDecimal text size rest → size < 2 ^ 127
+    → text ≡ signed_decimal (pos size) ++ rest
+front_is_decimal text rest size h lt =
+    h.whole ∙ ap (λ (l : List ℕ). l ++ rest) (is_decimal h.digits size (below_the_cap h.digits size h.reads lt) lt)
 
 -- a word that is the text of no number is in front of no other text that is one
 pub no_number_in_front : (text word rest : List ℕ) → CutsWord text word rest → ((z : ℤ) → IsNum z → word ≡ signed_decimal z → ⊥)

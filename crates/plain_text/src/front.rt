@@ -72,6 +72,11 @@ fn read_front<'a>(place: &mut Num, text: &'a [u8]) -> Option<&'a [u8]>
     ensures some { IfSome result (λ rest. IsNum place.new × (text.now ≡ signed_decimal place.new ++ rest.now) × GoesOnWith 32 rest.now) }
     ensures none { IsNone result → (z : ℤ) (more : List ℕ) → IsNum z → GoesOnWith 32 more → text.now ≡ signed_decimal z ++ more → ⊥ }
 {
+    // most entries have one digit: then nothing is asked about a sign
+    if let Some((digit, rest)) = digit_in(text) {
+        *place = Num::from_parts(false, digit as u128);
+        return Some(rest);
+    }
     if let Some((negative, size, rest)) = short_num_in(text) {
         *place = Num::from_parts(negative, size as u128);
         return Some(rest);
