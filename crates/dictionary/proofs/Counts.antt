@@ -1,21 +1,14 @@
 -- How many labels there are: as many as rows and columns.
-use Rattle.std.proofs.Common.{◌≡◌, ◌≢◌, ℕ, zero, suc, ◌+◌, ◌*◌, ◌≤◌, pos, List, [], ◌∷◌, ◌++◌, length, arith, refl, ap, subst, ◌∙◌, ⊎_elim, length-append}
+use Rattle.std.proofs.Common.{◌≡◌, ℕ, suc, ◌+◌, ◌*◌, pos, List, ◌++◌, length, arith, ap, ◌∙◌, ⊎_elim, length-append}
 use Rattle.std.specs.List.{Contains}
 use Rattle.std.proofs.lemmas.Int.{ints}
 use Rattle.std.proofs.lemmas.List.Elements.{Contains-append_left, Contains-append_right, Contains-append_cases}
-use Rattle.poly_model.specs.Dictionaries.{sum_over}
 use Rattle.linear_laws.specs.Distinct.{AreDistinct}
 use Rattle.linear_laws.proofs.Distinct.{distinct_append}
-use Rattle.linear_laws.proofs.Members.{Contains-first}
 use Rattle.dictionary_laws.specs.Keys.{HaveSameLabels}
 use Rattle.dictionary_laws.proofs.KeyExchange.{ascending_distinct}
-use Rattle.dictionary_laws.proofs.Members.{contains_or, without, without_only, distinct_without, sum_without, sum_members}
+use Rattle.dictionary_laws.proofs.Members.{contains_or, sum_members, count_by_ones}
 use Rattle.dictionary.specs.Views.{Dictionary, IsWhole}
-use Rattle.dictionary.specs.Positions.{AreBelow}
-
-count_by_ones : (ks : List ℕ) → sum_over ks (λ _. pos 1) ≡ pos (length ks)
-count_by_ones [] = refl
-count_by_ones (k ∷ ks) = let e = count_by_ones ks in omega (arith, ints)
 
 same_count : (ks ls : List ℕ) → AreDistinct ks → AreDistinct ls → HaveSameLabels ks ls → length ks ≡ length ls
 same_count ks ls d e same =
@@ -23,26 +16,6 @@ same_count ks ls d e same =
     let g = count_by_ones ls in
     let h = sum_members ks ls (λ _. pos 1) d e same in
     omega (arith, ints)
-
--- as many different numbers below n as there are, at most
-pub few_below : (n : ℕ) (ks : List ℕ) → AreDistinct ks → AreBelow ks n → length ks ≤ n
-few_below zero [] d below = omega arith
-few_below zero (k ∷ ks) d below = let l = below k (Contains-first k ks) in absurd (omega (arith, l))
-few_below (suc n) ks d below =
-    ⊎_elim
-    (λ (c : Contains ks n).
-    let rest = few_below n (without n ks) (distinct_without n ks d)
-    (λ k m. let h = without_only n ks k m in let l = below k h.0 in let other = h.1 in omega (arith, l, other)) in
-    let all = sum_without n ks (λ _. pos 1) d c in
-    let f = count_by_ones ks in
-    let g = count_by_ones (without n ks) in
-    omega (arith, ints, rest, all, f, g))
-    (λ (none : Contains ks n → ⊥).
-    let rest = few_below n ks d
-    (λ k m. let l = below k m in let other : k ≢ n = λ e. none (subst (λ (j : ℕ). Contains ks j) e m) in
-    omega (arith, l, other)) in
-    omega (arith, rest))
-    (contains_or ks n)
 
 pub label_count : (d : Dictionary) → IsWhole d → length d.labels ≡ length d.rows + length d.columns
 label_count d whole =

@@ -10,8 +10,8 @@ use poly_model::{Label, MOST_COLUMNS, OutOfMemory};
 use std::alloc::Global;
 
 /// Where a label stands: outside the cobasis in a row of cells, and inside in a column. Rows are counted from 0, and so are
-/// columns, but column 0 has the constants: the first label of the cobasis has column 1. In 16 bits, as labels are: a list
-/// of positions has one for each label that there can be, and each job of a run fills some anew.
+/// columns, but column 0 has the constants: the first label of the cobasis has column 1. In 16 bits, as labels are: each
+/// dictionary has a list with one for each label that there can be.
 #[derive(Clone, Copy, PartialEq, Eq, Debug)]
 pub enum Position {
     Row(u16),

@@ -3,6 +3,7 @@ use Rattle.std.proofs.Common.{◌≡◌, ◌≢◌, ℕ, ◌⊎◌, Bool, true, 
 use Rattle.std.specs.Prelude.{◌==◌, if◌then◌else◌}
 use Rattle.std.specs.List.{AllByRecursion, Contains}
 use Rattle.std.proofs.lemmas.Bool.{eqb-true, eqb-false, cases_eq}
+use Rattle.std.proofs.lemmas.Int.{ints}
 use Rattle.std.proofs.lemmas.List.Elements.{Contains-get_or}
 use Rattle.poly_num.proofs.Ring.{expand, lin, mul_zero}
 use Rattle.poly_model.specs.Dictionaries.{sum_over}
@@ -153,6 +154,31 @@ sum_members (x ∷ ks) ls f h g m =
           (contains_cases x ks k (m.back k d.0));
     }) in
     omega (arith, lin)
+
+-- ---- how many there are
+pub count_by_ones : (ks : List ℕ) → sum_over ks (λ _. pos 1) ≡ pos (length ks)
+count_by_ones [] = refl
+count_by_ones (k ∷ ks) = let e = count_by_ones ks in omega (arith, ints)
+
+-- labels that differ and are below n are at most n
+pub few_below : (n : ℕ) (ks : List ℕ) → AreDistinct ks → ((k : ℕ) → Contains ks k → k < n) → length ks ≤ n
+few_below zero [] d below = omega arith
+few_below zero (k ∷ ks) d below = let l = below k (Contains-first k ks) in absurd (omega (arith, l))
+few_below (suc n) ks d below =
+    ⊎_elim
+    (λ (c : Contains ks n).
+    let rest = few_below n (without n ks) (distinct_without n ks d)
+    (λ k m. let h = without_only n ks k m in let l = below k h.0 in let other = h.1 in omega (arith, l, other)) in
+    let all = sum_without n ks (λ _. pos 1) d c in
+    let f = count_by_ones ks in
+    let g = count_by_ones (without n ks) in
+    omega (arith, ints, rest, all, f, g))
+    (λ (none : Contains ks n → ⊥).
+    let rest = few_below n ks d
+    (λ k m. let l = below k m in let other : k ≢ n = λ e. none (subst (λ (j : ℕ). Contains ks j) e m) in
+    omega (arith, l, other)) in
+    omega (arith, rest))
+    (contains_or ks n)
 
 -- ---- ascending lists
 -- a later place has no lesser number

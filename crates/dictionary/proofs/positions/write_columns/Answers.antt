@@ -1,10 +1,10 @@
 use Rattle.std.proofs.Common.{◌≡◌, ◌<◌, ◌+◌, ◌∙◌, ℕ, suc, length, get_or, arith}
 use Rattle.std.specs.List.{Contains}
 use Rattle.std.proofs.lemmas.List.Elements.{Contains-get_or}
+use Rattle.dictionary_laws.proofs.Members.{few_below}
 use Rattle.dictionary.specs.declared.positions.Position.{Position}
 use Rattle.dictionary.specs.declared.positions.Position.TheVariants.{Column}
 use Rattle.dictionary.specs.Positions.{label_count}
-use Rattle.dictionary.proofs.Counts.{few_below}
 use Rattle.dictionary.proofs.PlaceLemmas.{place_within}
 use Rattle.dictionary.proofs.PositionLemmas.{one_more, others_stay}
 use Rattle.dictionary.proofs.positions.write_columns.Goals as goal

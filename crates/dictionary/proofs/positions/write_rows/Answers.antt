@@ -1,8 +1,8 @@
 use Rattle.std.proofs.Common.{get_or, arith}
 use Rattle.std.proofs.lemmas.List.Elements.{Contains-get_or}
+use Rattle.dictionary_laws.proofs.Members.{few_below}
 use Rattle.dictionary.specs.declared.positions.Position.TheVariants.{Row}
 use Rattle.dictionary.specs.Positions.{label_count}
-use Rattle.dictionary.proofs.Counts.{few_below}
 use Rattle.dictionary.proofs.PlaceLemmas.{place_within}
 use Rattle.dictionary.proofs.PositionLemmas.{one_more}
 use Rattle.dictionary.proofs.positions.write_rows.Goals as goal

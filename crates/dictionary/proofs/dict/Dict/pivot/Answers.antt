@@ -2,6 +2,7 @@ use Rattle.std.proofs.Common.{◌≡◌, ℤ, List, ◌-◌, ◌≤◌, length, 
 use Rattle.std.proofs.lemmas.List.{length-set}
 use Rattle.poly_model.specs.Keys.{with_label}
 use Rattle.dictionary_laws.specs.Keys.{place_in}
+use Rattle.dictionary_laws.proofs.Members.{few_below}
 use Rattle.columns.specs.Cells.{AllowsExchange}
 use Rattle.dictionary.specs.Views.{Dictionary, IsPivot, IsWhole}
 use Rattle.dictionary.proofs.CarriedOut.{allows_exchange, column_bound, row_bound, carried_out}
@@ -10,7 +11,6 @@ use Rattle.dictionary.proofs.dict.Dict.pivot.Goals.{After-exchange_of-x, After-i
 use Rattle.std.proofs.lemmas.List.{with_items_is}
 use Rattle.dictionary.specs.declared.positions.Position.TheVariants.{Row, Column}
 use Rattle.dictionary.specs.Positions.{label_count, AreBelow, ArePositions}
-use Rattle.dictionary.proofs.Counts.{few_below}
 use Rattle.dictionary.proofs.PositionLemmas.{labels_apart}
 use Rattle.dictionary.proofs.PositionsAfter.{positions_after}
 use Rattle.dictionary.proofs.dict.Dict.pivot.Goals as goal
@@ -73,12 +73,15 @@ exchange_positions-requires-clause-entering g c =
     omega (arith, l, room)
 
 -- its rows and columns are few, and so are their labels
-few : (g : Over) (c : After-exchange_of-x g) → (length c.args.self.now.rows ≤ label_count) × (length c.args.self.now.columns ≤ label_count)
+few : (g : Over) (c : After-exchange_of-x g)
+    → (length c.args.self.now.rows ≤ label_count) × (length c.args.self.now.columns ≤ label_count)
 few g c =
     let d = c.args.self.now in
     let apart = labels_apart d (subst (λ (d : Dictionary). IsWhole d) c.self.view_is c.self.invariant.2)
-    (subst (λ (d : Dictionary). AreBelow d.labels label_count) c.self.view_is c.self.invariant.3) in
-    (few_below label_count d.rows apart.rows_once apart.rows_below, few_below label_count d.columns apart.columns_once apart.columns_below)
+    (subst (λ (d : Dictionary). AreBelow d.labels label_count) c.self.view_is c.self.invariant.3) in (
+      few_below label_count d.rows apart.rows_once apart.rows_below,
+      few_below label_count d.columns apart.columns_once apart.columns_below,
+    )
 
 pub exchange_positions-requires-clause-row : goal.exchange_positions-requires-clause-row
 exchange_positions-requires-clause-row g c =
