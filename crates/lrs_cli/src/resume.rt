@@ -6,7 +6,7 @@ ghost use Rattle.lrs_cli.specs.Resume.{AnswersResume, GoesOn};
 
 use crate::devices::LedgerCall;
 use crate::status::Status;
-use crate::through::{LISTING_PIECE, ended};
+use crate::through::ended;
 use buffered_sink::{Base, Buffered};
 use coordinator::{ResumeStop, resume};
 use disk_core::Disk;
@@ -47,7 +47,7 @@ fn resume_over<B: Base, O: Sink, D: Disk, W: Workers>(
     ensures writes { RoseAt Status.WriteFault result.0 (O.faults out) (O.faults result.1) }
     ensures disk_calls { DiskRose result.0 (D.faults disk.old) (D.faults disk.new) }
 {
-    let mut sink = Buffered::<B, O>::growing(call.terms.alloc, out, LISTING_PIECE);
+    let mut sink = Buffered::<B, O>::new(out);
     let status = resume_attached(call, disk, workers, &mut sink);
     let (out, end) = sink.finish();
     (ended(status, end), out)

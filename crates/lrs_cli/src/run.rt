@@ -12,7 +12,7 @@ ghost use Rattle.lrs_cli.specs.Streams.{streams_at};
 
 use crate::devices::{Devices, LedgerCall};
 use crate::status::Status;
-use crate::through::{LISTING_PIECE, ended};
+use crate::through::ended;
 use buffered_sink::{Base, Buffered};
 use convert_core::{SearchStop, search_root};
 use coordinator::{RunStop, run};
@@ -55,7 +55,7 @@ fn run_over<B: Base, I: Source, O: Sink, D: Disk, W: Workers>(
         (result.1 ≡ out) result.0 }
     ensures taken { TakesAtMost (I.left devices.old.input) (I.left devices.new.input) (most_file_bytes + 1) }
 {
-    let mut sink = Buffered::<B, O>::growing(call.terms.alloc, out, LISTING_PIECE);
+    let mut sink = Buffered::<B, O>::new(out);
     let status = run_file(call, devices, &mut sink);
     let (out, end) = sink.finish();
     (ended(status, end), out)

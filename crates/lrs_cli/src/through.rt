@@ -1,4 +1,4 @@
-//! `convert` with a buffer in front of the output, and what the other commands need for theirs.
+//! `convert` with a buffer in front of the output.
 ghost use Rattle.std.specs.Prelude.{◌≡◌, ◌+◌, OnOk, OnErr};
 ghost use Rattle.poly_io.specs.Taken.{TakesAtMost};
 ghost use Rattle.poly_reader.specs.Limits.{most_file_bytes};
@@ -11,9 +11,6 @@ use buffered_sink::{Base, Buffered};
 use poly_io::{Sink, Source, WriteFault};
 use std::alloc::Global;
 use std::marker::Brand;
-
-/// How large the pieces are in which the listing of a run is written: 64 KiB.
-pub(crate) const LISTING_PIECE: usize = 65_536;
 
 /// Reads a file to its end and prints its listing, in large pieces; gives the sink back.
 pub fn convert_through<I: Source, O: Sink>(alloc: Global, input: &mut I, out: O) -> (Status, O)

@@ -67,12 +67,16 @@ fn short_num_in(text: &[u8]) -> Option<(bool, u64, &[u8])>
 }
 
 // The number with which a text begins, read into its place, and what stands behind it; where there is none the place may
-// have anything. A call, so that the code around it, which reads one digit, stays small.
-#[inline(never)]
-fn read_any<'a>(place: &mut Num, text: &'a [u8]) -> Option<&'a [u8]>
+// have anything.
+fn read_front<'a>(place: &mut Num, text: &'a [u8]) -> Option<&'a [u8]>
     ensures some { IfSome result (λ rest. IsNum place.new × (text.now ≡ signed_decimal place.new ++ rest.now) × GoesOnWith 32 rest.now) }
     ensures none { IsNone result → (z : ℤ) (more : List ℕ) → IsNum z → GoesOnWith 32 more → text.now ≡ signed_decimal z ++ more → ⊥ }
 {
+    // most entries have one digit: then nothing is asked about a sign
+    if let Some((digit, rest)) = digit_in(text) {
+        *place = Num::from_parts(false, digit as u128);
+        return Some(rest);
+    }
     if let Some((negative, size, rest)) = short_num_in(text) {
         *place = Num::from_parts(negative, size as u128);
         return Some(rest);
@@ -80,20 +84,6 @@ fn read_any<'a>(place: &mut Num, text: &'a [u8]) -> Option<&'a [u8]>
     let (word, rest) = split_word(text);
     *place = read_num(word)?;
     Some(rest)
-}
-
-// The same: most entries have one digit, and for those nothing is asked about a sign.
-fn read_front<'a>(place: &mut Num, text: &'a [u8]) -> Option<&'a [u8]>
-    ensures some { IfSome result (λ rest. IsNum place.new × (text.now ≡ signed_decimal place.new ++ rest.now) × GoesOnWith 32 rest.now) }
-    ensures none { IsNone result → (z : ℤ) (more : List ℕ) → IsNum z → GoesOnWith 32 more → text.now ≡ signed_decimal z ++ more → ⊥ }
-{
-    match digit_in(text) {
-        Some((digit, rest)) => {
-            *place = Num::from_parts(false, digit as u128);
-            Some(rest)
-        }
-        None => read_any(place, text),
-    }
 }
 
 /// Reads the number with which a text goes on behind one blank, up to the next blank or the end, into its place, and

@@ -27,11 +27,11 @@ use std::time::Clock;
 /// prints; so no collect answers `AllocError`. Whatever has failed is killed and waited for. Processes that are not collected
 /// are left to themselves where these workers are dropped.
 ///
-/// To start a process takes about a millisecond. So a collect that has found one at its end starts the next, whose file was
-/// opened before the wait: it begins on the processor that is free then, while what was printed is read, judged and recorded,
-/// and waits for the text of the next attempt. It does nothing until then, so no more processes are at work than attempts
-/// are out. Where it was not started, or takes no text, the next attempt starts its own; that is no fault. It ends where these
-/// workers are dropped: it finds its input empty.
+/// To start a process takes about a millisecond. So a collect that has found one at its end starts the next, which begins
+/// on the processor that is free then, while what was printed is read, judged and recorded, and waits for the text of the
+/// next attempt. It does nothing until then, so no more processes are at work than attempts are out. Where it was not started,
+/// or takes no text, the next attempt starts its own; that is no fault. It ends where these workers are dropped: it finds its
+/// input empty.
 #[derive(Drop)]
 pub struct ChildWorkers<'r, R: Processes + Files<File = File> + Clock> {
     rt: &'r R,
@@ -41,8 +41,6 @@ pub struct ChildWorkers<'r, R: Processes + Files<File = File> + Clock> {
     folder: PathBuf,
     out: Vec<u64>,
     running: Vec<Running<R::Started>>,
-    // opened beforehand, for what the next process prints
-    reply: Option<UnnamedFile>,
     // started beforehand, for the next attempt
     next: Option<Waiting<R::Started>>,
     faults: u64,
@@ -70,7 +68,6 @@ impl<'r, R: Processes + Files<File = File> + Clock> ChildWorkers<'r, R> {
             folder,
             out: Vec::new(alloc),
             running: Vec::new(alloc),
-            reply: None,
             next: None,
             faults: 0,
         }
@@ -103,14 +100,10 @@ impl<'r, R: Processes + Files<File = File> + Clock> ChildWorkers<'r, R> {
         command.spawn(self.rt)
     }
 
-    // A new file for what a process prints. The number tells it apart.
-    fn open_reply(&self, number: u64) -> io::Result<UnnamedFile> {
-        unnamed_file(self.rt, self.alloc, self.folder.as_path(), number)
-    }
-
-    // Starts the program, which is to print to this file and waits for its text.
-    fn prepare(&self, file: UnnamedFile) -> io::Result<Waiting<R::Started>> {
-        let UnnamedFile { writer, reader } = file;
+    // Starts the program, which waits for its text. The number tells its reply's file apart.
+    fn prepare(&self, number: u64) -> io::Result<Waiting<R::Started>> {
+        let folder = self.folder.as_path();
+        let UnnamedFile { writer, reader } = unnamed_file(self.rt, self.alloc, folder, number)?;
         let child = self.spawn(writer)?;
         Ok(Waiting {
             child,
@@ -132,8 +125,7 @@ impl<'r, R: Processes + Files<File = File> + Clock> ChildWorkers<'r, R> {
                 return Ok(running);
             }
         }
-        self.prepare(self.open_reply(attempt)?)?
-            .take_up(attempt, text)
+        self.prepare(attempt)?.take_up(attempt, text)
     }
 
     // Sends an attempt out. There is room for it before the program is started.
@@ -154,17 +146,6 @@ impl<'r, R: Processes + Files<File = File> + Clock> ChildWorkers<'r, R> {
         Ok(())
     }
 
-    // Opens a file for what the next process prints, where none is open.
-    fn open_ahead(&mut self)
-        ensures out { self.new.out.items ≡ self.old.out.items }
-        ensures running { self.new.running.items ≡ self.old.running.items }
-        ensures faults { self.new.faults ≡ self.old.faults }
-    {
-        if self.reply.is_none() {
-            self.reply = self.open_reply(u64::MAX).ok();
-        }
-    }
-
     // Starts a process for the next attempt, where none waits for it.
     fn look_ahead(&mut self)
         ensures out { self.new.out.items ≡ self.old.out.items }
@@ -172,9 +153,7 @@ impl<'r, R: Processes + Files<File = File> + Clock> ChildWorkers<'r, R> {
         ensures faults { self.new.faults ≡ self.old.faults }
     {
         if self.next.is_none() {
-            if let Some(file) = self.reply.take() {
-                self.next = self.prepare(file).ok();
-            }
+            self.next = self.prepare(u64::MAX).ok();
         }
     }
 }
@@ -199,7 +178,6 @@ impl<'r, R: Processes + Files<File = File> + Clock> Workers for ChildWorkers<'r,
     }
 
     fn collect(&mut self) -> Result<Collected, AllocError> {
-        self.open_ahead();
         // A child runs for each attempt that is out.
         let place = wait_for_one(self.rt, &mut self.running);
         self.look_ahead();

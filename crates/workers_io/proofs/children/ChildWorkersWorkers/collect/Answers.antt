@@ -6,14 +6,13 @@ use Rattle.workers_io.proofs.children.ChildWorkersWorkers.collect.Goals as goal
 
 pub wait_for_one-place-requires : goal.wait_for_one-place-requires
 wait_for_one-place-requires g c =
-    let s = c.open_ahead.new.self in
-    let out : 0 < length s.out.items = rw c.open_ahead.ensures.out c.requires in
-    let some : 0 < length s.running.items = one_runs s.running.items (λ r. r.attempt) s.out.items s.run out in
+    let s = c.args.self.now in
+    let some : 0 < length s.running.items = one_runs s.running.items (λ r. r.attempt) s.out.items s.run c.requires in
     search rules
 
 pub invariant_of-self : goal.invariant_of-self
 invariant_of-self g c =
-    let s = c.open_ahead.new.self in
+    let s = c.args.self.now in
     let w = c.wait_for_one-place in
     record {
       run = lent_runs s.running.items w.new.running s.running.len (λ r. r.attempt) s.out.items
@@ -23,7 +22,7 @@ invariant_of-self g c =
 
 pub remove-requires : goal.remove-requires
 remove-requires g c =
-    let s = c.open_ahead.new.self in
+    let s = c.args.self.now in
     let w = c.wait_for_one-place in
     let within = lent_within s.running.items w.new.running c.look_ahead.new.self.running.items s.running.len w.result
     (sym (w.auto.running ∙ c.deref_mut.ensures.len)) c.look_ahead.ensures.running (omega (arith, w.auto.running, w.ensures.within)) in
@@ -32,7 +31,7 @@ remove-requires g c =
 pub invariant_of-self-2 : goal.invariant_of-self-2
 invariant_of-self-2 g c =
     let s = c.look_ahead.new.self in
-    let all = c.open_ahead.new.self.running in
+    let all = c.args.self.now.running in
     let w = c.wait_for_one-place in
     let within = lent_within all.items w.new.running s.running.items all.len w.result
     (sym (w.auto.running ∙ c.deref_mut.ensures.len)) c.look_ahead.ensures.running (omega (arith, w.auto.running, w.ensures.within)) in
@@ -45,4 +44,4 @@ invariant_of-self-2 g c =
 
 pub returns-clause-broken : goal.returns-clause-broken
 returns-clause-broken g c broken =
-    subst (λ (n : ℕ). Rose n c.faults_after-self.result) (c.look_ahead.ensures.faults ∙ c.open_ahead.ensures.faults) (c.faults_after-self.ensures.broken broken)
+    subst (λ (n : ℕ). Rose n c.faults_after-self.result) c.look_ahead.ensures.faults (c.faults_after-self.ensures.broken broken)
