@@ -124,6 +124,27 @@ const ROWS: [Row; 12] = [
     },
 ];
 
+/// What follows each of these runs in its file.
+const BEHIND: [Row; 3] = [
+    Row {
+        name: "on to the end",
+        words: RESUME,
+        ..UNDISTURBED
+    },
+    Row {
+        name: "on where nothing is left to do: no worker is started, since it would be lost and none is borne",
+        words: RESUME,
+        fates: &[Fate::Refuse],
+        ..UNDISTURBED
+    },
+    Row {
+        name: "another run",
+        status: Status::HasRun,
+        written: "",
+        ..UNDISTURBED
+    },
+];
+
 /// A call over a disk, which is given back, with workers of these fates and a sink with this table.
 fn ran<'a>(
     alloc: Global,
@@ -148,44 +169,52 @@ fn lines(alloc: Global, text: &[u8]) -> Result<Vec<&[u8]>, AllocError> {
     Ok(lines)
 }
 
+/// Whether two texts have the same lines, in whatever order.
+fn are_same_lines(alloc: Global, text: &[u8], other: &str) -> Result<bool, AllocError> {
+    Ok(lines(alloc, text)? == lines(alloc, other.as_bytes())?)
+}
+
+/// Whether a call over a disk, which is given back, answers as its row says, and writes those lines in whatever order.
+fn is_right<'a>(
+    alloc: Global,
+    row: &'a Row,
+    disk: MemDisk<'a>,
+) -> Result<(bool, MemDisk<'a>), AllocError> {
+    let (status, out, disk) = ran(alloc, row.words, disk, row.fates, row.writes);
+    let is_same = are_same_lines(alloc, out.written(), row.written)?;
+    Ok((is_same && status == row.status, disk))
+}
+
+/// Whether `status` says that all is done.
+fn tells_all_done(alloc: Global, disk: MemDisk) -> bool {
+    let (status, out, _) = ran(alloc, &["status", "L"], disk, &[], &[]);
+    status == WHOLE && out.written().ends_with(b"waiting 0\nrows 5\n")
+}
+
+/// Which of these calls are right: the run of a row, those that follow it, and `status`.
+fn right_calls(alloc: Global, row: &Row, behind: &[Row; 3]) -> Result<[bool; 5], AllocError> {
+    let disk = MemDisk::new(alloc, b"", &[])?;
+    let (first, disk) = is_right(alloc, row, disk)?;
+    let (again, disk) = is_right(alloc, &behind[0], disk)?;
+    let (last, disk) = is_right(alloc, &behind[1], disk)?;
+    let (refused, disk) = is_right(alloc, &behind[2], disk)?;
+    Ok([first, again, last, refused, tells_all_done(alloc, disk)])
+}
+
+/// The first of these runs that is not right or is not followed by right calls, and the place of the first of these.
+fn first_wrong(alloc: Global, rows: &[Row]) -> Result<Option<(&'static str, usize)>, AllocError> {
+    for row in rows {
+        let right = right_calls(alloc, row, &BEHIND)?;
+        if let Some(place) = right.iter().position(|is_right| !*is_right) {
+            return Ok(Some((row.name, place)));
+        }
+    }
+    Ok(None)
+}
+
 #[test]
 fn runs_whatever_the_workers_do(rt: HostRuntime) -> Result<(), Fail> {
-    let alloc = rt.alloc();
-    for row in &ROWS {
-        let disk = MemDisk::new(alloc, b"", &[])?;
-        let (status, out, disk) = ran(alloc, row.words, disk, row.fates, row.writes);
-        let (again, listed, disk) = ran(alloc, RESUME, disk, &[], &[]);
-        // Where nothing is left to do no worker is started: it would be lost, and none is borne.
-        let (last, listed_last, disk) = ran(alloc, RESUME, disk, &[Fate::Refuse], &[]);
-        let (refused, none, disk) = ran(alloc, RUN, disk, &[], &[]);
-        let (told, progress, _) = ran(alloc, &["status", "L"], disk, &[], &[]);
-        assert_eq!(rt;
-            (status, lines(alloc, out.written())?),
-            (row.status, lines(alloc, row.written.as_bytes())?),
-            "{}",
-            row.name
-        );
-        for (status, out) in [(again, listed), (last, listed_last)] {
-            assert_eq!(rt;
-                (status, lines(alloc, out.written())?),
-                (WHOLE, lines(alloc, LISTING.as_bytes())?),
-                "{}, and on",
-                row.name
-            );
-        }
-        assert_eq!(rt;
-            (refused, none.written()),
-            (Status::HasRun, b"".as_slice()),
-            "{}",
-            row.name
-        );
-        assert_eq!(rt;
-            (told, progress.written().ends_with(b"waiting 0\nrows 5\n")),
-            (WHOLE, true),
-            "{}",
-            row.name
-        );
-    }
+    assert_eq!(rt; first_wrong(rt.alloc(), &ROWS)?, None);
     Ok(())
 }
 
@@ -212,7 +241,7 @@ fn image_lost(alloc: Global, disk: &MemDisk, gates: &mut u64) -> Result<Option<u
         let (status, out, _) = ran(alloc, RESUME, disk, &[], &[]);
         let wanted = if status == Status::NoRun { "" } else { LISTING };
         let goes_on = status == WHOLE || status == Status::NoRun;
-        if !goes_on || lines(alloc, out.written())? != lines(alloc, wanted.as_bytes())? {
+        if !goes_on || !are_same_lines(alloc, out.written(), wanted)? {
             return Ok(Some(number));
         }
     }

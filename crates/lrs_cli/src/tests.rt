@@ -603,9 +603,10 @@ pub(crate) fn devices_of<'a>(
     bytes: &'a [u8],
     reads: &'a [Call],
 ) -> Result<Devices<MemSource<'a>, MemDisk<'a>, MemWorkers<'a, ShippedJob>>, AllocError> {
+    let disk = MemDisk::new(alloc, b"", &[])?;
     Ok(Devices {
         input: MemSource::new(bytes, reads),
-        disk: MemDisk::new(alloc, b"", &[])?,
+        disk,
         workers: MemWorkers::new(alloc, ShippedJob::new(alloc), &[], &[]),
     })
 }
@@ -655,9 +656,9 @@ fn a_job_text_without_its_end_writes_nothing(rt: HostRuntime) -> Result<(), Fail
 // The arguments of a process: the program's name, and these words.
 fn arguments(alloc: Global, words: &[&str]) -> Result<Vec<String>, AllocError> {
     let mut given = Vec::new(alloc);
-    given.push(format!(in alloc; "lrs")?)?;
+    given.push(String::from_str(alloc, "lrs")?)?;
     for word in words {
-        given.push(format!(in alloc; "{word}")?)?;
+        given.push(String::from_str(alloc, word)?)?;
     }
     Ok(given)
 }
