@@ -120,11 +120,12 @@ static void sync_ledger(const Ledger *ledger) {
 
 // Adds what a process has printed as a record: its length, the reply and a closed gate, and then the gate before it.
 static void record(Ledger *ledger, const Process *process, long bytes) {
-    char *payload = malloc(bytes + 15);
+    char *payload = malloc(bytes + 16);
     need(payload != NULL, "memory");
     snprintf(payload, 15, "%013ld\n", bytes);
     long taken = 14;
-    for (ssize_t more; (more = read(process->reply, payload + taken, bytes + 14 - taken)) > 0;)
+    // one byte more, so that a longer reply is seen
+    for (ssize_t more; (more = read(process->reply, payload + taken, bytes + 15 - taken)) > 0;)
         taken += more;
     close(process->reply);
     payload[taken] = 0;

@@ -131,8 +131,9 @@ const BEHIND: [Row; 3] = [
         words: RESUME,
         ..UNDISTURBED
     },
+    // no worker is started there: it would be lost, and none is borne
     Row {
-        name: "on where nothing is left to do: no worker is started, since it would be lost and none is borne",
+        name: "on where nothing is left to do",
         words: RESUME,
         fates: &[Fate::Refuse],
         ..UNDISTURBED
