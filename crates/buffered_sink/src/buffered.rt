@@ -7,24 +7,22 @@ ghost use Rattle.buffered_sink.specs.Growth.{HasGrown, HasGrown-prop};
 
 use crate::Base;
 use crate::hand::hand_on;
-use crate::held::Held;
+use crate::room::Room;
 use poly_io::{Failed, Sink, WriteFault};
-use std::alloc::Global;
 use std::marker::PhantomData;
 
-/// A sink that holds what is written to it, and hands it on to the sink `inner` in large pieces. The room for it is one
-/// of 8 KiB, which takes no memory, or one that grows. It cannot be dropped: what is held at the end goes on, or is
-/// lost, at `finish`.
+/// A sink that holds what is written to it, up to 8 KiB, and hands it on to the sink `inner` in large pieces. It takes no
+/// memory. It cannot be dropped: what is held at the end goes on, or is lost, at `finish`.
 pub struct Buffered<B: Base, S: Sink> {
     inner: S,
-    held: Held,
+    held: Room,
     of: PhantomData<B>,
     // What the inner sink had written at the base is still the beginning of what it has written.
     ghost grown: { HasGrown B.base (S.written inner) } by { HasGrown-prop B.base (S.written inner) },
 }
 
 impl<B: Base, S: Sink> Buffered<B, S> {
-    /// A buffer with nothing in it, in front of a sink. It holds up to 8 KiB, and takes no memory.
+    /// A buffer with nothing in it, in front of a sink.
     pub fn new(inner: S) -> Buffered<B, S>
         requires { HasGrown B.base (S.written inner) }
         ensures inner { result.inner ≡ inner }
@@ -34,24 +32,7 @@ impl<B: Base, S: Sink> Buffered<B, S> {
     {
         Buffered {
             inner,
-            held: Held::fixed(),
-            of: PhantomData,
-        }
-    }
-
-    /// A buffer with nothing in it, in front of a sink. It gathers in memory, which is taken as pieces come, up to
-    /// `most` bytes. Where these are full, or memory is refused, what is held is handed on, and the gathering goes on
-    /// in the memory that is there.
-    pub fn growing(alloc: Global, inner: S, most: usize) -> Buffered<B, S>
-        requires { HasGrown B.base (S.written inner) }
-        ensures inner { result.inner ≡ inner }
-        ensures held { result.held ≡ [] }
-        // So far the two sinks tell the same.
-        ensures told { append_known (S.written result.inner) result.held ≡ S.written inner }
-    {
-        Buffered {
-            inner,
-            held: Held::growing(alloc, most),
+            held: Room::new(),
             of: PhantomData,
         }
     }
@@ -108,7 +89,7 @@ impl<B: Base, S: Sink> Sink for Buffered<B, S> {
         if self.held.append(bytes) {
             return Ok(bytes.len());
         }
-        // It is longer than the room, or there is no memory for it.
+        // It is longer than the room.
         self.inner.write(bytes)
     }
 }

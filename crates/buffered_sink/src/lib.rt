@@ -3,10 +3,7 @@
 
 mod base;
 mod buffered;
-mod fixed;
-mod growing;
 mod hand;
-mod held;
 mod room;
 mod through;
 

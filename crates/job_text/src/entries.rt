@@ -7,7 +7,7 @@ ghost use Rattle.plain_text.specs.Cuts.{GoesOnWith};
 ghost use Rattle.work_core.specs.ReplyLines.{row_line};
 ghost use Rattle.job_text.specs.LineTexts.{IsReplyLine};
 
-use plain_text::next_num;
+use plain_text::{next_digit, next_num};
 use poly_num::{Num, is_primitive};
 use std::alloc::{AllocError, Global};
 
@@ -20,6 +20,21 @@ pub fn zeros(alloc: Global, n: u32) -> Result<Vec<Num>, AllocError>
     Ok(row)
 }
 
+// Whether the text is as many digits as the row has, each behind one blank: so are most rows. Then the row has them.
+fn read_digits(row: &mut [Num], text: &[u8]) -> bool
+    ensures size { length row.new ≡ length row.old }
+    ensures yes { IsTrue result → AllByRecursion IsNum row.new × (text.now ≡ entries_text row.new) }
+{
+    let mut left = text;
+    for i in 0..row.len() {
+        left = match next_digit(&mut row[i], left) {
+            Some(behind) => behind,
+            None => return false,
+        };
+    }
+    left.is_empty()
+}
+
 /// Whether the text is as many numbers as the row has, each behind one blank. Then the row has them; else it may have
 /// anything.
 pub fn read_entries(row: &mut [Num], text: &[u8]) -> bool
@@ -29,6 +44,9 @@ pub fn read_entries(row: &mut [Num], text: &[u8]) -> bool
     ensures no { IsFalse result → (v : List ℤ) → length v ≡ length row.old → AllByRecursion IsNum v
         → text.now ≡ entries_text v → ⊥ }
 {
+    if read_digits(row, text) {
+        return true;
+    }
     let mut rest = text;
     for i in 0..row.len() {
         rest = match next_num(&mut row[i], rest) {

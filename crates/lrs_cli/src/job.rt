@@ -14,11 +14,7 @@ use std::marker::Brand;
 use work_core::JobStop;
 use worker_job::job;
 
-/// How much of a reply is gathered before it is written: 64 MiB. So a worker whose coordinator reads another one is kept
-/// waiting only by a reply that is longer.
-const MOST_HELD: usize = 67_108_864;
-
-/// Reads a job text to its end and writes its reply, gathered in memory where there is any; gives the sink back.
+/// Reads a job text to its end and writes its reply, in large pieces; gives the sink back.
 pub fn job_through<I: Source, O: Sink>(alloc: Global, input: &mut I, out: O) -> (Status, O)
     ensures line { result.0 ≡ Status.Usage → ⊥ }
     ensures answers { AnswersJob
@@ -38,7 +34,7 @@ fn job_over<B: Base, I: Source, O: Sink>(alloc: Global, input: &mut I, out: O) -
         (result.1 ≡ out) result.0 }
     ensures taken { TakesAtMost (I.left input.old) (I.left input.new) (most_job_bytes + 1) }
 {
-    let mut sink = Buffered::<B, O>::growing(alloc, out, MOST_HELD);
+    let mut sink = Buffered::<B, O>::new(out);
     let status = answer_job(alloc, input, &mut sink);
     let (out, end) = sink.finish();
     (ended(status, end), out)

@@ -48,6 +48,11 @@ pub front_is_decimal : (text rest : List ℕ) (size : ℕ) → BeginsWithDecimal
 front_is_decimal text rest size h lt =
     h.whole ∙ ap (λ (l : List ℕ). l ++ rest) (is_decimal h.digits size (below_the_cap h.digits size h.reads lt) lt)
 
+-- a digit in front is the number of its value there
+pub digit_is_number : (d : ℕ) (rest : List ℕ) → is_digit d ≡ true → d - 48 < 2 ^ 127 → d ∷ rest ≡ signed_decimal (pos (d - 48)) ++ rest
+digit_is_number d rest h lt =
+    ap (λ (l : List ℕ). l ++ rest) (is_decimal (d ∷ []) (d - 48) (below_the_cap (d ∷ []) (d - 48) (one_digit d h) lt) lt)
+
 -- a word that is the text of no number is in front of no other text that is one
 pub no_number_in_front : (text word rest : List ℕ) → CutsWord text word rest → ((z : ℤ) → IsNum z → word ≡ signed_decimal z → ⊥)
     → (z : ℤ) (more : List ℕ) → IsNum z → GoesOnWith 32 more → text ≡ signed_decimal z ++ more → ⊥

@@ -1,5 +1,5 @@
 //! Known texts.
-use crate::{next_num, read_count, read_num, split_line, split_word};
+use crate::{next_digit, next_num, read_count, read_num, split_line, split_word};
 use poly_num::Num;
 
 #[test]
@@ -55,6 +55,13 @@ fn front_of(text: &[u8]) -> Option<(i128, &[u8])> {
     Some((place.get(), rest))
 }
 
+// The same of a digit.
+fn digit_of(text: &[u8]) -> Option<(i128, &[u8])> {
+    let mut place = Num::ZERO;
+    let rest = next_digit(&mut place, text)?;
+    Some((place.get(), rest))
+}
+
 #[test]
 fn fronts(rt: HostRuntime) {
     let cases = [
@@ -82,6 +89,19 @@ fn fronts(rt: HostRuntime) {
     for (text, front) in &cases {
         let front = front.map(|(number, rest)| (number, rest.as_bytes()));
         assert_eq!(rt; front_of(text.as_bytes()), front, "{}", text);
+    }
+    let cases = [
+        (" 7", Some((7, ""))),
+        (" 07", Some((0, "7"))),
+        (" 1/2 ", Some((1, "/2 "))),
+        (" -1", None),
+        ("7", None),
+        ("  7", None),
+        (" ", None),
+    ];
+    for (text, digit) in &cases {
+        let digit = digit.map(|(number, rest)| (number, rest.as_bytes()));
+        assert_eq!(rt; digit_of(text.as_bytes()), digit, "{}", text);
     }
 }
 

@@ -1,6 +1,6 @@
 use Rattle.buffered_sink.proofs.HeldLemmas.{held_grows}
 use Rattle.std.proofs.Common.{arith, length, ◌≤◌}
-use Rattle.buffered_sink.proofs.fixed.FixedRoom.append.Goals as goal
+use Rattle.buffered_sink.proofs.room.Room.append.Goals as goal
 
 pub returns-clause-taken : goal.returns-clause-taken
 returns-clause-taken c _ =
