@@ -114,8 +114,7 @@ fn front_digit<'a>(place: &mut Num, text: &'a [u8]) -> Option<&'a [u8]>
 }
 
 /// Reads the digit with which a text goes on behind one blank into its place, and answers what stands behind it, whatever
-/// that is. None exactly where the text does not go on so; then the place is as it was. A row of such entries is read in
-/// half of the time that `next_num` takes.
+/// that is. None exactly where the text does not go on so; then the place is as it was.
 pub fn next_digit<'a>(place: &mut Num, text: &'a [u8]) -> Option<&'a [u8]>
     ensures some { IfSome result (λ rest. IsNum place.new × (text.now ≡ 32 ∷ (signed_decimal place.new ++ rest.now))) }
     ensures none { IsNone result → (digit : ℕ) (more : List ℕ) → is_digit digit ≡ true → text.now ≡ 32 ∷ digit ∷ more → ⊥ }
