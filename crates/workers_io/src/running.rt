@@ -3,17 +3,16 @@ ghost use Rattle.std.specs.Prelude.{◌≡◌, ◌<◌, IfOk, IfSome, length, ma
 ghost use Rattle.workers_io.specs.Collects.{collected_attempt};
 
 use crate::Collected;
-use poly_io::{Bytes, StdinSource, read_whole};
+use crate::launcher::Launcher;
+use crate::reply_file::ReplyFile;
+use poly_io::Bytes;
 use std::alloc::Global;
 use std::fs::File;
 use std::io::{self, ErrorKind, Write};
-use std::process::{Child, OpenProcess};
+use std::process::{Child, OpenProcess, Processes};
+use std::rt::Files;
 use std::thread;
 use std::time::{Clock, Duration};
-
-/// How many bytes a reply may have: 2^30, so that a child that never stops to print takes no more memory than that. The
-/// format of replies has no bound of its own; one of 10,000 bases in 256 columns has some millions of bytes.
-pub const MOST_REPLY_BYTES: usize = 1 << 30;
 
 /// How long is waited before the children are asked again which of them has ended: at first, and at most, in microseconds.
 const FIRST_PAUSE: u64 = 100;
@@ -24,7 +23,7 @@ const LONGEST_PAUSE: u64 = 10000;
 #[derive(Drop)]
 pub(crate) struct Waiting<P: OpenProcess + Drop> {
     pub child: Child<P>,
-    pub reply: File,
+    pub reply: ReplyFile,
 }
 
 /// A child that was started, what it was started for, and what it has printed so far.
@@ -32,7 +31,7 @@ pub(crate) struct Waiting<P: OpenProcess + Drop> {
 pub(crate) struct Running<P: OpenProcess + Drop> {
     pub attempt: u64,
     pub child: Child<P>,
-    pub reply: File,
+    pub reply: ReplyFile,
 }
 
 impl<P: OpenProcess + Drop> Waiting<P> {
@@ -70,29 +69,31 @@ fn end<P: OpenProcess + Drop>(mut child: Child<P>) {
     }
 }
 
-// All that a child has printed, once it has ended.
+/// What has come of a child that has ended.
+#[derive(Drop)]
+pub(crate) struct Finished {
+    pub collected: Collected,
+    /// Where it has printed, emptied; none where its reply could not be read.
+    pub file: Option<ReplyFile>,
+    /// Whether it ended by itself: a child that is killed does not say that it ends.
+    pub spoke: bool,
+}
+
+// All that a child has printed, once it has ended, and whether it ended by itself.
 fn reply_of<P: OpenProcess + Drop>(
     alloc: Global,
     mut child: Child<P>,
-    reply: File,
-) -> Option<Bytes> {
-    match read_whole(alloc, &mut StdinSource::new(reply), MOST_REPLY_BYTES) {
-        Ok(bytes) => {
-            child.wait().ok()?;
-            Some(bytes)
+    reply: &ReplyFile,
+) -> Option<(Bytes, bool)> {
+    match reply.read(alloc) {
+        Some(bytes) => {
+            let status = child.wait().ok()?;
+            Some((bytes, status.code().is_some()))
         }
-        Err(_) => {
+        None => {
             end(child);
             None
         }
-    }
-}
-
-// Whether more was printed to this file than a reply may have.
-fn is_too_long(reply: &File) -> bool {
-    match reply.metadata() {
-        Ok(found) => found.len() > MOST_REPLY_BYTES as u64,
-        Err(_) => true,
     }
 }
 
@@ -102,23 +103,31 @@ impl<P: OpenProcess + Drop> Running<P> {
         ensures { self.new.attempt ≡ self.old.attempt }
     {
         match self.child.try_wait() {
-            Ok(None) => is_too_long(&self.reply),
+            Ok(None) => self.reply.is_too_long(),
             Ok(Some(_)) | Err(_) => true,
         }
     }
 
     // What has come of this child, once it has ended.
-    pub(crate) fn finish(self, alloc: Global) -> Collected
-        ensures { collected_attempt result ≡ self.attempt }
+    pub(crate) fn finish(self, alloc: Global) -> Finished
+        ensures { collected_attempt result.collected ≡ self.attempt }
     {
         let Running {
             attempt,
             child,
             reply,
         } = self;
-        match reply_of(alloc, child, reply) {
-            Some(bytes) => Collected::Reply { attempt, bytes },
-            None => Collected::Broken { attempt },
+        match reply_of(alloc, child, &reply) {
+            Some((bytes, spoke)) => Finished {
+                collected: Collected::Reply { attempt, bytes },
+                file: reply.emptied().ok(),
+                spoke,
+            },
+            None => Finished {
+                collected: Collected::Broken { attempt },
+                file: None,
+                spoke: false,
+            },
         }
     }
 }
@@ -136,12 +145,9 @@ fn first_ended<P: OpenProcess + Drop>(running: &mut [Running<P>]) -> Option<usiz
     None
 }
 
-// Waits until one of these has ended. A pause is a 32nd of the time that was waited, so that a child is found soon after its
-// end, and a long one costs little.
-pub(crate) fn wait_for_one<R: Clock, P: OpenProcess + Drop>(
-    rt: &R,
-    running: &mut [Running<P>],
-) -> usize
+// Asks these again and again until one has ended. A pause is a 32nd of the time that was waited, so that a child is found soon
+// after its end, and a long one costs little.
+fn ask_again<R: Clock, P: OpenProcess + Drop>(rt: &R, running: &mut [Running<P>]) -> usize
     requires { 0 < length running.old }
     ensures same { map (λ r. r.attempt) running.new ≡ map (λ r. r.attempt) running.old }
     ensures within { result < length running.old }
@@ -155,4 +161,22 @@ pub(crate) fn wait_for_one<R: Clock, P: OpenProcess + Drop>(
         pause = LONGEST_PAUSE.min(pause.saturating_add(pause / 32));
     }
     0
+}
+
+// Waits until one of these has ended. Where several are at work one of them says so first; while it ends the next child is
+// started. One that is at work alone may be killed, and say nothing, with no other to be heard.
+pub(crate) fn wait_for_one<R: Processes + Files<File = File> + Clock>(
+    rt: &R,
+    launcher: &mut Launcher<R>,
+    running: &mut [Running<R::Started>],
+) -> usize
+    requires { 0 < length running.old }
+    ensures same { map (λ r. r.attempt) running.new ≡ map (λ r. r.attempt) running.old }
+    ensures within { result < length running.old }
+{
+    if running.len() > 1 && first_ended(running).is_none() {
+        launcher.listen();
+    }
+    launcher.look_ahead();
+    ask_again(rt, running)
 }

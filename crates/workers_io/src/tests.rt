@@ -193,14 +193,43 @@ fn gives_what_the_fates_say(rt: HostRuntime) -> Result<(), Fail> {
     Ok(())
 }
 
-/// Words for the shell. The first line of a child's input says what it does: it waits for a file and says so, or it makes
-/// the file.
+/// Words for the shell. The first line of a child's input says what it does: it waits for a file and says so, it makes
+/// the file, or it tells on its standard error that it ends.
 const MEETS: &[&str] = &[
     "-c",
     "read name; if [ \"$name\" = wait ]; then i=0; while [ $i -lt 2000000 ]; do \
         if [ -e tests_of_workers_io.made ]; then echo met; exit 3; fi; i=$((i+1)); done; \
-        elif [ \"$name\" = make ]; then : > tests_of_workers_io.made; fi",
+        elif [ \"$name\" = make ]; then : > tests_of_workers_io.made; \
+        elif [ \"$name\" = tell ]; then echo ended >&2; fi",
 ];
+
+/// Starts children of the shell on these words, as attempts 1 and 2.
+fn start_two<R: Processes + Files<File = File> + Clock>(
+    workers: &mut ChildWorkers<R>,
+    words: [&[u8]; 2],
+    out: &mut MemSink,
+) -> Result<(), Fail> {
+    for (attempt, word) in [(1, words[0]), (2, words[1])] {
+        if workers.start(attempt, word).is_err() {
+            write_all(out, b"refused ")?;
+        }
+    }
+    Ok(())
+}
+
+/// Writes what the workers give next, where an attempt is out.
+fn collect_one<R: Processes + Files<File = File> + Clock>(
+    workers: &mut ChildWorkers<R>,
+    out: &mut MemSink,
+) -> Result<(), Fail> {
+    if workers.out().is_empty() {
+        return Ok(());
+    }
+    let collected = workers.collect()?;
+    write_collected(&collected, out)?;
+    write_all(out, b" ")?;
+    Ok(())
+}
 
 #[test]
 fn children_run_beside_each_other(rt: HostRuntime) -> Result<(), Fail> {
@@ -210,12 +239,9 @@ fn children_run_beside_each_other(rt: HostRuntime) -> Result<(), Fail> {
     let folder = std::env::temp_dir(&rt)?;
     let mut workers = ChildWorkers::new(&rt, alloc, shell, MEETS, folder);
     let mut seen = MemSink::new(alloc, &[]);
-    for (attempt, text) in [(1, b"wait\n"), (2, b"make\n")] {
-        if workers.start(attempt, text).is_err() {
-            write_all(&mut seen, b"refused ")?;
-        }
-    }
-    gather(&mut workers, &mut seen)?;
+    start_two(&mut workers, [b"wait\n", b"make\n"], &mut seen)?;
+    collect_one(&mut workers, &mut seen)?;
+    collect_one(&mut workers, &mut seen)?;
     fs::remove_file(&rt, "tests_of_workers_io.made")?;
     let found = (is_met(seen.written()), workers.faults());
     assert_eq!(rt; found, (true, 0));
@@ -227,19 +253,21 @@ fn is_met(seen: &[u8]) -> bool {
     seen == b"1=met\n 2= ".as_slice() || seen == b"2= 1=met\n ".as_slice()
 }
 
-/// Writes what the workers give until no attempt is out.
-fn gather<R: Processes + Files<File = File> + Clock, S: Sink>(
-    workers: &mut ChildWorkers<R>,
-    out: &mut S,
-) -> Result<(), Fail> {
-    for _ in 0..10 {
-        if workers.out().is_empty() {
-            return Ok(());
-        }
-        let collected = workers.collect()?;
-        write_collected(&collected, out)?;
-        write_all(out, b" ")?;
-    }
+// What the first one waits for is there only once the second one was collected.
+#[test]
+fn one_is_collected_while_another_works(rt: HostRuntime) -> Result<(), Fail> {
+    let alloc = rt.alloc();
+    let _ = fs::remove_file(&rt, "tests_of_workers_io.made");
+    let shell = Path::new("/bin/sh").to_path_buf(alloc)?;
+    let folder = std::env::temp_dir(&rt)?;
+    let mut workers = ChildWorkers::new(&rt, alloc, shell, MEETS, folder);
+    let mut seen = MemSink::new(alloc, &[]);
+    start_two(&mut workers, [b"wait\n", b"tell\n"], &mut seen)?;
+    collect_one(&mut workers, &mut seen)?;
+    File::create(&rt, "tests_of_workers_io.made")?;
+    collect_one(&mut workers, &mut seen)?;
+    fs::remove_file(&rt, "tests_of_workers_io.made")?;
+    assert_eq!(rt; seen.written(), b"2= 1=met\n ".as_slice());
     Ok(())
 }
 
@@ -270,8 +298,11 @@ fn a_child_gives_what_it_prints(rt: HostRuntime) -> Result<(), Fail> {
         let folder = std::env::temp_dir(&rt)?;
         let mut workers = ChildWorkers::new(&rt, alloc, program, words, folder);
         let text = vec![in alloc; b'a'; len]?;
-        for attempt in 1..3 {
-            let begun = workers.start(attempt, &text).is_ok();
+        for attempt in 1..5 {
+            // the later ones are shorter, and have a file that an earlier one had
+            let begun = workers
+                .start(attempt, &text[..len / attempt as usize])
+                .is_ok();
             let mut back = 0;
             if !workers.out().is_empty() {
                 if let Collected::Reply { bytes, .. } = workers.collect()? {
@@ -281,7 +312,11 @@ fn a_child_gives_what_it_prints(rt: HostRuntime) -> Result<(), Fail> {
             let found = (begun, back, workers.faults());
             assert_eq!(rt;
                 found,
-                (started, given, faults.saturating_mul(attempt)),
+                (
+                    started,
+                    given / attempt as usize,
+                    faults.saturating_mul(attempt)
+                ),
                 "{} {}",
                 name,
                 attempt
