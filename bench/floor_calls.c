@@ -2,7 +2,7 @@
 // most so many at once, and a record for each reply with its two syncs. No reply is read or judged, and no keys are kept.
 //
 // `floor_calls LEDGER FOLDER WORKERS SYNCS PROGRAM` starts `PROGRAM job` for each job. What these print goes to files without a
-// name in FOLDER; with SYNCS 0 nothing is synced. Standard input has two numbers, how many jobs there are and the bytes of a
+// name in FOLDER, each of which serves one process after the other; with SYNCS 0 nothing is synced. Standard input has two numbers, how many jobs there are and the bytes of a
 // file, and then the file; and for each job the bytes of its head, the bytes of its reply, how many jobs it gives back,
 // their numbers, from 0, and then the head. A job's text is its head and the file. It begins with job 0. As in `lrs run` a process
 // is started beforehand once one has ended, and the listing is read from the ledger and printed at the end. It waits for whichever
@@ -32,7 +32,7 @@ typedef struct {
 
 typedef struct {
     pid_t pid;
-    int input, reply, job;
+    int input, writer, reply, job;
 } Process;
 
 typedef struct {
@@ -82,27 +82,52 @@ static int work(void) {
     return 0;
 }
 
-// A process that waits for its text, and the file to which it prints.
-static Process prepare(void) {
+// the file of the process that has ended last, empty
+static bool has_spare;
+static Process spare;
+
+// Opens a file for what a process prints, or takes the spare one.
+static Process reply_file(void) {
     static int number;
+    if (has_spare) {
+        has_spare = false;
+        return spare;
+    }
     char name[4096];
     snprintf(name, sizeof name, "%s/floor_calls-%d-%d", folder, getpid(), number++);
-    int writer = open(name, O_CREAT | O_EXCL | O_WRONLY | O_CLOEXEC, 0600);
-    Process process = {.reply = open(name, O_RDONLY | O_CLOEXEC)};
-    need(writer >= 0 && process.reply >= 0 && unlink(name) == 0, name);
+    Process process = {.writer = open(name, O_CREAT | O_EXCL | O_WRONLY | O_CLOEXEC, 0600)};
+    process.reply = open(name, O_RDONLY | O_CLOEXEC);
+    need(process.writer >= 0 && process.reply >= 0 && unlink(name) == 0, name);
+    return process;
+}
+
+// Empties the file of a process that has ended, for the next one.
+static void keep_file(const Process *process) {
+    if (has_spare) {
+        close(spare.writer);
+        close(spare.reply);
+    }
+    need(ftruncate(process->writer, 0) == 0, "ftruncate");
+    need(lseek(process->writer, 0, SEEK_SET) == 0 && lseek(process->reply, 0, SEEK_SET) == 0, "lseek");
+    spare = *process;
+    has_spare = true;
+}
+
+// A process that waits for its text, and the file to which it prints.
+static Process prepare(void) {
+    Process process = reply_file();
     int ends[2];
     need(pipe2(ends, O_CLOEXEC) == 0, "pipe");
     posix_spawn_file_actions_t actions;
     posix_spawn_file_actions_init(&actions);
     posix_spawn_file_actions_adddup2(&actions, ends[0], 0);
-    posix_spawn_file_actions_adddup2(&actions, writer, 1);
+    posix_spawn_file_actions_adddup2(&actions, process.writer, 1);
     posix_spawn_file_actions_addopen(&actions, 2, "/dev/null", O_WRONLY, 0);
     char *words[] = {program, "job", NULL};
     errno = posix_spawn(&process.pid, program, &actions, NULL, words, NULL);
     need(errno == 0, "posix_spawn");
     posix_spawn_file_actions_destroy(&actions);
     close(ends[0]);
-    close(writer);
     process.input = ends[1];
     return process;
 }
@@ -127,7 +152,7 @@ static void record(Ledger *ledger, const Process *process, long bytes) {
     // one byte more, so that a longer reply is seen
     for (ssize_t more; (more = read(process->reply, payload + taken, bytes + 15 - taken)) > 0;)
         taken += more;
-    close(process->reply);
+    keep_file(process);
     payload[taken] = 0;
     need(taken == bytes + 14 && pwrite(ledger->file, payload, taken + 1, ledger->end) == taken + 1, "record");
     sync_ledger(ledger);
