@@ -1,12 +1,13 @@
 // The calls of a run, and nothing between them, for bench/floor to time beside `lrs run`: a process for each job, at
 // most so many at once, and a record for each reply with its two syncs. No reply is read or judged, and no keys are kept.
 //
-// `floor_calls LEDGER FOLDER WORKERS SYNCS PROGRAM` starts `PROGRAM job` for each job. What these print goes to files without a
-// name in FOLDER, each of which serves one process after the other; with SYNCS 0 nothing is synced. Standard input has two numbers, how many jobs there are and the bytes of a
-// file, and then the file; and for each job the bytes of its head, the bytes of its reply, how many jobs it gives back,
-// their numbers, from 0, and then the head. A job's text is its head and the file. It begins with job 0. As in `lrs run` a process
-// is started beforehand once one has ended, and the listing is read from the ledger and printed at the end. It waits for whichever
-// process ends first in one call, which std of the language does not have.
+// `floor_calls LEDGER FOLDER WORKERS SYNCS PROGRAM` starts `PROGRAM job` for each job. What these print goes to files
+// without a name in FOLDER, each of which serves one process after the other; with SYNCS 0 nothing is synced. Standard
+// input has two numbers, how many jobs there are and the bytes of a file, and then the file; and for each job the bytes of
+// its head, the bytes of its reply, how many jobs it gives back, their numbers, from 0, and then the head. A job's text is
+// its head and the file. It begins with job 0. As in `lrs run` a process is started beforehand once one has ended, and the
+// listing is read from the ledger and printed at the end. It waits for whichever process ends first in one call, which std
+// of the language does not have.
 //
 // `floor_calls job` is such a program: it reads its text to the end, keeps its processor busy for as many microseconds as the
 // text says first, and prints as many bytes as it says then.
