@@ -2,6 +2,7 @@ pub mod Along
 pub mod WaitLemmas
 pub mod StepLemmas
 pub mod ChildLemmas
+pub mod CountLemmas
 pub mod NextLemmas
 pub mod Bounds
 pub mod RunLemmas

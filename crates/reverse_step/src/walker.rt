@@ -6,12 +6,12 @@ ghost use Rattle.std.specs.List.{Contains};
 ghost use Rattle.std.specs.Option.{MatchOption};
 ghost use Rattle.lex_pivot.specs.Above.{NoneEnters};
 ghost use Rattle.lex_pivot.specs.Leads.{AreLeads};
-ghost use Rattle.reverse_step.specs.Children.{LeadsToChild, StopsWalk};
+ghost use Rattle.reverse_step.specs.Children.{CountsChildren, LeadsToChild, StopsWalk};
 ghost use Rattle.reverse_step.specs.Ways.{StopsOnTheWay};
 ghost use Rattle.reverse_step.specs.Starts.{unparented, Starts};
 ghost use Rattle.reverse_step.specs.Moves.{IsMovedDown, IsMovedUp, GoesDown, GoesUp, IsVisit, past};
 
-use crate::children::{child_at, first_child};
+use crate::children::{child_at, child_count, first_child};
 use crate::pivots::pivot_over;
 use crate::way::reach;
 use dictionary::{Dict, Steps};
@@ -120,6 +120,13 @@ impl Walker {
         ensures { AreLeads self.now.dict self.now.root result.now }
     {
         &self.leads
+    }
+
+    /// How many children the cobasis has where it stands, whatever columns are still to be tried.
+    pub fn child_count(&self) -> usize
+        ensures { CountsChildren self.now.root self.now.dict result }
+    {
+        child_count(&self.here, &self.order, &self.leads)
     }
 
     /// Passes over the columns that are still to be tried: the next step leads to the parent.

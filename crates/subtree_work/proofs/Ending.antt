@@ -33,9 +33,10 @@ use Rattle.work_core.specs.Splits.{Splits, IsWithinBudget, AreWithin}
 use Rattle.work_core.proofs.WalkedLemmas.{part_then, within-append}
 use Rattle.subtree_work.specs.declared.progress.Progress.{Progress}
 use Rattle.subtree_work.specs.Rows.{lines_of_rows}
-use Rattle.subtree_work.specs.Steps.{FailsAt}
+use Rattle.subtree_work.specs.Steps.{IsKept, FailsAt}
 use Rattle.subtree_work.proofs.RowLines.{rows_of_rows, keys_of_rows}
-use Rattle.subtree_work.proofs.Running.{Running, going_root, new_deep}
+use Rattle.subtree_work.proofs.Running.{Running, IsNear, going_root, new_deep}
+use Rattle.subtree_work.proofs.Sure.{AtLeast, none_at_least}
 
 -- the weights of keys, in the words of a work
 together : (p : Polyhedron) (root : List ℕ) (keys : List (List ℕ)) (w : ℕ) → IsSubtreeTotal p root keys w →
@@ -189,6 +190,12 @@ module _ (p : Polyhedron) (sys : System) (rays : Rays) (budget : Budget) (first 
       some [] c = absurd (Contains-nil first.job c)
       some (k ∷ ks) c = omega arith
 
+      -- none waits
+      none_sure : s.sure ≡ 0
+      none_sure = none_at_least (IsNear p sys rays budget first) s.sure
+          (subst (λ ks. AtLeast (IsNear p sys rays budget first) s.sure ks)
+          (step.moves (main_space p g.search.free) g.search.home g.search.walk_in g.run.depth g.run.waiting g.run.waits).0 g.sure)
+
       budgeted : IsWithinBudget work first.job budget g.given s.count.bases
       budgeted = record {
         whole = length g.visited + total.0;
@@ -198,7 +205,10 @@ module _ (p : Polyhedron) (sys : System) (rays : Rays) (budget : Budget) (first 
         visited = ap (λ n. n + total.0) g.bases;
         some = let a = some g.visited g.begun in let b = g.bases in omega (arith, a, b);
         most = g.most;
-        given = g.back;
+        given = λ k c. ⊎_elim
+            (λ (l : IsKept budget s). let n = none_sure in let m = g.most in inl (omega (arith, l, n, m)))
+            (λ (b : (0 < budget.depth) × IsSubtreeDepth p first.root k first.job budget.depth). inr b)
+            (g.back k c);
         no_deeper = λ l one depth c d. g.no_deeper one c l depth d;
       }
 

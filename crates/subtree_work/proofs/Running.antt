@@ -7,7 +7,7 @@ use Rattle.poly_num.specs.Vectors.{Vector}
 use Rattle.poly_model.specs.declared.listed.Count.{Count}
 use Rattle.poly_model.specs.Dictionaries.{Table}
 use Rattle.poly_model.specs.Spaces.{Space, main_space}
-use Rattle.poly_model.specs.Subtrees.{IsSubtreeRoot, IsSubtreeDepth}
+use Rattle.poly_model.specs.Subtrees.{IsSubtreeRoot, IsSubtreeKey, IsSubtreeDepth}
 use Rattle.poly_model.specs.Systems.{System, Polyhedron}
 use Rattle.poly_model.specs.Tree.{IsAbove}
 use Rattle.linear_laws.proofs.Members.{Contains-nil, Contains-first, Contains-later, Contains-cons_cases}
@@ -21,6 +21,7 @@ use Rattle.dictionary.specs.Views.{table_of}
 use Rattle.reverse_step.specs.declared.walker.Visit.TheVariants.{New, Back}
 use Rattle.reverse_step.specs.Walks.{Walk, IsAtStart}
 use Rattle.reverse_step.specs.Moves.{past, IsAtNew, IsVisit}
+use Rattle.reverse_step.specs.Children.{CountsChildren}
 use Rattle.reverse_step.specs.Runs.{HasRun}
 use Rattle.reverse_step.proofs.RunLemmas.{run_starts, starts_waiting, starts_depth, some_left, at_new, not_visited, run_new, new_waiting, new_depth, run_given, given_waiting, given_depth, run_back, back_waiting, back_depth}
 use Rattle.reverse_step.proofs.DepthLemmas.{stands_at_depth, child_depth, few_labels, few_children}
@@ -34,8 +35,9 @@ use Rattle.work_core.specs.ReplyLines.{ReplyLine, job_line, WritesLines, rows_in
 use Rattle.work_core.proofs.WalkedLemmas.{rows-append, keys-append, writes_then}
 use Rattle.subtree_work.specs.declared.progress.Progress.{Progress}
 use Rattle.subtree_work.specs.Rows.{lines_of_rows, IsShownOf}
-use Rattle.subtree_work.specs.Steps.{AllowsVisit, MustGiveBack, VisitsBase, GivesKeyBack}
+use Rattle.subtree_work.specs.Steps.{counted_depth, AllowsVisit, IsKept, IsMet, IsAhead, VisitsBase, GivesKeyBack, VisitsNew, GivesNewBack}
 use Rattle.subtree_work.proofs.RowLines.{rows_of_rows, keys_of_rows}
+use Rattle.subtree_work.proofs.Sure.{AtLeast, fewer, at_least_behind, at_least_others, at_least_beside, at_least_more, at_least_all}
 
 module _ (p : Polyhedron) (sys : System) (rays : Rays) (budget : Budget) (first : Walk) where
   abbrev IsDepth : List ℕ → ℕ → Type 0
@@ -44,6 +46,10 @@ module _ (p : Polyhedron) (sys : System) (rays : Rays) (budget : Budget) (first 
   -- no deeper than bases were visited, and within the budget
   abbrev IsLow : List (List ℕ) → ℕ → Type 0
   IsLow visited n = (n ≤ length visited) × (0 < budget.depth → n ≤ budget.depth)
+
+  -- no deeper than keys are counted before they are met
+  abbrev pub IsNear : List ℕ → Type 0
+  IsNear key = (n : ℕ) × (n ≤ counted_depth) × IsDepth key n
 
   -- these are visited, those given back, and the others wait; the lines of both were written, and are counted
   pub record Running (walk : Walk) (vector : Vector) (left : ℕ) (s : Progress) (old now : Option (List ℕ)) : Type 0 where
@@ -65,8 +71,9 @@ module _ (p : Polyhedron) (sys : System) (rays : Rays) (budget : Budget) (first 
     pub level : s.depth ≡ run.depth
     pub low : s.depth ≤ length visited
     pub near : (k : List ℕ) → Contains run.waiting k → (n : ℕ) → IsDepth k n → IsLow visited n
-    pub back : (k : List ℕ) → Contains given k →
-        (s.count.bases ≡ budget.bases) ⊎ ((0 < budget.depth) × IsDepth k budget.depth)
+    pub sure : AtLeast IsNear s.sure run.waiting
+    pub plain : 0 < budget.depth → s.sure ≡ 0
+    pub back : (k : List ℕ) → Contains given k → IsKept budget s ⊎ ((0 < budget.depth) × IsDepth k budget.depth)
     pub no_deeper : (k : List ℕ) → Contains given k → 0 < budget.depth → (n : ℕ) → IsDepth k n → n ≤ budget.depth
     pub many : length given + length run.waiting ≤ 8192 * length visited
     pub full : length vectors ≤ 8193 * length visited
@@ -90,25 +97,31 @@ module _ (p : Polyhedron) (sys : System) (rays : Rays) (budget : Budget) (first 
       few_children (main_space p x.free) walk.root x.home st.feasible_root st.ascending walk.dict.key
       (table_of walk.dict) st.feasible cs l
 
-  -- a child of a key at a depth is one deeper, and at that depth alone
+  -- a child of a key at a depth is one deeper
+  deeper : (walk : Walk) (vector : Vector) (x : IsSearch p sys rays walk vector) → (key child : List ℕ) (d : ℕ) →
+      IsChild (main_space p x.free) first.root key child →
+      IsAbove (main_space p x.free) first.root d key first.job → IsDepth child (suc d)
+  deeper walk vector x key child d c above = record {
+    free = x.free;
+    columns = x.columns;
+    above = child_depth (main_space p x.free) first.root first.job key child d c above;
+  }
+
+  -- and at that depth alone
   one_deeper : (walk : Walk) (vector : Vector) (x : IsSearch p sys rays walk vector) → IsSubtreeRoot p first.root →
       (key child : List ℕ) (d : ℕ) → IsChild (main_space p x.free) first.root key child →
       IsAbove (main_space p x.free) first.root d key first.job → (n : ℕ) → IsDepth child n → n ≡ suc d
   one_deeper walk vector x h key child d c above n deep =
       (words.has_shares p first.root h).one_depth child first.job n (suc d)
       (record { free = x.free; columns = x.columns; table = c.0; feasible = c.1 }) deep
-      (record {
-        free = x.free;
-        columns = x.columns;
-        above = child_depth (main_space p x.free) first.root first.job key child d c above;
-      })
+      (deeper walk vector x key child d c above)
 
   -- ---- the beginning
   pub begins : (vector : Vector) → IsSearch p sys rays first vector → IsAtStart first → (left : ℕ) → enough ≤ left →
       (old now : Option (List ℕ)) (c : Count) (s : Progress) → c.rows ≡ 0 → c.jobs ≡ 0 → c.bases ≡ 0 → s.depth ≡ 0 →
-      VisitsBase sys first old now c s.count → 0 < budget.bases → (more : Vector) → length more ≡ length vector →
-      Running first more left s old now
-  begins vector x a left e old now c s no_rows no_jobs no_bases depth v some more width = record {
+      VisitsBase sys first old now c s.count → IsAhead budget first 0 s.sure → 0 < budget.bases → (more : Vector) →
+      length more ≡ length vector → Running first more left s old now
+  begins vector x a left e old now c s no_rows no_jobs no_bases depth v ahead some more width = record {
     search = elsewhere p sys rays first vector x first more x.walk_in x.phase width;
     visited = first.dict.key ∷ [];
     given = [];
@@ -130,6 +143,14 @@ module _ (p : Polyhedron) (sys : System) (rays : Rays) (budget : Budget) (first 
         let one : n ≡ 1 = one_deeper first vector x (subtree_root p sys rays first vector x) first.dict.key k 0
         (children.only k c) a.key n deep in
         (omega (arith, one), λ l. omega (arith, one, l));
+    sure = ⊎_elim
+        (λ (n : s.sure ≡ 0). subst (λ i. AtLeast IsNear i run.waiting) (sym n) tt)
+        (λ (m : (0 < counted_depth) × CountsChildren first.root first.dict s.sure).
+        subst (λ i. AtLeast IsNear i run.waiting) (sym (m.1 main x.home x.walk_in.stands run.waiting children))
+        (at_least_all IsNear run.waiting
+        (λ k c. (1, m.0, deeper first vector x first.dict.key k 0 (children.only k c) a.key))))
+        ahead.some;
+    plain = ahead.none;
     back = λ k m. absurd (Contains-nil k m);
     no_deeper = λ k m. absurd (Contains-nil k m);
     many = let f = children_few first vector x run.waiting children in omega (arith, f);
@@ -195,6 +216,14 @@ module _ (p : Polyhedron) (sys : System) (rays : Rays) (budget : Budget) (first 
       pub new_deep : IsDepth new.dict.key (suc g.run.depth)
       new_deep = record { free = g.search.free; columns = g.search.columns; above = above }
 
+      new_key : IsSubtreeKey p first.root new.dict.key
+      new_key = subst (λ r. IsSubtreeKey p r new.dict.key) same_root (record {
+        free = g.search.free;
+        columns = g.search.columns;
+        table = table_of new.dict;
+        feasible = (step.walk main home g.search.walk_in).stands.feasible;
+      })
+
       waits : Contains g.run.waiting new.dict.key
       waits = subst (λ ks. Contains ks new.dict.key) (sym at.first) (Contains-first new.dict.key at.rest)
 
@@ -210,10 +239,62 @@ module _ (p : Polyhedron) (sys : System) (rays : Rays) (budget : Budget) (first 
       still_waits k c n deep =
           g.near k (subst (λ ks. Contains ks k) (sym at.first) (Contains-later k new.dict.key at.rest c)) n deep
 
+      -- what is sure to be met behind it
+      module _ (met : Progress) (is_met : IsMet s met) where
+        near_or_deep : (met.depth ≤ counted_depth) ⊎ (counted_depth < met.depth)
+        near_or_deep = by met.depth counted_depth
+          where
+            by : (m n : ℕ) → (m ≤ n) ⊎ (n < m)
+            by m n = grind arith
+
+        pub met_sure : AtLeast IsNear met.sure at.rest
+        met_sure =
+            let all : AtLeast IsNear s.sure (new.dict.key ∷ at.rest) =
+            subst (λ ks. AtLeast IsNear s.sure ks) at.first g.sure in
+            ⊎_elim
+            (λ (l : met.depth ≤ counted_depth). subst (λ n. AtLeast IsNear n at.rest) (sym (is_met.near l))
+            (at_least_behind IsNear s.sure new.dict.key at.rest all))
+            (λ (l : counted_depth < met.depth). subst (λ n. AtLeast IsNear n at.rest) (sym (is_met.deep l))
+            (at_least_others IsNear s.sure new.dict.key at.rest (too_deep l) all))
+            near_or_deep
+          where
+            too_deep : counted_depth < met.depth → IsNear new.dict.key → ⊥
+            too_deep l (n, near, deep) =
+                let one : n ≡ suc g.run.depth =
+                (words.has_shares p first.root root).one_depth new.dict.key first.job n (suc g.run.depth) new_key deep
+                new_deep in
+                let a = g.level in let b = is_met.depth in omega (arith, one, near, l, a, b)
+
+        pub no_more : met.sure ≤ s.sure
+        no_more = ⊎_elim
+            (λ (l : met.depth ≤ counted_depth). let e = is_met.near l in omega (arith, e))
+            (λ (l : counted_depth < met.depth). let e = is_met.deep l in omega (arith, e))
+            near_or_deep
+
+        pub one_less : s.sure ≤ met.sure + 1
+        one_less = ⊎_elim
+            (λ (l : met.depth ≤ counted_depth). let e = is_met.near l in omega (arith, e))
+            (λ (l : counted_depth < met.depth). let e = is_met.deep l in omega (arith, e))
+            near_or_deep
+
+        pub same_bases : met.count.bases ≡ s.count.bases
+        same_bases = ap (λ (c : Count). c.bases) is_met.count
+
       -- it is visited
-      module _ (t : Progress) (then : Option (List ℕ)) (deep : t.depth ≡ s.depth + 1)
-          (may : AllowsVisit budget t.depth s.count.bases) (v : VisitsBase sys new now then s.count t.count)
-          (more : Vector) (width : length more ≡ length vector) where
+      module _ (after_it : Walk) (met : Progress) (is_met : IsMet s met) (t : Progress) (then : Option (List ℕ))
+          (x : VisitsNew budget sys new after_it met now then t) (more : Vector) (width : length more ≡ length vector) where
+        deep : t.depth ≡ s.depth + 1
+        deep = x.depth ∙ is_met.depth
+
+        may : AllowsVisit budget t.depth s.count.bases
+        may = record {
+          bases_left = let l = x.allowed.bases_left in let e = same_bases met is_met in omega (arith, l, e);
+          above = λ some. let u = x.allowed.above some in let e = x.depth in omega (arith, u, e);
+        }
+
+        v : VisitsBase sys new now then s.count t.count
+        v = subst (λ (c : Count). VisitsBase sys new now then c t.count) is_met.count x.visits
+
         abbrev ys : List Vector
         ys = column_rows sys new.dict v.shown
 
@@ -245,6 +326,21 @@ module _ (p : Polyhedron) (sys : System) (rays : Rays) (budget : Budget) (first 
             let a = l.0 in (omega (arith, a), l.1))
             (Contains-append_cases at.cs at.rest k (subst (λ ks. Contains ks k) waiting_is c))
 
+        -- those that wait behind it, and its children
+        sure_then : AtLeast IsNear t.sure (at.cs ++ at.rest)
+        sure_then = ⊎_elim
+            (λ (n : x.children ≡ 0). at_least_beside IsNear t.sure at.cs at.rest
+            (fewer IsNear t.sure met.sure at.rest (let m = x.most in omega (arith, m, n)) (met_sure met is_met)))
+            (λ (m : (met.depth < counted_depth) × CountsChildren new.root new.dict x.children).
+            let e = m.1 main home (step.walk main home g.search.walk_in).stands at.cs at.children in
+            fewer IsNear t.sure (length at.cs + met.sure) (at.cs ++ at.rest) (let l = x.most in omega (arith, l, e))
+            (at_least_more IsNear (length at.cs + met.sure) met.sure at.cs at.rest (λ k c. (
+              suc (suc g.run.depth),
+              let l = m.0 in let a = g.level in let b = is_met.depth in omega (arith, l, a, b),
+              deeper walk vector g.search new.dict.key k (suc g.run.depth) (children.only k c) above,
+            )) (met_sure met is_met) refl))
+            x.ahead.some
+
         pub goes_new : Running new more left t old then
         goes_new = record {
           search = moved more width;
@@ -269,8 +365,12 @@ module _ (p : Polyhedron) (sys : System) (rays : Rays) (budget : Budget) (first 
               let b = new_depth main home first walk new g.visited g.given left g.taken g.run step in omega (arith, deep, a, b);
           low = let a = g.low in omega (arith, deep, a);
           near = close;
+          sure = subst (λ ks. AtLeast IsNear t.sure ks) (sym waiting_is) sure_then;
+          plain = λ some. let a = g.plain some in let b = no_more met is_met in let c = x.ahead.none some in
+              let l = x.most in omega (arith, a, b, c, l);
           back = λ k m. ⊎_elim
-              (λ (e : s.count.bases ≡ budget.bases). let l = may.bases_left in absurd (omega (arith, e, l)))
+              (λ (l : IsKept budget s). let a = one_less met is_met in let b = x.least in let c = v.bases in
+              inl (omega (arith, l, a, b, c)))
               (λ (b : (0 < budget.depth) × IsDepth k budget.depth). inr b) (g.back k m);
           no_deeper = g.no_deeper;
           many = let a = g.many in let b = ap length waiting_is in let c = ap length at.first in
@@ -282,9 +382,14 @@ module _ (p : Polyhedron) (sys : System) (rays : Rays) (budget : Budget) (first 
         }
 
       -- it is given back
-      module _ (t : Progress) (then : Option (List ℕ)) (deep : t.depth ≡ s.depth + 1)
-          (must : MustGiveBack budget t.depth s.count.bases) (v : GivesKeyBack new.dict.key now then s.count t.count)
-          (more : Vector) (width : length more ≡ length vector) where
+      module _ (after_it : Walk) (met : Progress) (is_met : IsMet s met) (t : Progress) (then : Option (List ℕ))
+          (x : GivesNewBack budget new after_it met now then t) (more : Vector) (width : length more ≡ length vector) where
+        given_deep : t.depth ≡ s.depth + 1
+        given_deep = x.depth ∙ is_met.depth
+
+        gives : GivesKeyBack new.dict.key now then s.count t.count
+        gives = subst (λ (c : Count). GivesKeyBack new.dict.key now then c t.count) is_met.count x.gives
+
         abbrev passed : HasRun main home first (past new) g.visited (g.given ++ new.dict.key ∷ []) left (g.taken + 1)
         passed = run_given main home first walk new g.visited g.given left g.taken g.run step
 
@@ -295,15 +400,26 @@ module _ (p : Polyhedron) (sys : System) (rays : Rays) (budget : Budget) (first 
         only_new k m = ⊎_elim (λ (e : new.dict.key ≡ k). e) (λ (n : Contains [] k). absurd (Contains-nil k n))
             (Contains-cons_cases k new.dict.key [] m)
 
-        -- the base budget is used up, or it is at the depth budget
-        why : (t.count.bases ≡ budget.bases) ⊎ ((0 < budget.depth) × IsDepth new.dict.key budget.depth)
+        -- the bases that are left can be visited elsewhere, or it is at the depth budget
+        kept_still : IsKept budget met → IsKept budget t
+        kept_still l = let a = same_bases met is_met in let b = gives.bases in let c = x.sure in omega (arith, l, a, b, c)
+
+        why : IsKept budget t ⊎ ((0 < budget.depth) × IsDepth new.dict.key budget.depth)
         why = ⊎_elim
-            (λ (l : budget.bases ≤ s.count.bases). let a = g.most in let b = v.bases in inl (omega (arith, l, a, b)))
-            (λ (l : (0 < budget.depth) × (budget.depth ≤ t.depth)).
-            let a = l.1 in let b = new_low.1 l.0 in let c = g.level in
-            let e : suc g.run.depth ≡ budget.depth = omega (arith, a, b, c, deep) in
+            (λ (l : IsKept budget met). inl (kept_still l))
+            (λ (l : (0 < budget.depth) × (budget.depth ≤ met.depth)).
+            let a = l.1 in let b = new_low.1 l.0 in let c = g.level in let d = x.depth in
+            let e : suc g.run.depth ≡ budget.depth = omega (arith, a, b, c, d, given_deep) in
             inr (l.0, subst (IsDepth new.dict.key) e new_deep))
-            must
+            x.allowed
+
+        -- and so it is with a key that was given back before
+        kept_before : IsKept budget s → IsKept budget t
+        kept_before l = ⊎_elim
+            (λ (k : IsKept budget met). kept_still k)
+            (λ (k : (0 < budget.depth) × (budget.depth ≤ met.depth)).
+            let a = g.plain k.0 in let b = gives.bases in omega (arith, l, a, b))
+            x.allowed
 
         low_new : 0 < budget.depth → (n : ℕ) → IsDepth new.dict.key n → n ≤ budget.depth
         low_new some n d = (g.near new.dict.key waits n d).1 some
@@ -323,23 +439,26 @@ module _ (p : Polyhedron) (sys : System) (rays : Rays) (budget : Budget) (first 
           vectors = g.vectors;
           shown = g.shown;
           lines = g.lines ++ line;
-          written = writes_then old now then g.lines line g.written v.written;
+          written = writes_then old now then g.lines line g.written gives.written;
           vectors_in = rows-append g.lines line ∙ append-nil (rows_in_lines g.lines) ∙ g.vectors_in;
           keys_in = keys-append g.lines line ∙ ap (λ ks. ks ++ new.dict.key ∷ []) g.keys_in;
-          rows = v.rows ∙ g.rows;
-          jobs = let a = v.jobs in let b = g.jobs in let l = length-append g.given (new.dict.key ∷ []) in omega (arith, a, b, l);
-          bases = v.bases ∙ g.bases;
+          rows = gives.rows ∙ g.rows;
+          jobs = let a = gives.jobs in let b = g.jobs in let l = length-append g.given (new.dict.key ∷ []) in omega (arith, a, b, l);
+          bases = gives.bases ∙ g.bases;
           level = let a = g.level in
               let b = given_depth main home first walk new g.visited g.given left g.taken g.run step in
-              omega (arith, deep, a, b);
-          low = let a = g.level in let b = new_low.0 in omega (arith, deep, a, b);
+              omega (arith, given_deep, a, b);
+          low = let a = g.level in let b = new_low.0 in omega (arith, given_deep, a, b);
           near = λ k c n d. still_waits k (subst (λ ks. Contains ks k) rest_is c) n d;
+          sure = subst (λ ks. AtLeast IsNear t.sure ks) (sym rest_is)
+              (subst (λ n. AtLeast IsNear n at.rest) (sym x.sure) (met_sure met is_met));
+          plain = λ some. let a = g.plain some in let b = no_more met is_met in let c = x.sure in omega (arith, a, b, c);
           back = λ k m. ⊎_elim
               (λ (c : Contains g.given k). ⊎_elim
-              (λ (e : s.count.bases ≡ budget.bases). inl (v.bases ∙ e))
+              (λ (l : IsKept budget s). inl (kept_before l))
               (λ (b : (0 < budget.depth) × IsDepth k budget.depth). inr b) (g.back k c))
               (λ (c : Contains (new.dict.key ∷ []) k).
-              subst (λ o. (t.count.bases ≡ budget.bases) ⊎ ((0 < budget.depth) × IsDepth o budget.depth)) (only_new k c) why)
+              subst (λ o. IsKept budget t ⊎ ((0 < budget.depth) × IsDepth o budget.depth)) (only_new k c) why)
               (Contains-append_cases g.given (new.dict.key ∷ []) k m);
           no_deeper = λ k m. ⊎_elim
               (λ (c : Contains g.given k). g.no_deeper k c)
@@ -349,13 +468,14 @@ module _ (p : Polyhedron) (sys : System) (rays : Rays) (budget : Budget) (first 
           many = let a = g.many in let b = ap length rest_is in let c = ap length at.first in
               let l = length-append g.given (new.dict.key ∷ []) in omega (arith, a, b, c, l);
           full = g.full;
-          most = let a = g.most in let b = v.bases in omega (arith, a, b);
+          most = let a = g.most in let b = gives.bases in omega (arith, a, b);
         }
 
     -- back at the parent
     pub goes_back : (new : Walk) → IsVisit walk Back new → (t : Progress) (then : Option (List ℕ)) → t.depth ≡ s.depth - 1 →
-        t.count ≡ s.count → then ≡ now → (more : Vector) → length more ≡ length vector → Running new more left t old then
-    goes_back new step t then deep counts same more width = record {
+        t.count ≡ s.count → t.sure ≡ s.sure → then ≡ now → (more : Vector) → length more ≡ length vector →
+        Running new more left t old then
+    goes_back new step t then deep counts sure same more width = record {
       search = elsewhere p sys rays walk vector g.search new more (step.walk main home g.search.walk_in)
           (step.phase ∙ g.search.phase) width;
       visited = g.visited;
@@ -375,8 +495,10 @@ module _ (p : Polyhedron) (sys : System) (rays : Rays) (budget : Budget) (first 
       level = let a = g.level in let b = up in omega (arith, deep, a, b);
       low = let a = g.low in omega (arith, deep, a);
       near = λ k c n d. g.near k (subst (λ ks. Contains ks k) waiting_is c) n d;
+      sure = subst (λ ks. AtLeast IsNear t.sure ks) (sym waiting_is) (subst (λ n. AtLeast IsNear n g.run.waiting) (sym sure) g.sure);
+      plain = λ some. sure ∙ g.plain some;
       back = λ k m. ⊎_elim
-          (λ (e : s.count.bases ≡ budget.bases). inl (ap (λ (c : Count). c.bases) counts ∙ e))
+          (λ (l : IsKept budget s). let e = ap (λ (c : Count). c.bases) counts in inl (omega (arith, l, e, sure)))
           (λ (b : (0 < budget.depth) × IsDepth k budget.depth). inr b) (g.back k m);
       no_deeper = g.no_deeper;
       many = let a = g.many in let b = ap length waiting_is in omega (arith, a, b);

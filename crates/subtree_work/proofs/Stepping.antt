@@ -29,8 +29,8 @@ use Rattle.subtree_work.proofs.Running.{Running, goes_new, goes_given, goes_back
 use Rattle.subtree_work.proofs.Ending.{cut_now, due_now, torn_now, whole_run}
 
 -- a write failed at a new cobasis
-pub fails_there : (sys : System) (before after : Walk) (old new : Option (List ℕ)) (stop : WorkStop) →
-    ((o : Passed) → IsErrOf {T = Count} {E = WorkStop} (Err stop) (WorkStop.Overflow o) → ⊥) → IsVisit before New after →
+pub fails_there : {T : Type 0} (sys : System) (before after : Walk) (old new : Option (List ℕ)) (stop : WorkStop) →
+    ((o : Passed) → IsErrOf {T = T} {E = WorkStop} (Err stop) (WorkStop.Overflow o) → ⊥) → IsVisit before New after →
     FailsAt sys after old new → StopsRun sys before after old new stop
 fails_there sys before after old new (Overflow o) n v f = absurd (n o refl)
 fails_there sys before after old new WriteFault n v f = (v, f)
@@ -76,20 +76,20 @@ module _ (p : Polyhedron) (sys : System) (rays : Rays) (budget : Budget) (first 
     stopped stop x = subst (λ (y : System). StopsRun y walk new now then stop) same_sys x
 
     met : (x : MeetsNewBase budget sys walk new s now t then) →
-        VisitsOrGivesBack budget sys x.there new t.depth now then s.count t.count → Runs new more left t old then
-    met x (inl (may, same, v)) =
-        subst (λ (w : Walk). Runs w more left t old then) (sym same)
-        (goes_new p sys rays budget first walk vector left s old now g x.there x.visit t then x.depth may v more width)
-    met x (inr (must, same, v)) =
-        subst (λ (w : Walk). Runs w more left t old then) (sym same)
-        (goes_given p sys rays budget first walk vector left s old now g x.there x.visit t then x.depth must v more width)
+        VisitsOrGivesBack budget sys x.there new x.met now then t → Runs new more left t old then
+    met x (inl v) =
+        subst (λ (w : Walk). Runs w more left t old then) (sym v.stays)
+        (goes_new p sys rays budget first walk vector left s old now g x.there x.visit new x.met x.is_met t then v more width)
+    met x (inr v) =
+        subst (λ (w : Walk). Runs w more left t old then) (sym v.passed)
+        (goes_given p sys rays budget first walk vector left s old now g x.there x.visit new x.met x.is_met t then v more width)
 
     -- ---- it goes on
     on_by : (visit : Visit) → (visit ≡ End → ⊥) → MovesOn budget sys walk visit new s now t then →
         Runs new more left t old then
     on_by New n x = met x x.meets
-    on_by Back n (v, d, c, e) =
-        goes_back p sys rays budget first walk vector left s old now g new v t then d c e more width
+    on_by Back n (v, d, c, u, e) =
+        goes_back p sys rays budget first walk vector left s old now g new v t then d c u e more width
     on_by End n x = absurd (n refl)
 
     pub takes_on : (visit : Visit) → (visit ≡ End → ⊥) → MovesOn budget seen walk visit new s now t then →

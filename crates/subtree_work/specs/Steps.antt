@@ -7,14 +7,18 @@ use Rattle.reverse_step.specs.declared.walker.Visit.{Visit}
 use Rattle.reverse_step.specs.declared.walker.Visit.TheVariants.{New, Back, End}
 use Rattle.reverse_step.specs.Walks.{Walk}
 use Rattle.reverse_step.specs.Moves.{past, IsVisit}
-use Rattle.reverse_step.specs.Children.{StopsWalk}
+use Rattle.reverse_step.specs.Children.{CountsChildren, StopsWalk}
 use Rattle.convert_core.specs.Rows.{columns_of, column_rows}
 use Rattle.work_core.specs.declared.budget.Budget.{Budget}
 use Rattle.work_core.specs.declared.stops.WorkStop.{WorkStop}
 use Rattle.work_core.specs.declared.stops.WorkStop.TheVariants.{Overflow, WriteFault}
 use Rattle.work_core.specs.ReplyLines.{job_line, WritesLines, WritesPartOfLines}
 use Rattle.subtree_work.specs.declared.progress.Progress.{Progress}
+use Rattle.subtree_work.specs.declared.progress.TheConstants as constants
 use Rattle.subtree_work.specs.Rows.{lines_of_rows, IsShownOf, TearsRows}
+
+abbrev pub counted_depth : ℕ
+counted_depth = constants.COUNTED_DEPTH
 
 -- ---- the budget
 -- a base may be visited at this depth, after so many
@@ -25,6 +29,28 @@ pub record AllowsVisit (budget : Budget) (depth bases : ℕ) : Type 0 where
 -- it may not
 abbrev pub MustGiveBack : Budget → ℕ → ℕ → Type 0
 MustGiveBack budget depth bases = (budget.bases ≤ bases) ⊎ ((0 < budget.depth) × (budget.depth ≤ depth))
+
+-- no more bases are left than keys are sure to be met
+abbrev pub IsKept : Budget → Progress → Type 0
+IsKept budget s = budget.bases ≤ s.count.bases + s.sure
+
+-- its key may be given back: the bases that are left can be visited elsewhere, or it is at the depth budget
+abbrev pub MayGiveBack : Budget → Progress → Type 0
+MayGiveBack budget s = IsKept budget s ⊎ ((0 < budget.depth) × (budget.depth ≤ s.depth))
+
+-- ---- keys that are sure to be met
+-- one deeper, where a key was met: down to the counted depth it was one of them
+pub record IsMet (s met : Progress) : Type 0 where
+  pub depth : met.depth ≡ s.depth + 1
+  pub count : met.count ≡ s.count
+  pub near : met.depth ≤ counted_depth → met.sure ≡ s.sure - 1
+  pub deep : counted_depth < met.depth → met.sure ≡ s.sure
+
+-- so many more are sure where this cobasis is visited: its children, where they are in the counted depth and there is no
+-- depth budget, or none
+pub record IsAhead (budget : Budget) (walk : Walk) (depth children : ℕ) : Type 0 where
+  pub some : (children ≡ 0) ⊎ ((depth < counted_depth) × CountsChildren walk.root walk.dict children)
+  pub none : 0 < budget.depth → children ≡ 0
 
 -- ---- at a new cobasis
 -- one base more: the rows that are shown there were written, and are counted
@@ -43,11 +69,30 @@ pub record GivesKeyBack (key : List ℕ) (old new : Option (List ℕ)) (before a
   pub jobs : after.jobs ≡ before.jobs + 1
   pub bases : after.bases ≡ before.bases
 
--- it was visited where it may be, and else given back; then its columns are passed over
-abbrev pub VisitsOrGivesBack : Budget → System → Walk → Walk → ℕ → Option (List ℕ) → Option (List ℕ) → Count → Count → Type 0
-VisitsOrGivesBack budget sys there after depth old new c e =
-    (AllowsVisit budget depth c.bases × (after ≡ there) × VisitsBase sys there old new c e)
-    ⊎ (MustGiveBack budget depth c.bases × (after ≡ past there) × GivesKeyBack there.dict.key old new c e)
+-- it was visited, and its children are sure to be met
+pub record VisitsNew (budget : Budget) (sys : System) (there after : Walk) (met : Progress) (old new : Option (List ℕ))
+    (t : Progress) : Type 0 where
+  pub allowed : AllowsVisit budget met.depth met.count.bases
+  pub stays : after ≡ there
+  pub visits : VisitsBase sys there old new met.count t.count
+  pub depth : t.depth ≡ met.depth
+  pub children : ℕ
+  pub ahead : IsAhead budget there met.depth children
+  pub least : met.sure ≤ t.sure
+  pub most : t.sure ≤ met.sure + children
+
+-- its key was given back, and its columns are passed over
+pub record GivesNewBack (budget : Budget) (there after : Walk) (met : Progress) (old new : Option (List ℕ)) (t : Progress) :
+    Type 0 where
+  pub allowed : MayGiveBack budget met
+  pub passed : after ≡ past there
+  pub gives : GivesKeyBack there.dict.key old new met.count t.count
+  pub depth : t.depth ≡ met.depth
+  pub sure : t.sure ≡ met.sure
+
+abbrev pub VisitsOrGivesBack : Budget → System → Walk → Walk → Progress → Option (List ℕ) → Option (List ℕ) → Progress → Type 0
+VisitsOrGivesBack budget sys there after met old new t =
+    VisitsNew budget sys there after met old new t ⊎ GivesNewBack budget there after met old new t
 
 -- a write failed there: in the lines of its rows, or in the line that gives its key back
 abbrev pub FailsAt : System → Walk → Option (List ℕ) → Option (List ℕ) → Type 0
@@ -60,13 +105,14 @@ pub record MeetsNewBase (budget : Budget) (sys : System) (before after : Walk) (
     (t : Progress) (new : Option (List ℕ)) : Type 0 where
   pub there : Walk
   pub visit : IsVisit before New there
-  pub depth : t.depth ≡ s.depth + 1
-  pub meets : VisitsOrGivesBack budget sys there after t.depth old new s.count t.count
+  pub met : Progress
+  pub is_met : IsMet s met
+  pub meets : VisitsOrGivesBack budget sys there after met old new t
 
 abbrev pub MovesOn : Budget → System → Walk → Visit → Walk → Progress → Option (List ℕ) → Progress → Option (List ℕ) → Type 0
 MovesOn budget sys before New after s old t new = MeetsNewBase budget sys before after s old t new
 MovesOn budget sys before Back after s old t new =
-    IsVisit before Back after × (t.depth ≡ s.depth - 1) × (t.count ≡ s.count) × (new ≡ old)
+    IsVisit before Back after × (t.depth ≡ s.depth - 1) × (t.count ≡ s.count) × (t.sure ≡ s.sure) × (new ≡ old)
 MovesOn budget sys before End after s old t new = IsVisit before End after × (t ≡ s) × (new ≡ old)
 
 -- a number passes in its pivot, and nothing has changed; or a write failed at a new cobasis

@@ -4,6 +4,7 @@
 #![tactic(auto)]
 
 mod begin;
+mod leaves;
 mod progress;
 mod rows;
 mod search;

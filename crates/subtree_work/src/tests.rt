@@ -1,5 +1,5 @@
-//! The pyramid over a square, a quadrant, a plane without rows and a triangle of points, under several budgets, and a sink
-//! that fails; and roots and keys that are none.
+//! The pyramid over a square, a quadrant, a plane without rows, a triangle of points and a polytope with six facets, under
+//! several budgets, and a sink that fails; and roots and keys that are none.
 use crate::{SubtreeStop, SubtreeWork};
 use hull_lift::system_of;
 use poly_io::{Call, MemSink, Sink};
@@ -63,6 +63,16 @@ const TRIANGLE: File = File {
     linear: &[],
 };
 
+/// A simple polytope with six facets and eight vertices.
+const SIX_FACETS: File = File {
+    kind: Kind::H,
+    n: 4,
+    entries: &[
+        1, -3, -3, -3, 1, -1, -3, 1, 1, -1, 0, 0, 1, 1, -3, -1, 1, 1, 3, 1, 1, 3, 0, 2,
+    ],
+    linear: &[],
+};
+
 /// `x >= 0`, `x <= 1`, `x <= 2`.
 const SEGMENT: File = File {
     kind: Kind::H,
@@ -91,7 +101,7 @@ const PYRAMID_JOB: Job = Job {
     count: None,
 };
 
-const JOBS: [Job; 7] = [
+const JOBS: [Job; 8] = [
     Job {
         bases: 1,
         text: "row 1 1 1 0\njob 3 2 4 5\njob 3 1 3 4\njob 3 1 2 5\n",
@@ -171,6 +181,21 @@ const JOBS: [Job; 7] = [
             rows: 3,
             jobs: 0,
             bases: 1,
+        }),
+    },
+    // the last base is kept for a leaf, the child of the root that comes last: else two keys would be given back
+    Job {
+        file: SIX_FACETS,
+        root: &[1, 2, 3],
+        key: &[1, 2, 3],
+        bases: 6,
+        depth: 0,
+        writes: &[],
+        text: "row 6 6 -1 -3\nrow 3 3 -1 -3\nrow 9 3 -1 -9\nrow 3 -3 -1 3\nrow 15 -3 5 -3\njob 3 1 3 5\nrow 3 0 1 0\n",
+        count: Some(Count {
+            rows: 6,
+            jobs: 1,
+            bases: 6,
         }),
     },
 ];
