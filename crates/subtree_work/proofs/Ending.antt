@@ -33,7 +33,7 @@ use Rattle.work_core.specs.Splits.{Splits, IsWithinBudget, AreWithin}
 use Rattle.work_core.proofs.WalkedLemmas.{part_then, within-append}
 use Rattle.subtree_work.specs.declared.progress.Progress.{Progress}
 use Rattle.subtree_work.specs.Rows.{lines_of_rows}
-use Rattle.subtree_work.specs.Steps.{IsKept, FailsAt}
+use Rattle.subtree_work.specs.Steps.{IsCovered, FailsAt}
 use Rattle.subtree_work.proofs.RowLines.{rows_of_rows, keys_of_rows}
 use Rattle.subtree_work.proofs.Running.{Running, IsNear, going_root, new_deep}
 use Rattle.subtree_work.proofs.Sure.{AtLeast, none_at_least}
@@ -206,7 +206,7 @@ module _ (p : Polyhedron) (sys : System) (rays : Rays) (budget : Budget) (first 
         some = let a = some g.visited g.begun in let b = g.bases in omega (arith, a, b);
         most = g.most;
         given = λ k c. ⊎_elim
-            (λ (l : IsKept budget s). let n = none_sure in let m = g.most in inl (omega (arith, l, n, m)))
+            (λ (l : IsCovered budget s). let n = none_sure in let m = g.most in inl (omega (arith, l, n, m)))
             (λ (b : (0 < budget.depth) × IsSubtreeDepth p first.root k first.job budget.depth). inr b)
             (g.back k c);
         no_deeper = λ l one depth c d. g.no_deeper one c l depth d;

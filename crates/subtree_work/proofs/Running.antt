@@ -35,7 +35,7 @@ use Rattle.work_core.specs.ReplyLines.{ReplyLine, job_line, WritesLines, rows_in
 use Rattle.work_core.proofs.WalkedLemmas.{rows-append, keys-append, writes_then}
 use Rattle.subtree_work.specs.declared.progress.Progress.{Progress}
 use Rattle.subtree_work.specs.Rows.{lines_of_rows, IsShownOf}
-use Rattle.subtree_work.specs.Steps.{counted_depth, AllowsVisit, IsKept, IsMet, IsAhead, VisitsBase, GivesKeyBack, VisitsNew, GivesNewBack}
+use Rattle.subtree_work.specs.Steps.{counted_depth, AllowsVisit, IsCovered, IsMet, IsAhead, VisitsBase, GivesKeyBack, VisitsNew, GivesNewBack}
 use Rattle.subtree_work.proofs.RowLines.{rows_of_rows, keys_of_rows}
 use Rattle.subtree_work.proofs.Sure.{AtLeast, fewer, at_least_behind, at_least_others, at_least_beside, at_least_more, at_least_all}
 
@@ -73,7 +73,7 @@ module _ (p : Polyhedron) (sys : System) (rays : Rays) (budget : Budget) (first 
     pub near : (k : List ℕ) → Contains run.waiting k → (n : ℕ) → IsDepth k n → IsLow visited n
     pub sure : AtLeast IsNear s.sure run.waiting
     pub plain : 0 < budget.depth → s.sure ≡ 0
-    pub back : (k : List ℕ) → Contains given k → IsKept budget s ⊎ ((0 < budget.depth) × IsDepth k budget.depth)
+    pub back : (k : List ℕ) → Contains given k → IsCovered budget s ⊎ ((0 < budget.depth) × IsDepth k budget.depth)
     pub no_deeper : (k : List ℕ) → Contains given k → 0 < budget.depth → (n : ℕ) → IsDepth k n → n ≤ budget.depth
     pub many : length given + length run.waiting ≤ 8192 * length visited
     pub full : length vectors ≤ 8193 * length visited
@@ -369,7 +369,7 @@ module _ (p : Polyhedron) (sys : System) (rays : Rays) (budget : Budget) (first 
           plain = λ some. let a = g.plain some in let b = no_more met is_met in let c = x.ahead.none some in
               let l = x.most in omega (arith, a, b, c, l);
           back = λ k m. ⊎_elim
-              (λ (l : IsKept budget s). let a = one_less met is_met in let b = x.least in let c = v.bases in
+              (λ (l : IsCovered budget s). let a = one_less met is_met in let b = x.least in let c = v.bases in
               inl (omega (arith, l, a, b, c)))
               (λ (b : (0 < budget.depth) × IsDepth k budget.depth). inr b) (g.back k m);
           no_deeper = g.no_deeper;
@@ -401,12 +401,12 @@ module _ (p : Polyhedron) (sys : System) (rays : Rays) (budget : Budget) (first 
             (Contains-cons_cases k new.dict.key [] m)
 
         -- the bases that are left can be visited elsewhere, or it is at the depth budget
-        kept_still : IsKept budget met → IsKept budget t
+        kept_still : IsCovered budget met → IsCovered budget t
         kept_still l = let a = same_bases met is_met in let b = gives.bases in let c = x.sure in omega (arith, l, a, b, c)
 
-        why : IsKept budget t ⊎ ((0 < budget.depth) × IsDepth new.dict.key budget.depth)
+        why : IsCovered budget t ⊎ ((0 < budget.depth) × IsDepth new.dict.key budget.depth)
         why = ⊎_elim
-            (λ (l : IsKept budget met). inl (kept_still l))
+            (λ (l : IsCovered budget met). inl (kept_still l))
             (λ (l : (0 < budget.depth) × (budget.depth ≤ met.depth)).
             let a = l.1 in let b = new_low.1 l.0 in let c = g.level in let d = x.depth in
             let e : suc g.run.depth ≡ budget.depth = omega (arith, a, b, c, d, given_deep) in
@@ -414,9 +414,9 @@ module _ (p : Polyhedron) (sys : System) (rays : Rays) (budget : Budget) (first 
             x.allowed
 
         -- and so it is with a key that was given back before
-        kept_before : IsKept budget s → IsKept budget t
+        kept_before : IsCovered budget s → IsCovered budget t
         kept_before l = ⊎_elim
-            (λ (k : IsKept budget met). kept_still k)
+            (λ (k : IsCovered budget met). kept_still k)
             (λ (k : (0 < budget.depth) × (budget.depth ≤ met.depth)).
             let a = g.plain k.0 in let b = gives.bases in omega (arith, l, a, b))
             x.allowed
@@ -455,10 +455,10 @@ module _ (p : Polyhedron) (sys : System) (rays : Rays) (budget : Budget) (first 
           plain = λ some. let a = g.plain some in let b = no_more met is_met in let c = x.sure in omega (arith, a, b, c);
           back = λ k m. ⊎_elim
               (λ (c : Contains g.given k). ⊎_elim
-              (λ (l : IsKept budget s). inl (kept_before l))
+              (λ (l : IsCovered budget s). inl (kept_before l))
               (λ (b : (0 < budget.depth) × IsDepth k budget.depth). inr b) (g.back k c))
               (λ (c : Contains (new.dict.key ∷ []) k).
-              subst (λ o. IsKept budget t ⊎ ((0 < budget.depth) × IsDepth o budget.depth)) (only_new k c) why)
+              subst (λ o. IsCovered budget t ⊎ ((0 < budget.depth) × IsDepth o budget.depth)) (only_new k c) why)
               (Contains-append_cases g.given (new.dict.key ∷ []) k m);
           no_deeper = λ k m. ⊎_elim
               (λ (c : Contains g.given k). g.no_deeper k c)
@@ -498,7 +498,7 @@ module _ (p : Polyhedron) (sys : System) (rays : Rays) (budget : Budget) (first 
       sure = subst (λ ks. AtLeast IsNear t.sure ks) (sym waiting_is) (subst (λ n. AtLeast IsNear n g.run.waiting) (sym sure) g.sure);
       plain = λ some. sure ∙ g.plain some;
       back = λ k m. ⊎_elim
-          (λ (l : IsKept budget s). let e = ap (λ (c : Count). c.bases) counts in inl (omega (arith, l, e, sure)))
+          (λ (l : IsCovered budget s). let e = ap (λ (c : Count). c.bases) counts in inl (omega (arith, l, e, sure)))
           (λ (b : (0 < budget.depth) × IsDepth k budget.depth). inr b) (g.back k m);
       no_deeper = g.no_deeper;
       many = let a = g.many in let b = ap length waiting_is in omega (arith, a, b);

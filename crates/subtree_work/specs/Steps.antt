@@ -31,12 +31,12 @@ abbrev pub MustGiveBack : Budget → ℕ → ℕ → Type 0
 MustGiveBack budget depth bases = (budget.bases ≤ bases) ⊎ ((0 < budget.depth) × (budget.depth ≤ depth))
 
 -- no more bases are left than keys are sure to be met
-abbrev pub IsKept : Budget → Progress → Type 0
-IsKept budget s = budget.bases ≤ s.count.bases + s.sure
+abbrev pub IsCovered : Budget → Progress → Type 0
+IsCovered budget s = budget.bases ≤ s.count.bases + s.sure
 
 -- its key may be given back: the bases that are left can be visited elsewhere, or it is at the depth budget
 abbrev pub MayGiveBack : Budget → Progress → Type 0
-MayGiveBack budget s = IsKept budget s ⊎ ((0 < budget.depth) × (budget.depth ≤ s.depth))
+MayGiveBack budget s = IsCovered budget s ⊎ ((0 < budget.depth) × (budget.depth ≤ s.depth))
 
 -- ---- keys that are sure to be met
 -- one deeper, where a key was met: down to the counted depth it was one of them

@@ -1,7 +1,7 @@
 //! How far a run has come, and where it gives keys back in place of visiting them.
 ghost use Rattle.std.specs.Prelude.{◌≡◌, ◌<◌, ◌-◌, IsTrue, IsFalse};
 ghost use Rattle.subtree_work.specs.Counts.{IsInReach};
-ghost use Rattle.subtree_work.specs.Steps.{counted_depth, AllowsVisit, MustGiveBack, IsKept, IsMet};
+ghost use Rattle.subtree_work.specs.Steps.{counted_depth, AllowsVisit, MustGiveBack, IsCovered, IsMet};
 
 use crate::leaves::Leaves;
 use poly_model::Count;
@@ -75,7 +75,7 @@ pub(crate) fn counts_children(budget: Budget, at: Progress) -> bool
 
 /// Whether what is left of the budget is kept for leaves: it is little, and as many keys are sure to be met.
 pub(crate) fn is_kept(budget: Budget, met: Progress) -> bool
-    ensures { IsTrue result → IsKept budget met }
+    ensures { IsTrue result → IsCovered budget met }
 {
     let left = budget.bases.saturating_sub(met.count.bases);
     left <= met.sure && left <= met.leaves.kept()
