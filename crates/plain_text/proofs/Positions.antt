@@ -1,9 +1,8 @@
 -- What `position` says: the first element that passes, or that none does.
-use Rattle.std.proofs.Common.{◌≡◌, ◌<◌, ◌≤◌, ◌+◌, ◌-◌, inl, inr, take, drop, length-take-le, length-drop, ℕ, Bool, true, false, cond, ltb, List, length, get_or, refl, sym, arith, Some, None}
+use Rattle.std.proofs.Common.{◌≡◌, ◌<◌, ℕ, Option, Bool, true, false, cond, ltb, List, length, get_or, refl, sym, arith, Some, None}
 use Rattle.std.specs.Prelude.{position}
 use Rattle.std.specs.List.{position_or_len, All}
-use Rattle.std.proofs.lemmas.Bool.{ltb-true, ltb-false, lt-ltb, le-ltb, cases_lt, false_from_ne_true}
-use Rattle.std.proofs.lemmas.List.{get_or-take, get_or-drop}
+use Rattle.std.proofs.lemmas.Bool.{ltb-true, ltb-false, lt-ltb, le-ltb, false_from_ne_true}
 use Rattle.std.proofs.lemmas.Option.{cond_some}
 use Rattle.std.proofs.lemmas.List.Sums.{passes_at_first, fails_before_first, position_or_len_is}
 use Rattle.std.proofs.lemmas.List.Elements.{All-from_get_or}
@@ -41,7 +40,7 @@ position_none p xs k d e lt =
 pub none_passes : (p : ℕ → Bool) (xs : List ℕ) → position p xs ≡ None → All (λ x. p x ≡ false) xs
 none_passes p xs e = All-from_get_or (λ x. p x ≡ false) xs 0 (λ k lt. position_none p xs k 0 e lt)
 
--- ---- a search for a byte: the first n elements one by one, then the others
+-- ---- a search for a byte
 
 is_position : (p : ℕ → Bool) (xs : List ℕ) (n : ℕ) → position_or_len p xs ≡ n → n < length xs → Some n ≡ position p xs
 is_position p xs n e lt = rw (e, lt-ltb n (length xs) lt) refl
@@ -49,43 +48,12 @@ is_position p xs n e lt = rw (e, lt-ltb n (length xs) lt) refl
 is_no_position : (p : ℕ → Bool) (xs : List ℕ) → position_or_len p xs ≡ length xs → None ≡ position p xs
 is_no_position p xs e = rw (e, le-ltb (length xs) (length xs) (omega arith)) refl
 
--- what stands before n passes nowhere
-fails_at : (p : ℕ → Bool) (xs : List ℕ) (n k : ℕ) → position p (take n xs) ≡ None → n ≤ length xs
-    → (n ≤ k → p (get_or (drop n xs) (k - n) 0) ≡ false) → p (get_or xs k 0) ≡ false
-fails_at p xs n k e le far = elim (cases_lt k n) [
-  | inl lt ↦ rw (get_or-take n xs k 0 lt) at (position_none p (take n xs) k 0 e (omega (arith, length-take-le n xs le)))
-  | inr more ↦
-      let i : n + (k - n) ≡ k = omega arith in
-      rw (get_or-drop n xs (k - n) 0, i) at (far more)
-]
-
--- it stands among the first n elements
-pub near_position : (p : ℕ → Bool) (xs : List ℕ) (n k : ℕ) → position p (take n xs) ≡ Some k → n ≤ length xs
-    → Some k ≡ position p xs
-near_position p xs n k e le =
-    let f = position_some p (take n xs) k e in
-    let lt : k < n = omega (arith, f.within, length-take-le n xs le) in
-    is_position p xs k (position_or_len_is p xs k 0 (omega arith) (λ j less.
-    let before : j < n = omega arith in
-    rw (get_or-take n xs j 0 before) at (fails_before p (take n xs) k j 0 f less))
-    (λ _. rw (get_or-take n xs k 0 lt) at (passes p (take n xs) k 0 f))) (omega arith)
-
--- a search finds it behind them
-pub far_position : (p : ℕ → Bool) (xs : List ℕ) (n k : ℕ) → position p (take n xs) ≡ None → n ≤ length xs
-    → IsFirstByte p (drop n xs) (Some k) → Some (n + k) ≡ position p xs
-far_position p xs n k e le h =
-    let lt : n + k < length xs = omega (arith, h.0.high, length-drop n xs) in
-    is_position p xs (n + k) (position_or_len_is p xs (n + k) 0 (omega arith)
-    (λ j less. fails_at p xs n j e le (λ more.
-    false_from_ne_true (p (get_or (drop n xs) (j - n) 0)) (h.0.before (j - n) (omega arith) (omega arith))))
-    (λ _. rw (get_or-drop n xs k 0) at h.1)) lt
-
--- a search does not find it
-pub no_position : (p : ℕ → Bool) (xs : List ℕ) (n : ℕ) → position p (take n xs) ≡ None → n ≤ length xs
-    → IsFirstByte p (drop n xs) None → None ≡ position p xs
-no_position p xs n e le h =
+-- what a search answers is the position
+pub search_position : (p : ℕ → Bool) (xs : List ℕ) (r : Option ℕ) → IsFirstByte p xs r → r ≡ position p xs
+search_position p xs (Some k) h =
+    is_position p xs k (position_or_len_is p xs k 0 (omega (arith, h.0.high))
+    (λ j less. false_from_ne_true (p (get_or xs j 0)) (h.0.before j (omega arith) less)) (λ _. h.1)) h.0.high
+search_position p xs None h =
     is_no_position p xs (position_or_len_is p xs (length xs) 0 (omega arith)
-    (λ j less. fails_at p xs n j e le (λ more.
-    false_from_ne_true (p (get_or (drop n xs) (j - n) 0))
-    (h (j - n) (omega arith) (omega (arith, length-drop n xs)))))
+    (λ j less. false_from_ne_true (p (get_or xs j 0)) (h j (omega arith) less))
     (λ lt. absurd (omega arith)))
