@@ -6,6 +6,8 @@ pub mod CountLemmas
 pub mod NextLemmas
 pub mod Bounds
 pub mod RunLemmas
+pub mod WeighLemmas
+pub mod AgainLemmas
 pub mod DueLemmas
 pub mod WayLemmas
 pub mod StartLemmas

@@ -6,3 +6,5 @@ pub mod Runs
 pub mod Ways
 pub mod Starts
 pub mod Kept
+pub mod Again
+pub mod Weighing

@@ -7,5 +7,6 @@ mod pivots;
 mod tests;
 mod walker;
 mod way;
+mod weighing;
 
 pub use walker::{Visit, Walker};

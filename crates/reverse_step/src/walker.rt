@@ -1,5 +1,5 @@
 //! The walk.
-ghost use Rattle.std.specs.Prelude.{◌≡◌, ◌≤◌, ◌↔◌, ◌+◌, IsTrue, IfOk, IfErr, length, None};
+ghost use Rattle.std.specs.Prelude.{◌≡◌, ◌≤◌, ◌<◌, ◌↔◌, ◌+◌, IsTrue, IfOk, IfErr, length, None};
 ghost use Rattle.dictionary_laws.specs.Keys.{place_in};
 ghost use Rattle.reverse_step.specs.Walks.{Walk};
 ghost use Rattle.std.specs.List.{Contains};
@@ -8,12 +8,15 @@ ghost use Rattle.lex_pivot.specs.Above.{NoneEnters};
 ghost use Rattle.lex_pivot.specs.Leads.{AreLeads};
 ghost use Rattle.reverse_step.specs.Children.{CountsChildren, LeadsToChild, StopsWalk};
 ghost use Rattle.reverse_step.specs.Ways.{StopsOnTheWay};
+ghost use Rattle.reverse_step.specs.declared.walker.Visit.TheVariants.{End};
+ghost use Rattle.reverse_step.specs.Again.{IsAgain, IsWalkSomewhere, WeighsWithin, StopsElsewhere};
 ghost use Rattle.reverse_step.specs.Starts.{unparented, Starts};
 ghost use Rattle.reverse_step.specs.Moves.{IsMovedDown, IsMovedUp, GoesDown, GoesUp, IsVisit, past};
 
 use crate::children::{child_at, child_count, first_child};
 use crate::pivots::pivot_over;
 use crate::way::reach;
+use crate::weighing::weigh;
 use dictionary::{Dict, Steps};
 use lex_pivot::{Leads, Order, parent_by};
 use poly_model::{Key, Label, OutOfMemory, Overflow, Root};
@@ -195,6 +198,7 @@ impl Walker {
     /// under the job's root is visited; it stands there. Where a pivot overflows, nothing has changed. Takes no memory.
     pub fn next<L: Ledger>(&mut self, steps: &mut Steps<L>) -> Result<Visit, Overflow>
         ensures visit { IfOk result (λ v. IsVisit self.old v self.new) }
+        ensures end { IfOk result (λ v. v ≡ End → self.new ≡ self.old) }
         ensures unchanged { IfErr result (λ _. self.new ≡ self.old) }
         ensures stops { IfErr result (λ o. StopsWalk self.old.dict self.old.root o) }
         ensures counted { steps.new ≤ steps.old + 1 }
@@ -207,6 +211,30 @@ impl Walker {
             Some(_) => Ok(Visit::Back),
             None => Ok(Visit::End),
         }
+    }
+
+    /// How many cobases are under that where it stands, itself among them, where they are at most so many; none where they are more.
+    /// It goes through them, and then stands there again with the same columns still to be tried. Where a pivot overflows it
+    /// stands elsewhere, where it came to. Takes no memory.
+    pub fn weight_within<L: Ledger>(
+        &mut self,
+        most: u64,
+        steps: &mut Steps<L>,
+    ) -> Result<Option<u64>, Overflow>
+        requires walk { IsWalkSomewhere self.old }
+        requires some { 0 < most }
+        ensures again { IfOk result (λ _. IsAgain self.old self.new) }
+        ensures weight { IfOk result (WeighsWithin self.old most) }
+        ensures stops { IfErr result (StopsElsewhere self.old self.new) }
+    {
+        let job = self.job;
+        let at = self.at;
+        self.job = self.here.key();
+        self.at = 0;
+        let found = weigh(self, most, steps);
+        self.job = job;
+        self.at = at;
+        found
     }
 
     // Whether it stands at the job's root.

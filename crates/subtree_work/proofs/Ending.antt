@@ -18,7 +18,7 @@ use Rattle.dictionary.specs.Views.{table_of}
 use Rattle.reverse_step.specs.declared.walker.Visit.TheVariants.{New, End}
 use Rattle.reverse_step.specs.Walks.{Walk, IsAtStart}
 use Rattle.reverse_step.specs.Moves.{IsVisit}
-use Rattle.reverse_step.specs.Children.{StopsWalk}
+use Rattle.reverse_step.specs.Again.{StopsElsewhere}
 use Rattle.reverse_step.proofs.DueLemmas.{due_in_main}
 use Rattle.reverse_step.proofs.RunLemmas.{run_over}
 use Rattle.convert_core.specs.declared.rays.Rays.{Rays}
@@ -144,12 +144,12 @@ module _ (p : Polyhedron) (sys : System) (rays : Rays) (budget : Budget) (first 
     pub cut_now : IsCutRun work first.job old now
     cut_now = record { lines = g.lines; written = g.written; within = within_now }
 
-    -- a pivot cannot be carried out
-    pub due_now : (o : Passed) → StopsWalk walk.dict walk.root o → IsDue p o (IsAskedInMain p first.root o)
-    due_now o h =
-        subst (λ r. IsDue p o (IsAskedInMain p r o)) g.run.root
-        (due_in_main p g.search.free g.search.columns walk.root g.search.home walk.dict g.search.phase
-        g.search.walk_in.stands o h)
+    -- a pivot cannot be carried out, there or where it looks ahead
+    pub due_now : (new : Walk) (o : Passed) → StopsElsewhere walk new o → IsDue p o (IsAskedInMain p first.root o)
+    due_now new o h =
+        subst (λ r. IsDue p o (IsAskedInMain p r o)) (h.root ∙ g.run.root)
+        (due_in_main p g.search.free g.search.columns new.root g.search.home new.dict (h.phase ∙ g.search.phase)
+        (h.walk (main_space p g.search.free) g.search.home g.search.walk_in).stands o h.stops)
 
   module _ (walk : Walk) (vector : Vector) (left : ℕ) (s : Progress) (old now : Option (List ℕ))
       (g : Running p sys rays budget first walk vector (left + 1) s old now) where
@@ -204,9 +204,9 @@ module _ (p : Polyhedron) (sys : System) (rays : Rays) (budget : Budget) (first 
         weigh = together p first.root g.given total.0 total.1;
         visited = ap (λ n. n + total.0) g.bases;
         some = let a = some g.visited g.begun in let b = g.bases in omega (arith, a, b);
-        most = g.most;
+        most = let m = g.fits in omega (arith, m);
         given = λ k c. ⊎_elim
-            (λ (l : IsCovered budget s). let n = none_sure in let m = g.most in inl (omega (arith, l, n, m)))
+            (λ (l : IsCovered budget s). let n = none_sure in let m = g.fits in inl (omega (arith, l, n, m)))
             (λ (b : (0 < budget.depth) × IsSubtreeDepth p first.root k first.job budget.depth). inr b)
             (g.back k c);
         no_deeper = λ l one depth c d. g.no_deeper one c l depth d;

@@ -5,4 +5,5 @@ pub mod Sure
 pub mod Running
 pub mod Ending
 pub mod Stepping
+pub mod Meeting
 pub mod Searched

@@ -1,29 +1,34 @@
 -- A run under a key on its way: what it has visited and given back, and what it has written of them; one step further.
-use Rattle.std.proofs.Common.{◌≡◌, ◌⊎◌, inl, inr, ⊎_elim, ℕ, suc, ◌+◌, ◌-◌, ◌*◌, ◌<◌, ◌≤◌, List, [], ◌∷◌, ◌++◌, length, length-append, append-nil, Option, refl, sym, ap, subst, ◌∙◌, arith}
+use Rattle.std.proofs.Common.{◌≡◌, ◌⊎◌, inl, inr, ⊎_elim, ℕ, suc, ◌+◌, ◌-◌, ◌*◌, ◌<◌, ◌≤◌, List, [], ◌∷◌, ◌++◌, append_assoc, length, length-append, append-nil, Option, refl, sym, ap, subst, ◌∙◌, arith}
 use Rattle.std.specs.List.{Contains}
 use Rattle.std.proofs.lemmas.List.{length-map}
-use Rattle.std.proofs.lemmas.List.Elements.{Contains-append_cases}
+use Rattle.std.proofs.lemmas.List.Elements.{Contains-append_cases, Contains-append_left}
 use Rattle.poly_num.specs.Vectors.{Vector}
 use Rattle.poly_model.specs.declared.listed.Count.{Count}
 use Rattle.poly_model.specs.Dictionaries.{Table}
+use Rattle.poly_model.specs.LexOrder.{rows_in}
 use Rattle.poly_model.specs.Spaces.{Space, main_space}
 use Rattle.poly_model.specs.Subtrees.{IsSubtreeRoot, IsSubtreeKey, IsSubtreeDepth}
 use Rattle.poly_model.specs.Systems.{System, Polyhedron}
 use Rattle.poly_model.specs.Tree.{IsAbove}
-use Rattle.linear_laws.proofs.Members.{Contains-nil, Contains-first, Contains-later, Contains-cons_cases}
-use Rattle.search_laws.specs.Shares.{ListsAll, IsChild}
+use Rattle.linear_laws.proofs.Members.{same_first, same_others, Contains-nil, Contains-first, Contains-later, Contains-cons_cases}
+use Rattle.search_laws.specs.Shares.{ListsAll, IsFeasibleKey, IsChild}
+use Rattle.search_laws.specs.Splits.{AreSplit}
+use Rattle.search_laws.specs.Weights.{IsWeight, IsTotal}
+use Rattle.search_laws.proofs.Visits.{are_split}
 use Rattle.search_laws.specs.SharesOfListings.{IsShownAtSome}
+use Rattle.dictionary_laws.proofs.KeyExchange.{ascending_distinct}
 use Rattle.search_laws.proofs.OnceLists.{no_longer}
 use Rattle.search_laws.proofs.SubtreeRuns.{runs_part}
 use Rattle.search_laws.proofs.SubtreeShares as words
 use Rattle.countdown.specs.Digits.{enough}
 use Rattle.dictionary.specs.Views.{table_of}
 use Rattle.reverse_step.specs.declared.walker.Visit.TheVariants.{New, Back}
-use Rattle.reverse_step.specs.Walks.{Walk, IsAtStart}
+use Rattle.reverse_step.specs.Walks.{Walk, IsAtStart, IsWalkIn}
 use Rattle.reverse_step.specs.Moves.{past, IsAtNew, IsVisit}
 use Rattle.reverse_step.specs.Children.{CountsChildren}
 use Rattle.reverse_step.specs.Runs.{HasRun}
-use Rattle.reverse_step.proofs.RunLemmas.{run_starts, starts_waiting, starts_depth, some_left, at_new, not_visited, run_new, new_waiting, new_depth, run_given, given_waiting, given_depth, run_back, back_waiting, back_depth}
+use Rattle.reverse_step.proofs.RunLemmas.{at_least_one, run_starts, starts_waiting, starts_depth, some_left, at_new, not_visited, run_new, new_waiting, new_depth, run_given, given_waiting, given_depth, run_back, back_waiting, back_depth}
 use Rattle.reverse_step.proofs.DepthLemmas.{stands_at_depth, child_depth, few_labels, few_children}
 use Rattle.convert_core.specs.declared.rays.Rays.{Rays}
 use Rattle.convert_core.specs.Rows.{columns_of, column_rows}
@@ -35,7 +40,8 @@ use Rattle.work_core.specs.ReplyLines.{ReplyLine, job_line, WritesLines, rows_in
 use Rattle.work_core.proofs.WalkedLemmas.{rows-append, keys-append, writes_then}
 use Rattle.subtree_work.specs.declared.progress.Progress.{Progress}
 use Rattle.subtree_work.specs.Rows.{lines_of_rows, IsShownOf}
-use Rattle.subtree_work.specs.Steps.{counted_depth, AllowsVisit, IsCovered, IsMet, IsAhead, VisitsBase, GivesKeyBack, VisitsNew, GivesNewBack}
+use Rattle.subtree_work.specs.declared.choice.Choice.TheVariants.{Visited}
+use Rattle.subtree_work.specs.Steps.{counted_depth, IsAtDepth, IsCovered, AllowsVisit, BeginsSmall, MayChoose, IsMet, IsAhead, VisitsBase, GivesKeyBack, VisitsMet, GivesMetBack}
 use Rattle.subtree_work.proofs.RowLines.{rows_of_rows, keys_of_rows}
 use Rattle.subtree_work.proofs.Sure.{AtLeast, fewer, at_least_behind, at_least_others, at_least_beside, at_least_more, at_least_all}
 
@@ -43,9 +49,13 @@ module _ (p : Polyhedron) (sys : System) (rays : Rays) (budget : Budget) (first 
   abbrev IsDepth : List ℕ → ℕ → Type 0
   IsDepth key n = IsSubtreeDepth p first.root key first.job n
 
-  -- no deeper than bases were visited, and within the budget
-  abbrev IsLow : List (List ℕ) → ℕ → Type 0
-  IsLow visited n = (n ≤ length visited) × (0 < budget.depth → n ≤ budget.depth)
+  -- of the keys that wait these are of a small subtree, with so many bases in all; the others are no deeper than the budget
+  pub record SmallFirst (space : Space) (waiting : List (List ℕ)) (small_left : ℕ) : Type 0 where
+    pub small : List (List ℕ)
+    pub others : List (List ℕ)
+    pub parts : waiting ≡ small ++ others
+    pub total : IsTotal space first.root small small_left
+    pub high : (k : List ℕ) → Contains others k → 0 < budget.depth → (n : ℕ) → IsDepth k n → n ≤ budget.depth
 
   -- no deeper than keys are counted before they are met
   abbrev pub IsNear : List ℕ → Type 0
@@ -70,14 +80,15 @@ module _ (p : Polyhedron) (sys : System) (rays : Rays) (budget : Budget) (first 
     pub bases : s.count.bases ≡ length visited
     pub level : s.depth ≡ run.depth
     pub low : s.depth ≤ length visited
-    pub near : (k : List ℕ) → Contains run.waiting k → (n : ℕ) → IsDepth k n → IsLow visited n
+    pub near : (k : List ℕ) → Contains run.waiting k → (n : ℕ) → IsDepth k n → n ≤ length visited
+    pub small : SmallFirst (main_space p search.free) run.waiting s.small_left
     pub sure : AtLeast IsNear s.sure run.waiting
     pub plain : 0 < budget.depth → s.sure ≡ 0
     pub back : (k : List ℕ) → Contains given k → IsCovered budget s ⊎ ((0 < budget.depth) × IsDepth k budget.depth)
     pub no_deeper : (k : List ℕ) → Contains given k → 0 < budget.depth → (n : ℕ) → IsDepth k n → n ≤ budget.depth
     pub many : length given + length run.waiting ≤ 8192 * length visited
     pub full : length vectors ≤ 8193 * length visited
-    pub most : s.count.bases ≤ budget.bases
+    pub fits : s.count.bases + s.small_left ≤ budget.bases
 
   -- ---- what holds of a walk on its way
   -- the rows shown at a cobasis are no more than its labels and one
@@ -119,9 +130,9 @@ module _ (p : Polyhedron) (sys : System) (rays : Rays) (budget : Budget) (first 
   -- ---- the beginning
   pub begins : (vector : Vector) → IsSearch p sys rays first vector → IsAtStart first → (left : ℕ) → enough ≤ left →
       (old now : Option (List ℕ)) (c : Count) (s : Progress) → c.rows ≡ 0 → c.jobs ≡ 0 → c.bases ≡ 0 → s.depth ≡ 0 →
-      VisitsBase sys first old now c s.count → IsAhead budget first 0 s.sure → 0 < budget.bases → (more : Vector) →
-      length more ≡ length vector → Running first more left s old now
-  begins vector x a left e old now c s no_rows no_jobs no_bases depth v ahead some more width = record {
+      VisitsBase sys first old now c s.count → IsAhead budget first 0 s.sure → s.small_left ≡ 0 → 0 < budget.bases →
+      (more : Vector) → length more ≡ length vector → Running first more left s old now
+  begins vector x a left e old now c s no_rows no_jobs no_bases depth v ahead none some more width = record {
     search = elsewhere p sys rays first vector x first more x.walk_in x.phase width;
     visited = first.dict.key ∷ [];
     given = [];
@@ -139,10 +150,14 @@ module _ (p : Polyhedron) (sys : System) (rays : Rays) (budget : Budget) (first 
     bases = let r = v.bases in omega (arith, r, no_bases);
     level = depth ∙ sym (starts_depth main x.home first left a e x.walk_in);
     low = omega (arith, depth);
-    near = λ k c n deep.
-        let one : n ≡ 1 = one_deeper first vector x (subtree_root p sys rays first vector x) first.dict.key k 0
-        (children.only k c) a.key n deep in
-        (omega (arith, one), λ l. omega (arith, one, l));
+    near = λ k c n deep. let one = at_one k c n deep in omega (arith, one);
+    small = record {
+      small = [];
+      others = run.waiting;
+      parts = refl;
+      total = none;
+      high = λ k c l n deep. let one = at_one k c n deep in omega (arith, one, l);
+    };
     sure = ⊎_elim
         (λ (n : s.sure ≡ 0). subst (λ i. AtLeast IsNear i run.waiting) (sym n) tt)
         (λ (m : (0 < counted_depth) × CountsChildren first.root first.dict s.sure).
@@ -155,7 +170,7 @@ module _ (p : Polyhedron) (sys : System) (rays : Rays) (budget : Budget) (first 
     no_deeper = λ k m. absurd (Contains-nil k m);
     many = let f = children_few first vector x run.waiting children in omega (arith, f);
     full = let f = few_shown first vector x v.shown v.all in omega (arith, f, long);
-    most = let r = v.bases in omega (arith, r, no_bases, some);
+    fits = let r = v.bases in omega (arith, r, no_bases, some, none);
   }
     where
       main : Space
@@ -172,6 +187,11 @@ module _ (p : Polyhedron) (sys : System) (rays : Rays) (budget : Budget) (first 
 
       children : ListsAll (IsChild main first.root first.dict.key) run.waiting
       children = starts_waiting main x.home first left a e x.walk_in
+
+      at_one : (k : List ℕ) → Contains run.waiting k → (n : ℕ) → IsDepth k n → n ≡ 1
+      at_one k c n deep =
+          one_deeper first vector x (subtree_root p sys rays first vector x) first.dict.key k 0 (children.only k c) a.key n
+          deep
 
   pub some_are_left : (walk : Walk) (vector : Vector) (left : ℕ) (s : Progress) (old now : Option (List ℕ)) →
       Running walk vector left s old now → 0 < left
@@ -227,15 +247,60 @@ module _ (p : Polyhedron) (sys : System) (rays : Rays) (budget : Budget) (first 
       waits : Contains g.run.waiting new.dict.key
       waits = subst (λ ks. Contains ks new.dict.key) (sym at.first) (Contains-first new.dict.key at.rest)
 
-      pub new_low : IsLow g.visited (suc g.run.depth)
+      pub new_low : suc g.run.depth ≤ length g.visited
       new_low = g.near new.dict.key waits (suc g.run.depth) new_deep
+
+      -- ---- a small subtree
+      new_feasible : IsFeasibleKey main first.root new.dict.key
+      new_feasible = subst (λ r. IsFeasibleKey main r new.dict.key) same_root
+          (table_of new.dict, (step.walk main home g.search.walk_in).stands.feasible)
+
+      laws : AreSplit main first.root
+      laws = let st = g.search.walk_in.stands in
+          subst (AreSplit main) g.run.root
+          (are_split main walk.root home st.feasible_root (ascending_distinct (rows_in main.labels) st.ascending))
+
+      waiting_feasible : (k : List ℕ) → Contains g.run.waiting k → IsFeasibleKey main first.root k
+      waiting_feasible k c = subst (λ r. IsFeasibleKey main r k) g.run.root
+          (g.run.split.waits k (Contains-append_left g.run.waiting g.given k c)).0
+
+      -- where no base of it is left none of its keys waits
+      none_small : s.small_left ≡ 0 → g.small.small ≡ []
+      none_small e = by g.small.small refl g.small.total
+        where
+          by : (ks : List (List ℕ)) → g.small.small ≡ ks → IsTotal main first.root g.small.small s.small_left →
+              g.small.small ≡ []
+          by [] f t = f
+          by (k ∷ ks) f t =
+              let (u, v, a, b, sum) = subst (λ xs. IsTotal main first.root xs s.small_left) f t in
+              let waits_too : Contains g.run.waiting k =
+              subst (λ xs. Contains xs k) (sym (g.small.parts ∙ ap (λ xs. xs ++ g.small.others) f))
+              (Contains-first k (ks ++ g.small.others)) in
+              let one = at_least_one main first.root k u a (waiting_feasible k waits_too) in
+              absurd (omega (arith, one, sum, e))
+
+      others_are : s.small_left ≡ 0 → g.small.others ≡ new.dict.key ∷ at.rest
+      others_are e = sym (g.small.parts ∙ ap (λ xs. xs ++ g.small.others) (none_small e)) ∙ at.first
+
+      -- so the keys that wait are no deeper than the budget
+      pub all_high : s.small_left ≡ 0 → (k : List ℕ) → Contains (new.dict.key ∷ at.rest) k → 0 < budget.depth → (n : ℕ) →
+          IsDepth k n → n ≤ budget.depth
+      all_high e k c l n deep = g.small.high k (subst (λ xs. Contains xs k) (sym (others_are e)) c) l n deep
+
+      rest_high : s.small_left ≡ 0 → (k : List ℕ) → Contains at.rest k → 0 < budget.depth → (n : ℕ) → IsDepth k n →
+          n ≤ budget.depth
+      rest_high e k c l n deep = all_high e k (Contains-later k new.dict.key at.rest c) l n deep
+
+      -- behind it those wait that waited
+      pub small_behind : (t : ℕ) → s.small_left ≡ 0 → t ≡ 0 → SmallFirst main at.rest t
+      small_behind t e none = record { small = []; others = at.rest; parts = refl; total = none; high = rest_high e }
 
       abbrev moved : (more : Vector) → length more ≡ length vector → IsSearch p sys rays new more
       moved more width =
           elsewhere p sys rays walk vector g.search new more (step.walk main home g.search.walk_in)
           (step.phase ∙ g.search.phase) width
 
-      still_waits : (k : List ℕ) → Contains at.rest k → (n : ℕ) → IsDepth k n → IsLow g.visited n
+      still_waits : (k : List ℕ) → Contains at.rest k → (n : ℕ) → IsDepth k n → n ≤ length g.visited
       still_waits k c n deep =
           g.near k (subst (λ ks. Contains ks k) (sym at.first) (Contains-later k new.dict.key at.rest c)) n deep
 
@@ -281,16 +346,13 @@ module _ (p : Polyhedron) (sys : System) (rays : Rays) (budget : Budget) (first 
         same_bases = ap (λ (c : Count). c.bases) is_met.count
 
       -- it is visited
-      module _ (after_it : Walk) (met : Progress) (is_met : IsMet s met) (t : Progress) (then : Option (List ℕ))
-          (x : VisitsNew budget sys new after_it met now then t) (more : Vector) (width : length more ≡ length vector) where
+      module _ (there after_it : Walk) (met : Progress) (is_met : IsMet s met) (small_left : ℕ)
+          (may : MayChoose budget there met (Visited small_left)) (same_root_there : there.root ≡ new.root)
+          (same_key : there.dict.key ≡ new.dict.key) (walks : IsWalkIn main home there) (t : Progress)
+          (then : Option (List ℕ)) (x : VisitsMet budget sys new after_it met small_left now then t) (more : Vector)
+          (width : length more ≡ length vector) where
         deep : t.depth ≡ s.depth + 1
         deep = x.depth ∙ is_met.depth
-
-        may : AllowsVisit budget t.depth s.count.bases
-        may = record {
-          bases_left = let l = x.allowed.bases_left in let e = same_bases met is_met in omega (arith, l, e);
-          above = λ some. let u = x.allowed.above some in let e = x.depth in omega (arith, u, e);
-        }
 
         v : VisitsBase sys new now then s.count t.count
         v = subst (λ (c : Count). VisitsBase sys new now then c t.count) is_met.count x.visits
@@ -314,17 +376,115 @@ module _ (p : Polyhedron) (sys : System) (rays : Rays) (budget : Budget) (first 
         children : ListsAll (IsChild main first.root new.dict.key) at.cs
         children = subst (λ r. ListsAll (IsChild main r new.dict.key) at.cs) same_root at.children
 
-        close : (k : List ℕ) → Contains after.waiting k → (n : ℕ) → IsDepth k n → IsLow (new.dict.key ∷ g.visited) n
+        two_deeper : (k : List ℕ) → Contains at.cs k → (n : ℕ) → IsDepth k n → n ≡ suc (suc g.run.depth)
+        two_deeper k m n d =
+            one_deeper walk vector g.search root new.dict.key k (suc g.run.depth) (children.only k m) above n d
+
+        close : (k : List ℕ) → Contains after.waiting k → (n : ℕ) → IsDepth k n → n ≤ length (new.dict.key ∷ g.visited)
         close k c n d = ⊎_elim
-            (λ (m : Contains at.cs k).
-            let one : n ≡ suc (suc g.run.depth) = one_deeper walk vector g.search root new.dict.key k (suc g.run.depth)
-            (children.only k m) above n d in
-            let l = new_low.0 in
-            (omega (arith, one, l), λ some. let u = may.above some in let e = g.level in omega (arith, one, u, deep, e)))
-            (λ (m : Contains at.rest k).
-            let l = still_waits k m n d in
-            let a = l.0 in (omega (arith, a), l.1))
+            (λ (m : Contains at.cs k). let one = two_deeper k m n d in let l = new_low in omega (arith, one, l))
+            (λ (m : Contains at.rest k). let l = still_waits k m n d in omega (arith, l))
             (Contains-append_cases at.cs at.rest k (subst (λ ks. Contains ks k) waiting_is c))
+
+        -- the children in its place have one base less in all
+        one_base_less : (rest : List (List ℕ)) (n : ℕ) → ((k : List ℕ) → Contains rest k → IsFeasibleKey main first.root k) →
+            IsTotal main first.root (new.dict.key ∷ rest) n →
+            (w : ℕ) × IsTotal main first.root (at.cs ++ rest) w × (n ≡ suc w)
+        one_base_less rest n keys sum = (
+          all.0,
+          all.1,
+          laws.one_total (new.dict.key ∷ rest) n (suc all.0) sum
+              (laws.falls new.dict.key rest at.cs all.0 new_feasible children all.1),
+        )
+          where
+            feasible : (k : List ℕ) → Contains (at.cs ++ rest) k → IsFeasibleKey main first.root k
+            feasible k c = ⊎_elim
+                (λ (m : Contains at.cs k). let ch = children.only k m in (ch.0, ch.1))
+                (λ (m : Contains rest k). keys k m)
+                (Contains-append_cases at.cs rest k c)
+
+            all : (w : ℕ) × IsTotal main first.root (at.cs ++ rest) w
+            all = laws.total (at.cs ++ rest) feasible
+
+        small_then : SmallFirst main after.waiting t.small_left
+        small_then = subst (λ ks. SmallFirst main ks t.small_left) (sym waiting_is) (by may)
+          where
+            by : MayChoose budget there met (Visited small_left) → SmallFirst main (at.cs ++ at.rest) t.small_left
+            by (inl (m, e)) = record {
+              small = [];
+              others = at.cs ++ at.rest;
+              parts = refl;
+              total = x.small ∙ e;
+              high = λ k c l n d. ⊎_elim
+                  (λ (q : Contains at.cs k). let one = two_deeper k q n d in let u = m.above l in let a = g.level in
+                  let b = is_met.depth in omega (arith, one, u, a, b))
+                  (λ (q : Contains at.rest k). rest_high (sym is_met.small ∙ m.none_small) k q l n d)
+                  (Contains-append_cases at.cs at.rest k c);
+            }
+            by (inr (inl e)) = within g.small.small refl
+              where
+                some_left_of_it : s.small_left ≡ suc small_left
+                some_left_of_it = let a = is_met.small in omega (arith, a, e)
+
+                within : (ks : List (List ℕ)) → g.small.small ≡ ks → SmallFirst main (at.cs ++ at.rest) t.small_left
+                within [] f =
+                    let none : s.small_left ≡ 0 = subst (λ ks. IsTotal main first.root ks s.small_left) f g.small.total in
+                    absurd (omega (arith, none, some_left_of_it))
+                within (k ∷ ks) f =
+                    let sum : IsTotal main first.root (k ∷ ks) s.small_left =
+                    subst (λ xs. IsTotal main first.root xs s.small_left) f g.small.total in
+                    let same : (k ∷ (ks ++ g.small.others)) ≡ (new.dict.key ∷ at.rest) =
+                    sym (g.small.parts ∙ ap (λ xs. xs ++ g.small.others) f) ∙ at.first in
+                    let first_is : k ≡ new.dict.key = same_first k new.dict.key (ks ++ g.small.others) at.rest same in
+                    let rest_is : (ks ++ g.small.others) ≡ at.rest =
+                    same_others k new.dict.key (ks ++ g.small.others) at.rest same in
+                    let keys : (o : List ℕ) → Contains ks o → IsFeasibleKey main first.root o =
+                    λ o c. waiting_feasible o (subst (λ xs. Contains xs o)
+                    (sym (g.small.parts ∙ ap (λ xs. xs ++ g.small.others) f))
+                    (Contains-append_left (k ∷ ks) g.small.others o (Contains-later o k ks c))) in
+                    let (w, all, n) = one_base_less ks s.small_left keys
+                    (subst (λ o. IsTotal main first.root (o ∷ ks) s.small_left) first_is sum) in
+                    record {
+                      small = at.cs ++ ks;
+                      others = g.small.others;
+                      parts = ap (λ xs. at.cs ++ xs) (sym rest_is) ∙ sym (append_assoc at.cs ks g.small.others);
+                      total = let l = some_left_of_it in let m = x.small in
+                          let q : w ≡ t.small_left = omega (arith, n, l, m) in
+                          subst (λ i. IsTotal main first.root (at.cs ++ ks) i) q all;
+                      high = g.small.high;
+                    }
+            by (inr (inr b)) =
+                let heavy : IsWeight main first.root new.dict.key b.weight =
+                subst (λ r. IsWeight main r new.dict.key b.weight) (same_root_there ∙ same_root)
+                (subst (λ k. IsWeight main there.root k b.weight) same_key (b.weighs main home walks)) in
+                let some = at_least_one main first.root new.dict.key b.weight heavy new_feasible in
+                let (w, all, n) = one_base_less [] b.weight (λ k c. absurd (Contains-nil k c)) (b.weight, 0, heavy, refl, omega arith) in
+                record {
+                  small = at.cs;
+                  others = at.rest;
+                  parts = refl;
+                  total = let l = b.left in let m = x.small in
+                      let q : w ≡ t.small_left = omega (arith, n, l, m, some) in
+                      subst (λ i. IsTotal main first.root at.cs i) q
+                      (subst (λ ks. IsTotal main first.root ks w) (append-nil at.cs) all);
+                  high = rest_high (sym is_met.small ∙ b.none_small);
+                }
+
+        fits_then : t.count.bases + t.small_left ≤ budget.bases
+        fits_then = by may
+          where
+            by : MayChoose budget there met (Visited small_left) → t.count.bases + t.small_left ≤ budget.bases
+            by (inl (m, e)) =
+                let l = m.bases_left in let a = same_bases met is_met in let c = v.bases in let d = x.small in
+                omega (arith, l, a, c, d, e)
+            by (inr (inl e)) =
+                let l = g.fits in let a = is_met.small in let c = v.bases in let d = x.small in omega (arith, l, a, c, d, e)
+            by (inr (inr b)) =
+                let l = b.fits in let a = same_bases met is_met in let c = v.bases in let d = x.small in
+                let f = b.left in let some = at_least_one main first.root new.dict.key b.weight
+                (subst (λ r. IsWeight main r new.dict.key b.weight) (same_root_there ∙ same_root)
+                (subst (λ k. IsWeight main there.root k b.weight) same_key (b.weighs main home walks))) new_feasible in
+                omega (arith, l, a, c, d, f, some)
 
         -- those that wait behind it, and its children
         sure_then : AtLeast IsNear t.sure (at.cs ++ at.rest)
@@ -365,6 +525,7 @@ module _ (p : Polyhedron) (sys : System) (rays : Rays) (budget : Budget) (first 
               let b = new_depth main home first walk new g.visited g.given left g.taken g.run step in omega (arith, deep, a, b);
           low = let a = g.low in omega (arith, deep, a);
           near = close;
+          small = small_then;
           sure = subst (λ ks. AtLeast IsNear t.sure ks) (sym waiting_is) sure_then;
           plain = λ some. let a = g.plain some in let b = no_more met is_met in let c = x.ahead.none some in
               let l = x.most in omega (arith, a, b, c, l);
@@ -378,12 +539,13 @@ module _ (p : Polyhedron) (sys : System) (rays : Rays) (budget : Budget) (first 
               let l = length-append at.cs at.rest in omega (arith, a, b, c, d, l);
           full = let a = g.full in let b = few_shown new vector (moved vector refl) v.shown v.all in
               let l = length-append g.vectors ys in omega (arith, a, b, l, long);
-          most = let a = v.bases in let l = may.bases_left in omega (arith, a, l);
+          fits = fits_then;
         }
 
       -- it is given back
-      module _ (after_it : Walk) (met : Progress) (is_met : IsMet s met) (t : Progress) (then : Option (List ℕ))
-          (x : GivesNewBack budget new after_it met now then t) (more : Vector) (width : length more ≡ length vector) where
+      module _ (after_it : Walk) (met : Progress) (is_met : IsMet s met) (no_small : met.small_left ≡ 0)
+          (may : IsCovered budget met ⊎ IsAtDepth budget met) (t : Progress) (then : Option (List ℕ))
+          (x : GivesMetBack new after_it met now then t) (more : Vector) (width : length more ≡ length vector) where
         given_deep : t.depth ≡ s.depth + 1
         given_deep = x.depth ∙ is_met.depth
 
@@ -400,6 +562,9 @@ module _ (p : Polyhedron) (sys : System) (rays : Rays) (budget : Budget) (first 
         only_new k m = ⊎_elim (λ (e : new.dict.key ≡ k). e) (λ (n : Contains [] k). absurd (Contains-nil k n))
             (Contains-cons_cases k new.dict.key [] m)
 
+        low_new : 0 < budget.depth → (n : ℕ) → IsDepth new.dict.key n → n ≤ budget.depth
+        low_new some n d = all_high (sym is_met.small ∙ no_small) new.dict.key (Contains-first new.dict.key at.rest) some n d
+
         -- the bases that are left can be visited elsewhere, or it is at the depth budget
         kept_still : IsCovered budget met → IsCovered budget t
         kept_still l = let a = same_bases met is_met in let b = gives.bases in let c = x.sure in omega (arith, l, a, b, c)
@@ -408,10 +573,10 @@ module _ (p : Polyhedron) (sys : System) (rays : Rays) (budget : Budget) (first 
         why = ⊎_elim
             (λ (l : IsCovered budget met). inl (kept_still l))
             (λ (l : (0 < budget.depth) × (budget.depth ≤ met.depth)).
-            let a = l.1 in let b = new_low.1 l.0 in let c = g.level in let d = x.depth in
+            let a = l.1 in let b = low_new l.0 (suc g.run.depth) new_deep in let c = g.level in let d = x.depth in
             let e : suc g.run.depth ≡ budget.depth = omega (arith, a, b, c, d, given_deep) in
             inr (l.0, subst (IsDepth new.dict.key) e new_deep))
-            x.allowed
+            may
 
         -- and so it is with a key that was given back before
         kept_before : IsCovered budget s → IsCovered budget t
@@ -419,10 +584,7 @@ module _ (p : Polyhedron) (sys : System) (rays : Rays) (budget : Budget) (first 
             (λ (k : IsCovered budget met). kept_still k)
             (λ (k : (0 < budget.depth) × (budget.depth ≤ met.depth)).
             let a = g.plain k.0 in let b = gives.bases in omega (arith, l, a, b))
-            x.allowed
-
-        low_new : 0 < budget.depth → (n : ℕ) → IsDepth new.dict.key n → n ≤ budget.depth
-        low_new some n d = (g.near new.dict.key waits n d).1 some
+            may
 
         abbrev line : List ReplyLine
         line = job_line new.dict.key ∷ []
@@ -448,8 +610,10 @@ module _ (p : Polyhedron) (sys : System) (rays : Rays) (budget : Budget) (first 
           level = let a = g.level in
               let b = given_depth main home first walk new g.visited g.given left g.taken g.run step in
               omega (arith, given_deep, a, b);
-          low = let a = g.level in let b = new_low.0 in omega (arith, given_deep, a, b);
+          low = let a = g.level in let b = new_low in omega (arith, given_deep, a, b);
           near = λ k c n d. still_waits k (subst (λ ks. Contains ks k) rest_is c) n d;
+          small = subst (λ ks. SmallFirst main ks t.small_left) (sym rest_is)
+              (small_behind t.small_left (sym is_met.small ∙ no_small) (x.small ∙ no_small));
           sure = subst (λ ks. AtLeast IsNear t.sure ks) (sym rest_is)
               (subst (λ n. AtLeast IsNear n at.rest) (sym x.sure) (met_sure met is_met));
           plain = λ some. let a = g.plain some in let b = no_more met is_met in let c = x.sure in omega (arith, a, b, c);
@@ -468,14 +632,14 @@ module _ (p : Polyhedron) (sys : System) (rays : Rays) (budget : Budget) (first 
           many = let a = g.many in let b = ap length rest_is in let c = ap length at.first in
               let l = length-append g.given (new.dict.key ∷ []) in omega (arith, a, b, c, l);
           full = g.full;
-          most = let a = g.most in let b = gives.bases in omega (arith, a, b);
+          fits = let a = g.fits in let b = gives.bases in let c = x.small in let d = is_met.small in omega (arith, a, b, c, d);
         }
 
     -- back at the parent
     pub goes_back : (new : Walk) → IsVisit walk Back new → (t : Progress) (then : Option (List ℕ)) → t.depth ≡ s.depth - 1 →
-        t.count ≡ s.count → t.sure ≡ s.sure → then ≡ now → (more : Vector) → length more ≡ length vector →
+        t.count ≡ s.count → t.sure ≡ s.sure → t.small_left ≡ s.small_left → then ≡ now → (more : Vector) → length more ≡ length vector →
         Running new more left t old then
-    goes_back new step t then deep counts sure same more width = record {
+    goes_back new step t then deep counts sure small same more width = record {
       search = elsewhere p sys rays walk vector g.search new more (step.walk main home g.search.walk_in)
           (step.phase ∙ g.search.phase) width;
       visited = g.visited;
@@ -495,6 +659,8 @@ module _ (p : Polyhedron) (sys : System) (rays : Rays) (budget : Budget) (first 
       level = let a = g.level in let b = up in omega (arith, deep, a, b);
       low = let a = g.low in omega (arith, deep, a);
       near = λ k c n d. g.near k (subst (λ ks. Contains ks k) waiting_is c) n d;
+      small = subst (λ ks. SmallFirst main ks t.small_left) (sym waiting_is)
+          (subst (λ i. SmallFirst main g.run.waiting i) (sym small) g.small);
       sure = subst (λ ks. AtLeast IsNear t.sure ks) (sym waiting_is) (subst (λ n. AtLeast IsNear n g.run.waiting) (sym sure) g.sure);
       plain = λ some. sure ∙ g.plain some;
       back = λ k m. ⊎_elim
@@ -503,7 +669,7 @@ module _ (p : Polyhedron) (sys : System) (rays : Rays) (budget : Budget) (first 
       no_deeper = g.no_deeper;
       many = let a = g.many in let b = ap length waiting_is in omega (arith, a, b);
       full = g.full;
-      most = let a = g.most in let b = ap (λ (c : Count). c.bases) counts in omega (arith, a, b);
+      fits = let a = g.fits in let b = ap (λ (c : Count). c.bases) counts in omega (arith, a, b, small);
     }
       where
         behind : HasRun main home first new g.visited g.given left (g.taken + 1)

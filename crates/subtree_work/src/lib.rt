@@ -4,6 +4,7 @@
 #![tactic(auto)]
 
 mod begin;
+mod choice;
 mod leaves;
 mod progress;
 mod rows;

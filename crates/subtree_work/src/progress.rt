@@ -1,7 +1,7 @@
-//! How far a run has come, and where it gives keys back in place of visiting them.
+//! How far a run has come, and by which numbers it gives keys back in place of visiting them.
 ghost use Rattle.std.specs.Prelude.{◌≡◌, ◌<◌, ◌-◌, IsTrue, IsFalse};
 ghost use Rattle.subtree_work.specs.Counts.{IsInReach};
-ghost use Rattle.subtree_work.specs.Steps.{counted_depth, AllowsVisit, MustGiveBack, IsCovered, IsMet};
+ghost use Rattle.subtree_work.specs.Steps.{counted_depth, IsAtDepth, IsCovered, IsMet};
 
 use crate::leaves::Leaves;
 use poly_model::Count;
@@ -9,6 +9,10 @@ use work_core::Budget;
 
 /// Keys down to this depth under the key of the job are counted before they are met.
 pub const COUNTED_DEPTH: u64 = 3;
+
+/// A subtree at the depth budget is small where it has at most such a part of the base budget. Then it is visited whole, and its
+/// key is not given back.
+pub const SMALL_PART: u64 = 300;
 
 /// How far a run has come.
 #[derive(Clone, Copy, PartialEq, Eq, Debug)]
@@ -19,6 +23,8 @@ pub struct Progress {
     pub count: Count,
     /// So many keys at least are still to be met.
     pub sure: u64,
+    /// Of a small subtree at the depth budget that is visited whole, so many bases are left.
+    pub small_left: u64,
     /// How many of the children that were visited are leaves.
     pub leaves: Leaves,
 }
@@ -44,6 +50,7 @@ impl Progress {
         ensures depth { result.depth ≡ self.depth - 1 }
         ensures count { result.count ≡ self.count }
         ensures sure { result.sure ≡ self.sure }
+        ensures small { result.small_left ≡ self.small_left }
     {
         Progress {
             depth: self.depth.saturating_sub(1),
@@ -53,12 +60,12 @@ impl Progress {
     }
 }
 
-/// Whether a key at this depth has to be given back after so many bases.
-pub(crate) fn stops(budget: Budget, depth: u64, bases: u64) -> bool
-    ensures back { IsTrue result → MustGiveBack budget depth bases }
-    ensures on { IsFalse result → AllowsVisit budget depth bases }
+/// Whether a key is at the depth budget.
+pub(crate) fn is_at_depth(budget: Budget, met: Progress) -> bool
+    ensures yes { IsTrue result → IsAtDepth budget met }
+    ensures no { IsFalse result → 0 < budget.depth → met.depth < budget.depth }
 {
-    bases >= budget.bases || budget.depth > 0 && depth >= budget.depth
+    budget.depth > 0 && met.depth >= budget.depth
 }
 
 /// Whether the children of a cobasis are counted where it is visited: it is above the counted depth, no depth budget gives them

@@ -101,7 +101,7 @@ const PYRAMID_JOB: Job = Job {
     count: None,
 };
 
-const JOBS: [Job; 8] = [
+const JOBS: [Job; 9] = [
     Job {
         bases: 1,
         text: "row 1 1 1 0\njob 3 2 4 5\njob 3 1 3 4\njob 3 1 2 5\n",
@@ -119,6 +119,18 @@ const JOBS: [Job; 8] = [
             rows: 4,
             jobs: 2,
             bases: 4,
+        }),
+        ..PYRAMID_JOB
+    },
+    // at the depth budget a subtree of one base is small then, and is visited, and one of two is given back
+    Job {
+        bases: 300,
+        depth: 1,
+        text: "row 1 1 1 0\njob 3 2 4 5\nrow 1 -1 1 0\njob 3 1 2 5\n",
+        count: Some(Count {
+            rows: 2,
+            jobs: 2,
+            bases: 2,
         }),
         ..PYRAMID_JOB
     },

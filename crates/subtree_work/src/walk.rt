@@ -1,5 +1,5 @@
 //! A run under a key: the walk, and the lines that are written on it.
-ghost use Rattle.std.specs.Prelude.{◌≡◌, ◌↔◌, ◌≤◌, ◌<◌, ◌+◌, length, IfOk, IfErr, OnErr, IsErrOf, IsTrue, IsFalse};
+ghost use Rattle.std.specs.Prelude.{◌≡◌, ◌↔◌, ◌≤◌, ◌<◌, ◌+◌, length, IfOk, IfErr, OnErr, IsErrOf, IsTrue};
 ghost use Rattle.poly_io.specs.Causes.{RisesAt};
 ghost use Rattle.poly_model.specs.declared.overflow.Overflow.{Overflow as Passed};
 ghost use Rattle.poly_model.specs.Due.{IsDue, IsAskedInMain};
@@ -11,10 +11,11 @@ ghost use Rattle.work_core.specs.Searches.{by_subtrees};
 ghost use Rattle.work_core.specs.Splits.{most_bases, IsBudget};
 ghost use Rattle.subtree_work.specs.Counts.{HasFewLines, IsInReach};
 ghost use Rattle.subtree_work.specs.Made.{IsSearchOfEach};
-ghost use Rattle.subtree_work.specs.Steps.{AllowsVisit, MayGiveBack, IsAhead, VisitsBase, VisitsOrGivesBack, FailsAt, MovesOn, StopsRun};
+ghost use Rattle.subtree_work.specs.Steps.{IsAhead, VisitsBase, VisitsMet, GivesMetBack, MeetsHere, StopsMeeting, FailsAt, MovesOn, StopsRun};
 
+use crate::choice::{Choice, choose};
 use crate::leaves::Leaves;
-use crate::progress::{Progress, counts_children, is_kept, stops};
+use crate::progress::{Progress, counts_children};
 use crate::rows::show_columns;
 use crate::search::Search;
 use convert_core::Basis;
@@ -61,6 +62,7 @@ pub(crate) fn run_on<S: Sink, L: Ledger>(
         depth: 0,
         count,
         sure: 0,
+        small_left: 0,
         leaves: Leaves::none(),
     };
     let mut so_far = Progress {
@@ -89,6 +91,7 @@ fn step<S: Sink, L: Ledger>(
     requires search { IsSearchOfEach search.old.sys.now search.old.rays search.old.walker search.old.vector.items }
     requires budget { IsBudget budget }
     requires reach { IsInReach so_far }
+    requires fits { so_far.count.bases + so_far.small_left ≤ budget.bases }
     ensures takes { IfOk result (λ r. MovesOn budget search.old.sys.now search.old.walker r.0 search.new.walker so_far
         (S.written out.old) r.1 (S.written out.new)) }
     ensures stops { IfErr result (StopsRun search.old.sys.now search.old.walker search.new.walker (S.written out.old)
@@ -99,7 +102,7 @@ fn step<S: Sink, L: Ledger>(
     ensures cause { RisesAt WorkStop.WriteFault (S.faults out.old) (S.faults out.new) result }
 {
     match search.walker.next(steps) {
-        Ok(Visit::New) => match meet(search, budget, so_far.met(), out) {
+        Ok(Visit::New) => match meet(search, budget, so_far.met(), out, steps) {
             Ok(next) => Ok((Visit::New, next)),
             Err(stop) => Err(stop),
         },
@@ -109,18 +112,47 @@ fn step<S: Sink, L: Ledger>(
     }
 }
 
-// At a new cobasis: it is visited, or its key is given back and its columns are passed over.
-fn meet<S: Sink>(
+// At a new cobasis: it is visited, or its key is given back.
+fn meet<S: Sink, L: Ledger>(
     search: &mut Search,
     budget: Budget,
     met: Progress,
     out: &mut S,
+    steps: &mut Steps<L>,
 ) -> Result<Progress, WorkStop>
     requires search { IsSearchOfEach search.old.sys.now search.old.rays search.old.walker search.old.vector.items }
     requires budget { IsBudget budget }
     requires sum { HasFewLines met.count }
     requires few { met.count.bases ≤ most_bases }
-    ensures meets { IfOk result (VisitsOrGivesBack budget search.old.sys.now search.old.walker search.new.walker met
+    requires fits { met.count.bases + met.small_left ≤ budget.bases }
+    ensures meets { IfOk result (MeetsHere budget search.old.sys.now search.old.walker search.new.walker met
+        (S.written out.old) (S.written out.new)) }
+    ensures stops { IfErr result (StopsMeeting search.old.sys.now search.old.walker search.new.walker (S.written out.old)
+        (S.written out.new)) }
+    ensures sys { search.new.sys.now ≡ search.old.sys.now }
+    ensures rays { search.new.rays ≡ search.old.rays }
+    ensures width { length search.new.vector.items ≡ length search.old.vector.items }
+    ensures cause { RisesAt WorkStop.WriteFault (S.faults out.old) (S.faults out.new) result }
+{
+    match choose(search, budget, met, steps) {
+        Ok(Choice::Visited { small_left }) => visit_met(search, budget, met, small_left, out),
+        Ok(Choice::GivenBack) => give_met_back(search, met, out),
+        Err(overflow) => Err(WorkStop::Overflow(overflow)),
+    }
+}
+
+// It is visited; then so many bases are left of a small subtree.
+fn visit_met<S: Sink>(
+    search: &mut Search,
+    budget: Budget,
+    met: Progress,
+    small_left: u64,
+    out: &mut S,
+) -> Result<Progress, WorkStop>
+    requires search { IsSearchOfEach search.old.sys.now search.old.rays search.old.walker search.old.vector.items }
+    requires sum { HasFewLines met.count }
+    requires few { met.count.bases < most_bases }
+    ensures visits { IfOk result (VisitsMet budget search.old.sys.now search.old.walker search.new.walker met small_left
         (S.written out.old) (S.written out.new)) }
     ensures fails { OnErr result (FailsAt search.old.sys.now search.old.walker (S.written out.old) (S.written out.new)) }
     ensures unmoved { OnErr result (search.new.walker ≡ search.old.walker) }
@@ -130,16 +162,37 @@ fn meet<S: Sink>(
     ensures width { length search.new.vector.items ≡ length search.old.vector.items }
     ensures cause { RisesAt WorkStop.WriteFault (S.faults out.old) (S.faults out.new) result }
 {
-    if is_visited(search, budget, met) {
-        return match visit(search, met.count, out) {
-            Ok(count) => Ok(Progress {
-                count,
-                sure: met.sure.saturating_add(children_ahead(search, budget, met)),
-                ..met
-            }),
-            Err(stop) => Err(stop),
-        };
+    match visit(search, met.count, out) {
+        Ok(count) => Ok(Progress {
+            count,
+            sure: met
+                .sure
+                .saturating_add(children_ahead(search, budget, met)),
+            small_left,
+            ..met
+        }),
+        Err(stop) => Err(stop),
     }
+}
+
+// Its key is given back, and its columns are passed over.
+fn give_met_back<S: Sink>(
+    search: &mut Search,
+    met: Progress,
+    out: &mut S,
+) -> Result<Progress, WorkStop>
+    requires search { IsSearchOfEach search.old.sys.now search.old.rays search.old.walker search.old.vector.items }
+    requires sum { HasFewLines met.count }
+    requires few { met.count.bases ≤ most_bases }
+    ensures gives { IfOk result (GivesMetBack search.old.walker search.new.walker met (S.written out.old) (S.written out.new)) }
+    ensures fails { OnErr result (FailsAt search.old.sys.now search.old.walker (S.written out.old) (S.written out.new)) }
+    ensures unmoved { OnErr result (search.new.walker ≡ search.old.walker) }
+    ensures no_overflow { (o : Passed) → IsErrOf result (WorkStop.Overflow o) → ⊥ }
+    ensures sys { search.new.sys.now ≡ search.old.sys.now }
+    ensures rays { search.new.rays ≡ search.old.rays }
+    ensures width { length search.new.vector.items ≡ length search.old.vector.items }
+    ensures cause { RisesAt WorkStop.WriteFault (S.faults out.old) (S.faults out.new) result }
+{
     let key = search.walker.dict().key();
     match give_back(&key, met.count, out) {
         Ok(count) => {
@@ -148,21 +201,6 @@ fn meet<S: Sink>(
         }
         Err(stop) => Err(stop),
     }
-}
-
-// Whether the cobasis where the walk stands is visited; else its key is given back. Where the last bases of the budget are kept
-// for leaves, only a leaf is visited.
-fn is_visited(search: &Search, budget: Budget, met: Progress) -> bool
-    ensures yes { IsTrue result → AllowsVisit budget met.depth met.count.bases }
-    ensures no { IsFalse result → MayGiveBack budget met }
-{
-    if stops(budget, met.depth, met.count.bases) {
-        return false;
-    }
-    if is_kept(budget, met) {
-        return search.walker.child_count() == 0;
-    }
-    true
 }
 
 // How many keys more are sure to be met once the cobasis where the walk stands is visited.

@@ -38,6 +38,7 @@ steps-init g c =
       depth = 0;
       count = c.in_ok-count.count;
       sure = c.children_ahead.result;
+      small_left = 0;
       leaves = c.none.result;
     } in
     record {
@@ -48,7 +49,7 @@ steps-init g c =
           c.full-left.result c.full-left.ensures (g.S.Sink.written c.args.out.now) (g.S.Sink.written c.visit.new.out) none
           so_far refl refl refl refl c.in_ok-count.ensures.visited
           (subst (λ (w : Walk). IsAhead c.args.budget w 0 c.children_ahead.result) c.in_ok-count.ensures.walker
-          c.children_ahead.ensures) c.requires.budget.some c.visit.new.search.vector.items
+          c.children_ahead.ensures) refl c.requires.budget.some c.visit.new.search.vector.items
           c.in_ok-count.ensures.width);
       sys = c.in_ok-count.ensures.sys;
       rays = c.in_ok-count.ensures.rays;
