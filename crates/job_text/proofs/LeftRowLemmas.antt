@@ -1,5 +1,6 @@
 -- The first line of what is left of a reply: it shows the next row, gives a key back, or is the last.
-use Rattle.std.proofs.Common.{arith, ◌≡◌, ◌⊎◌, inl, inr, ℕ, List, [], ◌∷◌, ◌++◌, refl, sym, ap, subst, ◌∙◌, append_assoc, drop, length, length-append, ◌<◌}
+use Rattle.std.proofs.Common.{arith, ◌≡◌, ◌⊎◌, inl, inr, ℕ, List, [], ◌∷◌, ◌++◌, refl, sym, ap, ◌∙◌, append_assoc, ◌+◌, ◌-◌, take, drop, length, length-append, ◌<◌}
+use Rattle.std.proofs.Math.Seq.{take-append-add}
 use Rattle.std.specs.Prelude.{codes}
 use Rattle.std.specs.List.{AllByRecursion}
 use Rattle.plain_text.specs.Cuts.{CutsLine, GoesOnWith, Lacks}
@@ -7,7 +8,7 @@ use Rattle.plain_text.proofs.CutLemmas.{lacks_append, lacks_tested}
 use Rattle.plain_text.proofs.ReadLemmas.{line_is, no_line}
 use Rattle.poly_num.specs.Vectors.{Vector}
 use Rattle.poly_model.specs.LabelText.{key_text}
-use Rattle.poly_model.specs.ListingText.{entries_text}
+use Rattle.poly_model.specs.ListingText.{entries_text, vector_text}
 use Rattle.poly_model.specs.declared.listed.Count.{Count}
 use Rattle.work_core.specs.ReplyLines.{ReplyLine, row_line, job_line, line_text, lines_text, rows_in_lines}
 use Rattle.job_text.specs.declared.reply.Reply.{Reply}
@@ -48,12 +49,28 @@ pub job_or_end : {line : List ℕ} (a b : List ℕ) → line ≡ codes "job " ++
 unfolding first_of
 job_or_end a b p q = let e : 106 ≡ 101 = ap first_of (sym p ∙ q) in omega (arith, e)
 
+-- the entries of a row with the line feed behind them
+entry_line : (v : Vector) → entries_text v ++ 10 ∷ [] ≡ vector_text v
+unfolding vector_text
+entry_line v = refl
+
+up_to_line_feed : (entries rest : List ℕ) (n : ℕ) → n ≡ length entries + 1 → take n (entries ++ 10 ∷ rest) ≡ entries ++ 10 ∷ []
+up_to_line_feed entries rest n e = rw e (take-append-add entries (10 ∷ rest) 1)
+
+-- what stands behind the word of the first line, with its line feed
+pub row_line_is : (text line rest entries : List ℕ) → CutsLine text line rest → line ≡ codes "row" ++ entries →
+    take (length line + 1 - 3) (drop 3 text) ≡ entries ++ 10 ∷ []
+row_line_is text line rest entries cut is =
+    rw (cut.whole, is) (up_to_line_feed entries rest (length (codes "row" ++ entries) + 1 - 3)
+    (omega (arith, length-append (codes "row") entries)))
+
 -- ---- the first line
 
 pub record ShowsNext (n : ℕ) (rows : List Vector) (line rest : List ℕ) : Type 0 where
   pub entries : List ℕ
   pub is : line ≡ codes "row" ++ entries
-  pub takes : TakesRow n rows entries rest
+  pub takes : TakesRow n rows (entries ++ 10 ∷ []) rest
+  pub blank : GoesOnWith 32 entries
 
 pub record GivesBack (n : ℕ) (rows : List Vector) (line rest : List ℕ) : Type 0 where
   pub key : List ℕ
@@ -95,19 +112,21 @@ module _ (n : ℕ) (rows : List Vector) (text line rest : List ℕ) (cut : CutsL
               row = v;
               width = fit.0.0;
               nums = fit.0.2;
-              is_text = refl;
+              is_text = entry_line v;
               others = rows_in_lines lines;
               first = are;
               left = left lines fit.1 (rows_in_lines lines) refl k.1;
             };
+            blank = entries_go_on v;
           })
       by (job_line key ∷ lines) fit are is = let k = cut_is (job_line key) lines fit.0 is in
           inr (inl (record { key = key_text key; is = k.0; left = left lines fit.1 rows are k.1 }))
 
-  pub shows_next : (entries : List ℕ) → line ≡ codes "row" ++ entries → LeavesRows n rows text → TakesRow n rows entries rest
+  pub shows_next : (entries : List ℕ) → line ≡ codes "row" ++ entries → LeavesRows n rows text →
+      TakesRow n rows (entries ++ 10 ∷ []) rest × GoesOnWith 32 entries
   shows_next entries is h = elim (first_line h) [
     | inl shows ↦ let same : entries ≡ shows.entries = ap (drop 3) (sym is ∙ shows.is) in
-        rw same shows.takes
+        rw same (shows.takes, shows.blank)
     | inr (inl back) ↦ absurd (row_or_job entries back.key is back.is)
     | inr (inr last) ↦ absurd (row_or_end entries last.count is last.is)
   ]
@@ -125,11 +144,6 @@ module _ (n : ℕ) (rows : List Vector) (text line rest : List ℕ) (cut : CutsL
     | inr (inl back) ↦ absurd (job_or_end back.key count back.is is)
     | inr (inr last) ↦ last.none
   ]
-
-  -- the entries of a row are behind a blank
-  pub entries_blank : (entries : List ℕ) → line ≡ codes "row" ++ entries → LeavesRows n rows text → GoesOnWith 32 entries
-  entries_blank entries is h =
-      let takes = shows_next entries is h in subst (GoesOnWith 32) (sym takes.is_text) (entries_go_on takes.row)
 
   -- no other line is left
   pub no_other : ((entries : List ℕ) → line ≡ codes "row" ++ entries → ⊥) → ((key : List ℕ) → line ≡ codes "job " ++ key → ⊥) →

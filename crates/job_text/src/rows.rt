@@ -1,11 +1,10 @@
 //! The rows of a reply, which stay in its text, and how they are taken from there.
 ghost use Rattle.std.specs.Prelude.{◌≡◌, ◌<◌, ℕ, [], List, length, IfOk, IfSome, IsNone, OnErr};
 ghost use Rattle.poly_num.specs.Vectors.{Vector};
-ghost use Rattle.plain_text.specs.Cuts.{GoesOnWith};
 ghost use Rattle.poly_model.specs.declared.listed.Count.{Count};
 ghost use Rattle.job_text.specs.declared.reply.Reply.{Reply as Whole};
 ghost use Rattle.job_text.specs.declared.reply.Tail.TheVariants.{End};
-ghost use Rattle.job_text.specs.LeftRows.{LeavesRows, TakesRow};
+ghost use Rattle.job_text.specs.LeftRows.{IsEntryLine, LeavesRows, TakesRow};
 ghost use Rattle.job_text.specs.Replies.{IsWholeReply};
 ghost use Rattle.job_text.specs.RowTexts.{shown_rows};
 
@@ -62,13 +61,13 @@ pub fn rows_behind(text: &[u8]) -> Option<&[u8]>
 }
 
 /// The next row of what is left of a reply that ends in `end`: the text of its entries, each behind one blank, as
-/// `read_entries` reads them, and what is left then. None where no row is left. The entries are not read here, and
-/// whether all lines fit is not judged: this is for a text that was read before. `BadReply` comes where a line is neither one
-/// of a row nor one of a key, and no `end`; so it comes for no such reply.
+/// `read_entries` reads them, with the line feed behind them, and what is left then. None where no row is left. The entries
+/// are not read here, and whether all lines fit is not judged: this is for a text that was read before. `BadReply` comes where
+/// a line is neither one of a row nor one of a key, and no `end`; so it comes for no such reply.
 pub fn next_row(left: &[u8]) -> Result<Option<(&[u8], &[u8])>, BadReply>
     ensures row { IfOk result (λ found. IfSome found (λ r. (n : ℕ) (rows : List Vector) → LeavesRows n rows left.now
         → TakesRow n rows r.0.now r.1.now)) }
-    ensures blank { IfOk result (λ found. IfSome found (λ r. GoesOnWith 32 r.0.now)) }
+    ensures blank { IfOk result (λ found. IfSome found (λ r. IsEntryLine r.0.now)) }
     ensures fewer { IfOk result (λ found. IfSome found (λ r. length r.1.now < length left.now)) }
     ensures end { IfOk result (λ found. IsNone found → (n : ℕ) (rows : List Vector) → LeavesRows n rows left.now → rows ≡ []) }
     ensures bad { OnErr result ((n : ℕ) (rows : List Vector) → LeavesRows n rows left.now → ⊥) }
@@ -82,7 +81,7 @@ pub fn next_row(left: &[u8]) -> Result<Option<(&[u8], &[u8])>, BadReply>
             if !goes_on(entries) {
                 return Err(BadReply);
             }
-            return Ok(Some((entries, rest)));
+            return Ok(Some((&left[3..line.len() + 1], rest)));
         }
         let Some(_key) = strip_front(line, b"job ") else {
             return match strip_front(line, b"end ") {

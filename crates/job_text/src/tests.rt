@@ -279,16 +279,16 @@ const LEFT: [(&str, &[&str], Result<(), BadReply>); 6] = [
     ("end 0 0 1\n", &[], Ok(())),
     (
         "row 1 0 -12\njob 1 9\nrow 0 1 0\nend 2 1 1\n",
-        &[" 1 0 -12", " 0 1 0"],
+        &[" 1 0 -12\n", " 0 1 0\n"],
         Ok(()),
     ),
-    ("row 1 0 -12\nmemory\n", &[" 1 0 -12"], Err(BadReply)),
+    ("row 1 0 -12\nmemory\n", &[" 1 0 -12\n"], Err(BadReply)),
     (
         "row 1 0 -12\nrows 2\nend 2 0 1\n",
-        &[" 1 0 -12"],
+        &[" 1 0 -12\n"],
         Err(BadReply),
     ),
-    ("row 1 0 -12\nend 1 0 1", &[" 1 0 -12"], Err(BadReply)),
+    ("row 1 0 -12\nend 1 0 1", &[" 1 0 -12\n"], Err(BadReply)),
     ("", &[], Err(BadReply)),
 ];
 
@@ -297,7 +297,7 @@ fn take_rows(text: &str, rows: &[&str]) -> Result<Result<(), BadReply>, Fail> {
     let mut left = text.as_bytes();
     for row in rows {
         match next_row(left) {
-            Ok(Some((entries, rest))) if entries == row.as_bytes() => left = rest,
+            Ok(Some((line, rest))) if line == row.as_bytes() => left = rest,
             _ => return Err("another row")?,
         }
     }

@@ -1,5 +1,5 @@
 //! A listing that is being written.
-ghost use Rattle.std.specs.Prelude.{◌≡◌, ◌≤◌, ◌++◌, codes, length, IfOk};
+ghost use Rattle.std.specs.Prelude.{◌≡◌, ◌≤◌, ◌++◌, length, IfOk};
 ghost use Rattle.std.specs.List.{flat_map};
 ghost use Rattle.poly_io.specs.Written.{Prints};
 ghost use Rattle.poly_model.specs.Limits.{most_columns};
@@ -7,7 +7,7 @@ ghost use Rattle.poly_model.specs.ListingText.{head_text, vector_text, row_text,
 
 use crate::head::write_head;
 use crate::point::write_row;
-use crate::vector::{write_line, write_vector};
+use crate::vector::write_vector;
 use poly_io::{Sink, WriteFault, write_all};
 use poly_model::{Kind, Vector};
 use poly_num::Num;
@@ -77,12 +77,12 @@ impl Listing {
         Ok(self)
     }
 
-    /// Writes a row by the text of its entries, each behind one blank: one whose line has them as they stand.
-    pub fn entries<S: Sink>(self, out: &mut S, text: &[u8]) -> Result<Listing, WriteFault>
-        ensures prints { Prints S.Sink out.old out.new result (text.now ++ codes "\n") }
+    /// Writes a row by its text, with the line feed at its end.
+    pub fn row_by_text<S: Sink>(self, out: &mut S, text: &[u8]) -> Result<Listing, WriteFault>
+        ensures prints { Prints S.Sink out.old out.new result text.now }
         ensures kind { IfOk result (λ l. l ≡ self) }
     {
-        write_line(text, out)?;
+        write_all(out, text)?;
         Ok(self)
     }
 

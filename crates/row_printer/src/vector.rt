@@ -1,5 +1,4 @@
 //! A row of whole entries.
-ghost use Rattle.std.specs.Prelude.{◌++◌, codes};
 ghost use Rattle.poly_io.specs.Written.{Prints};
 ghost use Rattle.poly_model.specs.ListingText.{entry_text, entries_text, vector_text};
 
@@ -29,12 +28,4 @@ pub(crate) fn write_entry<S: Sink>(y: Num, out: &mut S) -> Result<(), WriteFault
 {
     write_all(out, b" ")?;
     write_num(y, out)
-}
-
-/// A line of this text.
-pub(crate) fn write_line<S: Sink>(text: &[u8], out: &mut S) -> Result<(), WriteFault>
-    ensures { Prints S.Sink out.old out.new result (text.now ++ codes "\n") }
-{
-    write_all(out, text)?;
-    write_all(out, b"\n")
 }

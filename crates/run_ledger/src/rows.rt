@@ -6,9 +6,8 @@ ghost use Rattle.poly_num.specs.Vectors.{Vector};
 ghost use Rattle.poly_model.specs.ListingText.{entries_text, row_text, vector_text};
 ghost use Rattle.poly_io.specs.Causes.{HasCause, RisesAt};
 ghost use Rattle.poly_io.specs.Written.{Prints};
-ghost use Rattle.plain_text.specs.Cuts.{GoesOnWith};
 ghost use Rattle.job_text.specs.declared.reply.Reply.{Reply as TheReply};
-ghost use Rattle.job_text.specs.LeftRows.{LeavesRows};
+ghost use Rattle.job_text.specs.LeftRows.{IsEntryLine, LeavesRows};
 ghost use Rattle.job_text.specs.Replies.{IsWholeReply};
 ghost use Rattle.row_printer.specs.Rows.{counted};
 ghost use Rattle.run_state.specs.Payloads.{SaysEnd};
@@ -38,38 +37,39 @@ fn is_line(kind: Kind, entries: &[u8]) -> bool
     }
 }
 
-// Writes the row whose entries this text is; `row` is room for it.
+// Writes the row whose entries this line has; `row` is room for it.
 fn write_row<O: Sink>(
-    text: &[u8],
+    line: &[u8],
     row: &mut [Num],
     listing: Listing,
     out: &mut O,
 ) -> Result<Listing, WriteFault>
-    requires { GoesOnWith 32 text.now }
-    ensures prints { (v : Vector) → length v ≡ length row.old → AllByRecursion IsNum v → text.now ≡ entries_text v
+    requires { IsEntryLine line.now }
+    ensures prints { (v : Vector) → length v ≡ length row.old → AllByRecursion IsNum v → line.now ≡ vector_text v
         → Prints O.Sink out.old out.new result (row_text listing v) }
     ensures size { length row.new ≡ length row.old }
     ensures kind { IfOk result (λ l. l ≡ listing) }
     ensures cause { HasCause (O.faults out.old) (O.faults out.new) result }
 {
-    if is_line(listing.kind(), text) {
-        listing.entries(out, text)
+    let entries = &line[..line.len() - 1];
+    if is_line(listing.kind(), entries) {
+        listing.row_by_text(out, line)
     } else {
         // The clause speaks of texts of rows alone, and those are read.
-        read_entries(row, text);
+        read_entries(row, entries);
         listing.row(out, row)
     }
 }
 
 // The same, and counts it.
 fn print_row<O: Sink>(
-    text: &[u8],
+    line: &[u8],
     row: &mut [Num],
     printed: Printed,
     out: &mut O,
 ) -> Result<Printed, WriteFault>
-    requires { GoesOnWith 32 text.now }
-    ensures prints { (v : Vector) → length v ≡ length row.old → AllByRecursion IsNum v → text.now ≡ entries_text v
+    requires { IsEntryLine line.now }
+    ensures prints { (v : Vector) → length v ≡ length row.old → AllByRecursion IsNum v → line.now ≡ vector_text v
         → Prints O.Sink out.old out.new result (row_text printed.listing v) }
     ensures size { length row.new ≡ length row.old }
     ensures kind { IfOk result (λ s. s.listing ≡ printed.listing) }
@@ -77,7 +77,7 @@ fn print_row<O: Sink>(
     ensures cause { HasCause (O.faults out.old) (O.faults out.new) result }
 {
     let Printed { listing, rows } = printed;
-    let listing = write_row(text, row, listing, out)?;
+    let listing = write_row(line, row, listing, out)?;
     Ok(Printed {
         listing,
         rows: rows.saturating_add(1),
@@ -104,8 +104,8 @@ fn print_left<O: Sink>(
     let mut printed = printed;
     'rows: loop {
         match next_row(left) {
-            Ok(Some((entries, rest))) => {
-                printed = print_row(entries, row, printed, out)?;
+            Ok(Some((line, rest))) => {
+                printed = print_row(line, row, printed, out)?;
                 left = rest;
             }
             Ok(None) => return Ok(printed),

@@ -1,4 +1,4 @@
-use Rattle.std.proofs.Common.{◌≡◌, ◌∙◌, take, refl, arith, length-set}
+use Rattle.std.proofs.Common.{◌∙◌, take, refl, arith, length-set}
 use Rattle.std.specs.Fmt.{signed_decimal}
 use Rattle.std.proofs.lemmas.List.{take_more_set}
 use Rattle.job_text.proofs.EntryLemmas.{no_entries, entries_more, nums_push}

@@ -1,5 +1,5 @@
 use Rattle.std.proofs.Common.{arith}
-use Rattle.job_text.proofs.LeftRowLemmas.{ends_rows, entries_blank, fewer_behind, gives_back, no_other, shows_next, some_line_left}
+use Rattle.job_text.proofs.LeftRowLemmas.{ends_rows, fewer_behind, gives_back, no_other, row_line_is, shows_next, some_line_left}
 use Rattle.job_text.proofs.rows.next_row.Goals as goal
 
 pub returns-in_default-clause-bad : goal.returns-in_default-clause-bad
@@ -9,13 +9,23 @@ returns-in_default-clause-bad c n rows left =
 pub returns-then-not-goes_on-clause-bad : goal.returns-then-not-goes_on-clause-bad
 returns-then-not-goes_on-clause-bad c n rows left =
     c.goes_on.ensures.no c.if-not-goes_on.true
-    (entries_blank n rows c.lines.left.now c.in-Some.line.now c.in-Some.rest.now c.in-Some.ensures
-    c.in-Some-strip_front.entries.now c.in-Some-strip_front.ensures (c.lines.invariant.left n rows left))
+    (shows_next n rows c.lines.left.now c.in-Some.line.now c.in-Some.rest.now c.in-Some.ensures
+    c.in-Some-strip_front.entries.now c.in-Some-strip_front.ensures (c.lines.invariant.left n rows left)).1
 
 pub returns-in-Some-strip_front-clause-row : goal.returns-in-Some-strip_front-clause-row
 returns-in-Some-strip_front-clause-row c n rows left =
-    shows_next n rows c.lines.left.now c.in-Some.line.now c.in-Some.rest.now c.in-Some.ensures
-    c.in-Some-strip_front.entries.now c.in-Some-strip_front.ensures (c.lines.invariant.left n rows left)
+    rw (row_line_is c.lines.left.now c.in-Some.line.now c.in-Some.rest.now c.in-Some-strip_front.entries.now
+    c.in-Some.ensures c.in-Some-strip_front.ensures)
+    (shows_next n rows c.lines.left.now c.in-Some.line.now c.in-Some.rest.now c.in-Some.ensures
+    c.in-Some-strip_front.entries.now c.in-Some-strip_front.ensures (c.lines.invariant.left n rows left)).0
+
+pub returns-in-Some-strip_front-clause-blank : goal.returns-in-Some-strip_front-clause-blank
+returns-in-Some-strip_front-clause-blank c = record {
+  entries = c.in-Some-strip_front.entries.now;
+  whole = row_line_is c.lines.left.now c.in-Some.line.now c.in-Some.rest.now c.in-Some-strip_front.entries.now
+      c.in-Some.ensures c.in-Some-strip_front.ensures;
+  blank = c.goes_on.ensures.yes c.if-not-goes_on.false;
+}
 
 pub returns-in-Some-strip_front-clause-fewer : goal.returns-in-Some-strip_front-clause-fewer
 returns-in-Some-strip_front-clause-fewer c =

@@ -17,7 +17,7 @@ one_row listing next = sym (flat_map-cons (row_text listing) next [] ∙ append-
 pub returns-in_err-printed-in-Ok-Some-clause-rows : goal.returns-in_err-printed-in-Ok-Some-clause-rows
 returns-in_err-printed-in-Ok-Some-clause-rows g c rows left =
     let (rest, at, owes) = c.rows.invariant.owes rows left in
-    let takes : TakesRow (length c.args.row.now) rest c.in-Ok-Some.entries.now c.in-Ok-Some.rest.now =
+    let takes : TakesRow (length c.args.row.now) rest c.in-Ok-Some.line.now c.in-Ok-Some.rest.now =
     (rw c.in-Ok-Some.field-0-is at c.in-Ok-Some.ensures.row) (length c.args.row.now) rest at in
     let next = takes.row in
     stops_within g.O.Sink rows c.args.printed c.args.out.now rest c.rows.printed c.rows.out owes (next ∷ []) takes.others
@@ -37,7 +37,7 @@ rows-preserved g c =
       same = same ∙ inv.same;
       owes = λ rows left.
           let (rest, at, owes) = inv.owes rows left in
-          let takes : TakesRow (length c.args.row.now) rest c.in-Ok-Some.entries.now c.in-Ok-Some.rest.now =
+          let takes : TakesRow (length c.args.row.now) rest c.in-Ok-Some.line.now c.in-Ok-Some.rest.now =
           (rw c.in-Ok-Some.field-0-is at c.in-Ok-Some.ensures.row) (length c.args.row.now) rest at in
           let next = takes.row in (
             takes.others,
