@@ -1,6 +1,9 @@
 //! Whether a line of a reply fits, and what it says.
-ghost use Rattle.std.specs.Prelude.{◌≡◌, length, ⊤};
+ghost use Rattle.std.specs.Prelude.{◌≡◌, ◌++◌, codes, length, ⊤, IsTrue};
 ghost use Rattle.plain_text.specs.Cuts.{GoesOnWith};
+ghost use Rattle.poly_model.specs.ListingText.{entries_text};
+ghost use Rattle.work_core.specs.ReplyLines.{row_line};
+ghost use Rattle.job_text.specs.LineTexts.{IsReplyLine};
 ghost use Rattle.plain_text.specs.Texts.{IsReadOf};
 ghost use Rattle.job_text.specs.declared.keyword.Keyword.TheVariants.{Row, Job, End, Overflow, Memory};
 ghost use Rattle.job_text.specs.Fits.{said_by, MaySay, MaySayAs, said_text, behind_keyword};
@@ -13,7 +16,7 @@ use crate::keyword::Keyword;
 use crate::overflow::read_overflow;
 use crate::said::Fit;
 use crate::words::next_key;
-use plain_text::{is_text, split_word, strip_front};
+use plain_text::{goes_on, is_text, split_word, strip_front};
 use poly_num::Num;
 
 fn read_keyword(word: &[u8]) -> Option<Keyword>
@@ -31,6 +34,18 @@ fn read_keyword(word: &[u8]) -> Option<Keyword>
         Some(Keyword::Memory)
     } else {
         None
+    }
+}
+
+/// Whether a line shows a row. Then its entries are read into place; else the place may have anything.
+pub(crate) fn is_row(line: &[u8], row: &mut [Num]) -> bool
+    ensures size { length row.new ≡ length row.old }
+    ensures yes { IsTrue result → IsReplyLine (length row.old) (row_line row.new)
+        × (line.now ≡ codes "row" ++ entries_text row.new) }
+{
+    match strip_front(line, b"row") {
+        Some(entries) => goes_on(entries) && read_row(row, entries),
+        None => false,
     }
 }
 

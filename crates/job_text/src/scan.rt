@@ -2,7 +2,7 @@
 ghost use Rattle.std.specs.Prelude.{◌≡◌, ℕ, length, IfOk, IsErrOf};
 ghost use Rattle.job_text.specs.Scans.{IsScanOf, StopsScanAt};
 
-use crate::fit::fit_line;
+use crate::fit::{fit_line, is_row};
 use crate::said::Fit;
 use crate::{ReplyStop, Tail};
 use plain_text::split_line;
@@ -37,22 +37,26 @@ pub(crate) fn scan_lines<'a>(
             Some(found) => found,
             None => return Err(ReplyStop::NotWhole { place }),
         };
-        let fit = fit_line(line, row, rows, keys.len() as u64);
         let next = place + line.len() as u64 + 1;
-        match fit {
-            Fit::No => return Err(ReplyStop::NotWhole { place }),
-            Fit::Row => rows += 1,
-            Fit::Job(key) => keys.push(key)?,
-            Fit::Last(tail) => {
-                if behind.is_empty() {
-                    return Ok(Scan {
-                        front: &text[..place as usize],
-                        rows,
-                        keys,
-                        tail,
-                    });
+        // Most lines are rows. What another line says takes room for a key, which is not made for these.
+        if is_row(line, row) {
+            rows += 1;
+        } else {
+            match fit_line(line, row, rows, keys.len() as u64) {
+                Fit::No => return Err(ReplyStop::NotWhole { place }),
+                Fit::Row => rows += 1,
+                Fit::Job(key) => keys.push(key)?,
+                Fit::Last(tail) => {
+                    if behind.is_empty() {
+                        return Ok(Scan {
+                            front: &text[..place as usize],
+                            rows,
+                            keys,
+                            tail,
+                        });
+                    }
+                    return Err(ReplyStop::NotWhole { place: next });
                 }
-                return Err(ReplyStop::NotWhole { place: next });
             }
         }
         place = next;

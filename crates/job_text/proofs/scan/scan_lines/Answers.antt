@@ -5,7 +5,8 @@ use Rattle.std.proofs.Math.Seq.{take-append_seam}
 use Rattle.plain_text.specs.Texts.{IsReadOf}
 use Rattle.plain_text.proofs.ReadLemmas.{read_none, read_at}
 use Rattle.job_text.specs.Fits.{Said, MaySay, said_text}
-use Rattle.work_core.specs.ReplyLines.{lines_text}
+use Rattle.work_core.specs.ReplyLines.{lines_text, row_line}
+use Rattle.job_text.specs.LineTexts.{IsReplyLine}
 use Rattle.job_text.specs.Scans.{StopsScanAt}
 use Rattle.job_text.specs.declared.scan.Scan.{Scan}
 use Rattle.job_text.specs.declared.stops.ReplyStop.{ReplyStop}
@@ -41,12 +42,12 @@ returns-in-No-clause-stop c place e =
     let l = c.lines in
     stopped (length c.args.row.now) c.args.text.now l.place place
     (no_fit _ _ _ _ _ _ l.invariant.scanned (omega arith) (omega arith) c.in-Some.found.0.now c.in-Some.found.1.now c.in-Some.ensures
-    (λ x may is. read_none refl (said_of (length c.args.row.now) (length l.row) l.rows (length l.keys.items) c.len.result l.invariant.size (search rules) c.in-No.ensures.fits) x may is)) e
+    (λ x may is. read_none refl (said_of (length c.args.row.now) (length c.is_row.new.row) l.rows (length l.keys.items) c.len.result (c.is_row.ensures.size ∙ l.invariant.size) (search rules) c.in-No.ensures.fits) x may is)) e
 
 pub returns-in-Last-clause-stop : goal.returns-in-Last-clause-stop
 returns-in-Last-clause-stop c place e =
     let l = c.lines in
-    let k = read_at refl (said_of (length c.args.row.now) (length l.row) l.rows (length l.keys.items) c.len.result l.invariant.size (search rules) c.in-Last.ensures.fits) in
+    let k = read_at refl (said_of (length c.args.row.now) (length c.is_row.new.row) l.rows (length l.keys.items) c.len.result (c.is_row.ensures.size ∙ l.invariant.size) (search rules) c.in-Last.ensures.fits) in
     stopped (length c.args.row.now) c.args.text.now _ place
     (more_behind _ _ _ _ _ _ l.invariant.scanned (omega arith) (omega arith) c.in-Some.found.0.now c.in-Some.found.1.now c.in-Some.ensures
     c.in-Last.tail k.0 k.1
@@ -56,7 +57,7 @@ pub returns-then-is_empty-clause-ok : goal.returns-then-is_empty-clause-ok
 returns-then-is_empty-clause-ok c =
     let l = c.lines in
     let s = l.invariant.scanned in
-    let k = read_at refl (said_of (length c.args.row.now) (length l.row) l.rows (length l.keys.items) c.len.result l.invariant.size (search rules) c.in-Last.ensures.fits) in
+    let k = read_at refl (said_of (length c.args.row.now) (length c.is_row.new.row) l.rows (length l.keys.items) c.len.result (c.is_row.ensures.size ∙ l.invariant.size) (search rules) c.in-Last.ensures.fits) in
     let empty = empty_from_length c.in-Some.found.1.now
     (eqb-true (length c.in-Some.found.1.now) 0 (sym c.is_empty.ensures ∙ c.if-is_empty.true)) in
     record {
@@ -71,26 +72,38 @@ returns-then-is_empty-clause-ok c =
       ends = tail_may _ _ _ _ _ _ s (omega arith) (omega arith) c.in-Some.found.0.now c.in-Some.found.1.now c.in-Some.ensures c.in-Last.tail k.0;
     }
 
-pub lines-preserved-in-Row : goal.lines-preserved-in-Row
-lines-preserved-in-Row c =
+pub lines-preserved-then-is_row : goal.lines-preserved-then-is_row
+lines-preserved-then-is_row c =
     let l = c.lines in
-    let k = read_at refl (said_of (length c.args.row.now) (length l.row) l.rows (length l.keys.items) c.len.result l.invariant.size (search rules) c.in-Row.ensures.fits) in
+    let shown = c.is_row.ensures.yes c.if-is_row.true in
     record {
       scanned =
           row_scanned _ _ _ _ _ _ l.invariant.scanned (omega arith) (omega arith) c.in-Some.found.0.now c.in-Some.found.1.now c.in-Some.ensures
-          c.fit_line-fit.new.row k.0 k.1;
-      size = c.in-Row.ensures.size ∙ l.invariant.size;
+          c.is_row.new.row (subst (λ (n : ℕ). IsReplyLine n (row_line c.is_row.new.row)) l.invariant.size shown.0) shown.1;
+      size = c.is_row.ensures.size ∙ l.invariant.size;
+      few = omega (arith, l.invariant.few);
+    }
+
+pub lines-preserved-in-Row : goal.lines-preserved-in-Row
+lines-preserved-in-Row c =
+    let l = c.lines in
+    let k = read_at refl (said_of (length c.args.row.now) (length c.is_row.new.row) l.rows (length l.keys.items) c.len.result (c.is_row.ensures.size ∙ l.invariant.size) (search rules) c.in-Row.ensures.fits) in
+    record {
+      scanned =
+          row_scanned _ _ _ _ _ _ l.invariant.scanned (omega arith) (omega arith) c.in-Some.found.0.now c.in-Some.found.1.now c.in-Some.ensures
+          c.fit_line.new.row k.0 k.1;
+      size = c.in-Row.ensures.size ∙ c.is_row.ensures.size ∙ l.invariant.size;
       few = omega (arith, l.invariant.few);
     }
 
 pub lines-preserved : goal.lines-preserved
 lines-preserved c =
     let l = c.lines in
-    let k = read_at refl (said_of (length c.args.row.now) (length l.row) l.rows (length l.keys.items) c.len.result l.invariant.size (search rules) c.in-Job.ensures.fits) in
+    let k = read_at refl (said_of (length c.args.row.now) (length c.is_row.new.row) l.rows (length l.keys.items) c.len.result (c.is_row.ensures.size ∙ l.invariant.size) (search rules) c.in-Job.ensures.fits) in
     record {
       scanned =
           job_scanned _ _ _ _ _ _ l.invariant.scanned (omega arith) (omega arith) c.in-Some.found.0.now c.in-Some.found.1.now c.in-Some.ensures
           c.in-Job.key _ k.0 k.1 (search rules);
-      size = c.in-Job.ensures.size ∙ l.invariant.size;
+      size = c.in-Job.ensures.size ∙ c.is_row.ensures.size ∙ l.invariant.size;
       few = omega (arith, l.invariant.few);
     }
