@@ -1,5 +1,5 @@
 -- A walk that counts what is under the root of its job.
-use Rattle.std.proofs.Common.{Result, Ok, Err, ◌≡◌, ◌⊎◌, inl, inr, ◌≤◌, ◌<◌, ℕ, zero, suc, ◌+◌, List, [], ◌∷◌, ◌++◌, length, Option, Some, None, refl, sym, ap, subst, ◌∙◌, arith}
+use Rattle.std.proofs.Common.{Result, Ok, Err, ◌≡◌, inl, inr, ◌≤◌, ◌<◌, ℕ, zero, suc, ◌+◌, List, [], ◌∷◌, ◌++◌, length, Option, Some, None, refl, sym, subst, ◌∙◌, arith}
 use Rattle.std.specs.Prelude.{IfOk, IfErr}
 use Rattle.poly_model.specs.declared.overflow.Overflow.{Overflow}
 use Rattle.poly_model.specs.Spaces.{Space}
@@ -14,7 +14,7 @@ use Rattle.reverse_step.specs.Runs.{HasRun}
 use Rattle.reverse_step.specs.Children.{StopsWalk}
 use Rattle.reverse_step.specs.Again.{IsAgain, WeighsWithin, StopsElsewhere}
 use Rattle.reverse_step.specs.Weighing.{CountsOneMore, CountsStep, IsCountOf, HasWeighed}
-use Rattle.reverse_step.proofs.RunLemmas.{run_starts, some_left, run_new, run_given, run_back, run_ends}
+use Rattle.reverse_step.proofs.RunLemmas.{run_starts, run_new, run_given, run_back, run_ends}
 
 -- so many were counted, each visited and none passed over; or they are too many
 abbrev pub HasCounted : ℕ → Option ℕ → List (List ℕ) → List (List ℕ) → Type 0
@@ -137,8 +137,7 @@ module _ (first walk new : Walk) (most left : ℕ) (found next : Option ℕ) (h 
       IsWeight space first.root first.job n
   weighs space home w step n e =
       let g = h.each space home w in
-      let c : HasCounted most (Some n) g.visited g.given = subst (λ o. HasCounted most o g.visited g.given) e g.counted in
-      (
+      let c : HasCounted most (Some n) g.visited g.given = subst (λ o. HasCounted most o g.visited g.given) e g.counted in (
         g.visited,
         run_ends space home first walk new g.visited left g.taken
             (subst (λ ks. HasRun space home first walk g.visited ks (left + 1) g.taken) c.1 g.run) step,

@@ -41,7 +41,7 @@ use Rattle.work_core.proofs.WalkedLemmas.{rows-append, keys-append, writes_then}
 use Rattle.subtree_work.specs.declared.progress.Progress.{Progress}
 use Rattle.subtree_work.specs.Rows.{lines_of_rows, IsShownOf}
 use Rattle.subtree_work.specs.declared.choice.Choice.TheVariants.{Visited}
-use Rattle.subtree_work.specs.Steps.{counted_depth, IsAtDepth, IsCovered, AllowsVisit, BeginsSmall, MayChoose, IsMet, IsAhead, VisitsBase, GivesKeyBack, VisitsMet, GivesMetBack}
+use Rattle.subtree_work.specs.Steps.{counted_depth, IsAtDepth, IsCovered, MayChoose, IsMet, IsAhead, VisitsBase, GivesKeyBack, VisitsMet, GivesMetBack}
 use Rattle.subtree_work.proofs.RowLines.{rows_of_rows, keys_of_rows}
 use Rattle.subtree_work.proofs.Sure.{AtLeast, fewer, at_least_behind, at_least_others, at_least_beside, at_least_more, at_least_all}
 

@@ -1,5 +1,5 @@
 -- What a step makes of a run on its way: it goes on, it ends, or it stops.
-use Rattle.std.proofs.Common.{◌≡◌, inl, inr, ℕ, ◌+◌, List, length, Option, Result, Err, refl, sym, subst, ◌∙◌, arith}
+use Rattle.std.proofs.Common.{◌≡◌, ℕ, ◌+◌, List, length, Option, Result, Err, refl, sym, subst, ◌∙◌, arith}
 use Rattle.std.specs.Prelude.{IsErrOf}
 use Rattle.poly_io.specs.Causes.{Rose, RisesAt}
 use Rattle.poly_num.specs.Vectors.{Vector}
@@ -12,7 +12,6 @@ use Rattle.reverse_step.specs.declared.walker.Visit.TheVariants.{New, Back, End}
 use Rattle.poly_model.specs.Spaces.{main_space}
 use Rattle.reverse_step.specs.Walks.{Walk, IsWalkIn}
 use Rattle.reverse_step.specs.Moves.{IsVisit}
-use Rattle.reverse_step.specs.Again.{IsAgain}
 use Rattle.reverse_step.proofs.AgainLemmas.{visit_again, stops_behind}
 use Rattle.convert_core.specs.declared.rays.Rays.{Rays}
 use Rattle.convert_core.specs.Searches.{IsSearch}
@@ -29,7 +28,7 @@ use Rattle.subtree_work.specs.Counts.{IsInReach}
 use Rattle.subtree_work.specs.Made.{IsSearchOfEach}
 use Rattle.subtree_work.specs.declared.choice.Choice.{Choice}
 use Rattle.subtree_work.specs.declared.choice.Choice.TheVariants.{Visited, GivenBack}
-use Rattle.subtree_work.specs.Steps.{MayChoose, DoesChosen, MeetsHere, MeetsNewBase, FailsAt, MovesOn, StopsMeeting, StopsRun}
+use Rattle.subtree_work.specs.Steps.{MayChoose, DoesChosen, MeetsHere, MeetsNewBase, MovesOn, StopsMeeting, StopsRun}
 use Rattle.subtree_work.proofs.Running.{Running, goes_new, goes_given, goes_back}
 use Rattle.subtree_work.proofs.Ending.{cut_now, due_now, torn_now, whole_run}
 

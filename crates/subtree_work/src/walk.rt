@@ -165,9 +165,7 @@ fn visit_met<S: Sink>(
     match visit(search, met.count, out) {
         Ok(count) => Ok(Progress {
             count,
-            sure: met
-                .sure
-                .saturating_add(children_ahead(search, budget, met)),
+            sure: met.sure.saturating_add(children_ahead(search, budget, met)),
             small_left,
             ..met
         }),

@@ -1,7 +1,6 @@
 use Rattle.std.proofs.Common.{Err, sym, ap, subst, ◌∙◌}
 use Rattle.std.specs.Prelude.{IfErr}
 use Rattle.std.proofs.lemmas.Result.{err_from_is_err_and}
-use Rattle.reverse_step.specs.Walks.{Walk}
 use Rattle.reverse_step.specs.Again.{StopsElsewhere}
 use Rattle.reverse_step.proofs.RunLemmas.{some_left}
 use Rattle.reverse_step.proofs.WeighLemmas.{Counting, counting_starts, counting_on, counting_ends, counting_stops}

@@ -17,8 +17,13 @@ returns-clause-again g c =
     subst (λ (w : Walk). IfOk r (λ _. IsAgain w
     (record { dict = b.here; root = b.order; job = a.job; at = a.at; parent = kept_parent b.back b.other }))) c.self.view_is
     (is_again first key c.key-self-inside.ensures new c.args.most r
-    (subst (λ (w : Walk). IfOk r (HasWeighed (record { dict = a.here; root = a.order; job = key; at = 0;
-    parent = kept_parent a.back a.other }) w c.args.most)) (sym c.self-2.view_is) c.weigh-found.ensures.weighed))
+    (subst (λ (w : Walk). IfOk r (HasWeighed (record {
+      dict = a.here;
+      root = a.order;
+      job = key;
+      at = 0;
+      parent = kept_parent a.back a.other;
+    }) w c.args.most)) (sym c.self-2.view_is) c.weigh-found.ensures.weighed))
 
 pub returns-clause-weight : goal.returns-clause-weight
 returns-clause-weight g c =
@@ -41,5 +46,10 @@ returns-clause-stops g c =
     subst (λ (w : Walk). IfErr r (StopsElsewhere w
     (record { dict = b.here; root = b.order; job = a.job; at = a.at; parent = kept_parent b.back b.other }))) c.self.view_is
     (stops_restored first key c.key-self-inside.ensures new c.args.most r
-    (subst (λ (w : Walk). IfErr r (StopsElsewhere (record { dict = a.here; root = a.order; job = key; at = 0;
-    parent = kept_parent a.back a.other }) w)) (sym c.self-2.view_is) c.weigh-found.ensures.stops))
+    (subst (λ (w : Walk). IfErr r (StopsElsewhere (record {
+      dict = a.here;
+      root = a.order;
+      job = key;
+      at = 0;
+      parent = kept_parent a.back a.other;
+    }) w)) (sym c.self-2.view_is) c.weigh-found.ensures.stops))
