@@ -25,7 +25,7 @@ CountsStep old New new most found next = (there : Walk) × IsVisit old New there
 CountsStep old Back new most found next = IsVisit old Back new × (next ≡ found)
 CountsStep old End new most found next = IsVisit old End new × (next ≡ found) × (new ≡ old)
 
--- they are so many, and no more than `most`; or they are more
+-- they are so many, and no more than `most`; or nothing is said
 abbrev pub IsCountOf : Walk → ℕ → Option ℕ → Type 0
 IsCountOf first most None = Unit {0}
 IsCountOf first most (Some n) =
