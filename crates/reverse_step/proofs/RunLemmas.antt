@@ -27,7 +27,7 @@ use Rattle.reverse_step.proofs.Bounds.{few_keys}
 rows_once : (space : Space) (home : Table) (walk : Walk) → IsWalkIn space home walk → AreDistinct (rows_in space.labels)
 rows_once space home walk w = ascending_distinct (rows_in space.labels) w.stands.ascending
 
-laws_of : (space : Space) (home : Table) (walk : Walk) → IsWalkIn space home walk → AreSplit space walk.root
+pub laws_of : (space : Space) (home : Table) (walk : Walk) → IsWalkIn space home walk → AreSplit space walk.root
 laws_of space home walk w = are_split space walk.root home w.stands.feasible_root (rows_once space home walk w)
 
 -- a key that is one has itself under it

@@ -1,10 +1,14 @@
 -- A walk that counts what is under the root of its job.
 use Rattle.std.proofs.Common.{Result, Ok, Err, ◌≡◌, inl, inr, ◌≤◌, ◌<◌, ℕ, zero, suc, ◌+◌, List, [], ◌∷◌, ◌++◌, length, Option, Some, None, refl, sym, subst, ◌∙◌, arith}
 use Rattle.std.specs.Prelude.{IfOk, IfErr}
+use Rattle.std.specs.List.{Contains}
+use Rattle.linear_laws.proofs.Members.{Contains-first}
 use Rattle.poly_model.specs.declared.overflow.Overflow.{Overflow}
 use Rattle.poly_model.specs.Spaces.{Space}
 use Rattle.poly_model.specs.Dictionaries.{Table}
-use Rattle.search_laws.specs.Weights.{IsWeight}
+use Rattle.search_laws.specs.Shares.{IsFeasibleKey}
+use Rattle.search_laws.specs.Weights.{IsWeight, IsTotal}
+use Rattle.search_laws.specs.Splits.{IsSplit, AreSplit}
 use Rattle.countdown.specs.Digits.{enough}
 use Rattle.reverse_step.specs.declared.walker.Visit.{Visit}
 use Rattle.reverse_step.specs.declared.walker.Visit.TheVariants.{New, Back, End}
@@ -13,12 +17,12 @@ use Rattle.reverse_step.specs.Moves.{past, IsVisit}
 use Rattle.reverse_step.specs.Runs.{HasRun}
 use Rattle.reverse_step.specs.Children.{StopsWalk}
 use Rattle.reverse_step.specs.Again.{IsAgain, WeighsWithin, StopsElsewhere}
-use Rattle.reverse_step.specs.Weighing.{CountsOneMore, CountsStep, IsCountOf, HasWeighed}
-use Rattle.reverse_step.proofs.RunLemmas.{run_starts, run_new, run_given, run_back, run_ends}
+use Rattle.reverse_step.specs.Weighing.{IsFull, CountsOneMore, CountsStep, IsCountOf, HasWeighed}
+use Rattle.reverse_step.proofs.RunLemmas.{laws_of, at_least_one, run_starts, run_new, run_given, run_back, run_over, run_ends}
 
--- so many were counted, each visited and none passed over; or they are too many
+-- so many were counted, each visited and none passed over; or `most` at least were visited, and some passed over
 abbrev pub HasCounted : ℕ → Option ℕ → List (List ℕ) → List (List ℕ) → Type 0
-HasCounted most None visited given = Unit {0}
+HasCounted most None visited given = (most ≤ length visited) × (0 < length given)
 HasCounted most (Some n) visited given = (n ≡ length visited) × (given ≡ [])
 
 -- in one space
@@ -39,6 +43,23 @@ pub record Counting (first walk : Walk) (most left : ℕ) (found : Option ℕ) :
   pub phase : walk.dict.phase ≡ first.dict.phase
   pub few : IsFew most found
   pub each : (space : Space) (home : Table) → IsWalkIn space home first → CountedIn space home first walk most left found
+
+-- `most` were visited where no more are counted
+full_visited : (most : ℕ) (found : Option ℕ) (visited given : List (List ℕ)) → IsFull most found →
+    HasCounted most found visited given → most ≤ length visited
+full_visited most None visited given f c = c.0
+full_visited most (Some n) visited given f c = let e = c.0 in omega (arith, f, e)
+
+some_given : (given : List (List ℕ)) (key : List ℕ) → 0 < length (given ++ key ∷ [])
+some_given [] key = omega arith
+some_given (k ∷ given) key = omega arith
+
+-- keys that wait weigh something
+total_some : (space : Space) (root : List ℕ) (keys : List (List ℕ)) (w : ℕ) →
+    ((one : List ℕ) → Contains keys one → IsFeasibleKey space root one) → IsTotal space root keys w → 0 < length keys → 0 < w
+total_some space root [] w f t some = omega (arith, some)
+total_some space root (key ∷ keys) w f (u, v, weighs, rest, e) some =
+    let a = at_least_one space root key u weighs (f key (Contains-first key keys)) in omega (arith, a, e)
 
 pub counting_starts : (first : Walk) (most left : ℕ) → IsAtStart first → 0 < most → enough ≤ left →
     Counting first first most left (Some 1)
@@ -78,8 +99,9 @@ module _ (first walk new : Walk) (most left : ℕ) (found next : Option ℕ) (h 
         };
   }
 
-  on_many : (there : Walk) → IsVisit walk New there → next ≡ None → Counting first (past there) most left next
-  on_many there step e = record {
+  on_many : (there : Walk) → IsVisit walk New there → IsFull most found → next ≡ None →
+      Counting first (past there) most left next
+  on_many there step full e = record {
     root = step.root ∙ h.root;
     job = step.job ∙ h.job;
     phase = step.phase ∙ h.phase;
@@ -91,7 +113,8 @@ module _ (first walk new : Walk) (most left : ℕ) (found next : Option ℕ) (h 
           given = g.given ++ there.dict.key ∷ [];
           taken = g.taken + 1;
           run = run_given space home first walk there g.visited g.given left g.taken g.run step;
-          counted = subst (λ o. HasCounted most o g.visited (g.given ++ there.dict.key ∷ [])) (sym e) tt;
+          counted = subst (λ o. HasCounted most o g.visited (g.given ++ there.dict.key ∷ [])) (sym e)
+              (full_visited most found g.visited g.given full g.counted, some_given g.given there.dict.key);
         };
   }
 
@@ -116,8 +139,8 @@ module _ (first walk new : Walk) (most left : ℕ) (found next : Option ℕ) (h 
       Counting first new most left next
   counting_on New n (there, step, inl x) =
       subst (λ (w : Walk). Counting first w most left next) (sym x.stays) (on_one there step x)
-  counting_on New n (there, step, inr (e, s)) =
-      subst (λ (w : Walk). Counting first w most left next) (sym s) (on_many there step e)
+  counting_on New n (there, step, inr x) =
+      subst (λ (w : Walk). Counting first w most left next) (sym x.passed) (on_many there step x.full x.next_is)
   counting_on Back n (step, e) = on_back step e
   counting_on End n x = absurd (n refl)
 
@@ -144,8 +167,37 @@ module _ (first walk new : Walk) (most left : ℕ) (found next : Option ℕ) (h 
         sym c.0,
       )
 
+  weighs_more : (space : Space) (home : Table) → IsWalkIn space home first → IsVisit walk End new → found ≡ None →
+      (n : ℕ) × IsWeight space first.root first.job n × (most < n)
+  weighs_more space home w step e = (
+    length g.visited + total.0,
+    laws.weight first.job g.visited g.given total.0 over total.1,
+    let v = c.0 in omega (arith, v, given_some),
+  )
+    where
+      g : CountedIn space home first walk most (left + 1) found
+      g = h.each space home w
+
+      c : HasCounted most None g.visited g.given
+      c = subst (λ o. HasCounted most o g.visited g.given) e g.counted
+
+      laws : AreSplit space first.root
+      laws = laws_of space home first w
+
+      over : IsSplit space first.root first.job g.visited g.given
+      over = run_over space home first walk new g.visited g.given left g.taken g.run step
+
+      feasible : (one : List ℕ) → Contains g.given one → IsFeasibleKey space first.root one
+      feasible one m = (over.waits one m).0
+
+      total : (v : ℕ) × IsTotal space first.root g.given v
+      total = laws.total g.given feasible
+
+      given_some : 0 < total.0
+      given_some = total_some space first.root g.given total.0 feasible total.1 c.1
+
   counts : IsVisit walk End new → (o : Option ℕ) → found ≡ o → IsCountOf first most o
-  counts step None e = tt
+  counts step None e = λ space home w. weighs_more space home w step e
   counts step (Some n) e = (subst (λ o. IsFew most o) e h.few, λ space home w. weighs space home w step n e)
 
   pub counting_ends : (visit : Visit) → visit ≡ End → CountsStep walk visit new most found next →
@@ -198,7 +250,8 @@ module _ (first : Walk) (key : List ℕ) (same : key ≡ first.dict.key) (new : 
   is_again (Err e) h = h
 
   within : (o : Option ℕ) → IsCountOf alone most o → WeighsWithin first most o
-  within None c = tt
+  within None c = λ space home w.
+      subst (λ k. (n : ℕ) × IsWeight space first.root k n × (most < n)) same (c space home (walks_alone space home w))
   within (Some n) (l, c) = (
     l,
     λ space home w. subst (λ k. IsWeight space first.root k n) same (c space home (walks_alone space home w)),

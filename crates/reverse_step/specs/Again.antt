@@ -1,5 +1,5 @@
 -- A walk that has looked ahead: it stands where it stood, or where a pivot overflows elsewhere.
-use Rattle.std.specs.Prelude.{◌≡◌, ℕ, ◌≤◌, Option, Some, None}
+use Rattle.std.specs.Prelude.{◌≡◌, ℕ, ◌≤◌, ◌<◌, Option, Some, None}
 use Rattle.poly_model.specs.declared.overflow.Overflow.{Overflow}
 use Rattle.poly_model.specs.Spaces.{Space}
 use Rattle.poly_model.specs.Dictionaries.{Table}
@@ -27,9 +27,15 @@ abbrev pub WeighsHere : Walk → ℕ → Type 0
 WeighsHere walk w =
     (space : Space) (home : Table) → IsWalkIn space home walk → IsWeight space walk.root walk.dict.key w
 
--- they are so many and no more than `most`; or nothing is said
+-- more than `most` are under it
+abbrev pub WeighsMore : Walk → ℕ → Type 0
+WeighsMore walk most =
+    (space : Space) (home : Table) → IsWalkIn space home walk →
+    (w : ℕ) × IsWeight space walk.root walk.dict.key w × (most < w)
+
+-- they are so many and no more than `most`; or they are more
 abbrev pub WeighsWithin : Walk → ℕ → Option ℕ → Type 0
-WeighsWithin walk most None = Unit {0}
+WeighsWithin walk most None = WeighsMore walk most
 WeighsWithin walk most (Some w) = (w ≤ most) × WeighsHere walk w
 
 -- a number passes in a pivot of the walk, which has gone there

@@ -213,8 +213,8 @@ impl Walker {
         }
     }
 
-    /// How many cobases are under that where it stands, itself among them, if they are at most so many; or none, of which nothing
-    /// is promised. It goes through them as far as it has to, and then stands there again with the same columns still to be tried.
+    /// How many cobases are under that where it stands, itself among them, if they are at most so many; none where they are more.
+    /// It goes through them as far as it has to, and then stands there again with the same columns still to be tried.
     /// Where a pivot overflows it stands elsewhere, where it came to. Takes no memory.
     pub fn weight_within<L: Ledger>(
         &mut self,
