@@ -1,7 +1,6 @@
 //! The walk, and the rows that are printed on it.
-ghost use Rattle.std.specs.Prelude.{◌≡◌, ◌+◌, ◌≤◌, ◌↔◌, length, IfOk, IfErr, IsErrOf, IsTrue};
+ghost use Rattle.std.specs.Prelude.{◌≡◌, ◌+◌, ◌≤◌, length, IfOk, IfErr, IsErrOf};
 ghost use Rattle.poly_io.specs.Causes.{RisesAt};
-ghost use Rattle.reverse_step.specs.declared.walker.Visit.TheVariants.{End};
 ghost use Rattle.poly_model.specs.declared.overflow.Overflow.{Overflow as Passed};
 ghost use Rattle.poly_model.specs.Due.{IsDue, IsAskedInMain};
 ghost use Rattle.convert_core.specs.Rows.{ShowsColumns, columns_of};
@@ -49,7 +48,7 @@ pub(crate) fn list_rows<S: Sink, L: Ledger>(
         left.lower();
         let (visit, next) = step(search, shown, out, steps)?;
         shown = next;
-        if is_end(visit) {
+        if visit.is_end() {
             return Ok(shown);
         }
     }
@@ -105,14 +104,5 @@ fn show<S: Sink>(search: &mut Search, shown: Shown, out: &mut S) -> Result<Shown
     match show_columns(&at, &mut search.vector, shown, out) {
         Ok(shown) => Ok(shown),
         Err(WriteFault) => Err(Ended::WriteFault),
-    }
-}
-
-fn is_end(visit: Visit) -> bool
-    ensures { IsTrue result ↔ (visit ≡ End) }
-{
-    match visit {
-        Visit::End => true,
-        Visit::New | Visit::Back => false,
     }
 }

@@ -36,6 +36,18 @@ pub enum Visit {
     End,
 }
 
+impl Visit {
+    /// Whether all is visited.
+    pub fn is_end(self) -> bool
+        ensures { IsTrue result ↔ (self ≡ End) }
+    {
+        match self {
+            Visit::End => true,
+            Visit::New | Visit::Back => false,
+        }
+    }
+}
+
 /// A walk through the cobases under one of them, the job's root, depth first.
 pub struct Walker {
     here: Dict,

@@ -1,6 +1,5 @@
 //! How many cobases are under that where a walk stands, if they are few.
-ghost use Rattle.std.specs.Prelude.{◌≡◌, ◌<◌, ◌≤◌, ◌↔◌, IfOk, IfErr, IfSome, IsTrue};
-ghost use Rattle.reverse_step.specs.declared.walker.Visit.TheVariants.{End};
+ghost use Rattle.std.specs.Prelude.{◌≡◌, ◌<◌, ◌≤◌, IfOk, IfErr, IfSome};
 ghost use Rattle.reverse_step.specs.Again.{IsWalkSomewhere, StopsElsewhere};
 ghost use Rattle.reverse_step.specs.Children.{StopsWalk};
 ghost use Rattle.reverse_step.specs.Walks.{IsAtStart};
@@ -31,7 +30,7 @@ pub(crate) fn weigh<L: Ledger>(
         left.lower();
         let (visit, next) = count_step(walker, most, found, steps)?;
         found = next;
-        if is_end(visit) {
+        if visit.is_end() {
             return Ok(found);
         }
     }
@@ -69,13 +68,4 @@ fn count_here(walker: &mut Walker, most: u64, found: Option<u64>) -> Option<u64>
     }
     walker.pass();
     None
-}
-
-fn is_end(visit: Visit) -> bool
-    ensures { IsTrue result ↔ (visit ≡ End) }
-{
-    match visit {
-        Visit::End => true,
-        Visit::New | Visit::Back => false,
-    }
 }

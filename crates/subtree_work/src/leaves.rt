@@ -9,7 +9,7 @@ enum Last {
 }
 
 /// How many bases would be kept if each later child were a leaf. Where a budget ends some twenty keys wait, most of them later
-/// children; with this number the jobs of a run were fewest (docs/DECISIONS).
+/// children; with this number the jobs of a run were fewest (docs/SPEED.md).
 const MOST_KEPT: u64 = 10;
 
 /// So many later children say that there are leaves among them, or none.

@@ -1,10 +1,9 @@
 //! A run under a key: the walk, and the lines that are written on it.
-ghost use Rattle.std.specs.Prelude.{◌≡◌, ◌↔◌, ◌≤◌, ◌<◌, ◌+◌, length, IfOk, IfErr, OnErr, IsErrOf, IsTrue};
+ghost use Rattle.std.specs.Prelude.{◌≡◌, ◌≤◌, ◌<◌, ◌+◌, length, IfOk, IfErr, OnErr, IsErrOf};
 ghost use Rattle.poly_io.specs.Causes.{RisesAt};
 ghost use Rattle.poly_model.specs.declared.overflow.Overflow.{Overflow as Passed};
 ghost use Rattle.poly_model.specs.Due.{IsDue, IsAskedInMain};
 ghost use Rattle.poly_model.specs.Systems.{Polyhedron, cone_of};
-ghost use Rattle.reverse_step.specs.declared.walker.Visit.TheVariants.{End};
 ghost use Rattle.reverse_step.specs.Walks.{IsAtStart};
 ghost use Rattle.work_core.specs.ReplyLines.{IsWholeRun, IsCutRun, IsTornRun};
 ghost use Rattle.work_core.specs.Searches.{by_subtrees};
@@ -74,7 +73,7 @@ pub(crate) fn run_on<S: Sink, L: Ledger>(
         left.lower();
         let (visit, next) = step(search, budget, so_far, out, steps)?;
         so_far = next;
-        if is_end(visit) {
+        if visit.is_end() {
             return Ok(so_far.count);
         }
     }
@@ -237,14 +236,5 @@ fn visit<S: Sink>(search: &mut Search, count: Count, out: &mut S) -> Result<Coun
     match show_columns(&at, &mut search.vector, one_base(count), out) {
         Ok(count) => Ok(count),
         Err(WriteFault) => Err(WorkStop::WriteFault),
-    }
-}
-
-fn is_end(visit: Visit) -> bool
-    ensures { IsTrue result ↔ (visit ≡ End) }
-{
-    match visit {
-        Visit::End => true,
-        Visit::New | Visit::Back => false,
     }
 }
