@@ -254,12 +254,7 @@ impl Core {
             unreachable!()
         };
         let attempts = (self.options.workers - self.out + 1) as usize;
-        make_room(
-            &mut self.queue,
-            &mut self.sent,
-            reply.keys.as_slice().len(),
-            attempts,
-        )?;
+        make_room(&mut self.queue, &mut self.sent, reply.keys.len(), attempts)?;
         let first = self.run.len();
         let key = self.run.key_at(sent.place);
         match self.run.accept(&key, reply) {

@@ -25,7 +25,7 @@ pub record IsScanOf (n : ℕ) (text : List ℕ) (scan : Scan) : Type 0 where
   pub split : text ≡ lines_text lines ++ tail_text scan.tail
   pub front : scan.front.now ≡ lines_text lines
   pub rows_are : scan.rows ≡ length (rows_in_lines lines)
-  pub keys_are : scan.keys.items ≡ keys_in_lines lines
+  pub keys_are : scan.keys ≡ keys_in_lines lines
   pub ends : EndsLines lines scan.tail
 
 -- the lines that fit end here, behind so many bytes: nothing that may follow stands in front of the rest, or more stands

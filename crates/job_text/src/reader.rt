@@ -7,7 +7,7 @@ use crate::entries::zeros;
 use crate::lines::key_behind;
 use crate::scan::scan_lines;
 use crate::{PayloadStop, Reply, ReplyRows, ReplyStop};
-use poly_model::{Key, Keys};
+use poly_model::Key;
 use std::alloc::Global;
 
 /// Reads replies.
@@ -52,7 +52,7 @@ impl ReplyReader {
             Ok(scan) => Ok(Reply {
                 key: head,
                 rows: ReplyRows::of_lines(scan.front, scan.rows),
-                keys: Keys::from_vec(scan.keys),
+                keys: scan.keys,
                 tail: scan.tail,
             }),
             Err(stop) => Err(further(stop, start)),

@@ -6,7 +6,7 @@ use crate::fit::{fit_line, is_row};
 use crate::said::Fit;
 use crate::{ReplyStop, Tail};
 use plain_text::split_line;
-use poly_model::Key;
+use poly_model::Keys;
 use poly_num::Num;
 use std::alloc::Global;
 
@@ -15,7 +15,7 @@ use std::alloc::Global;
 pub(crate) struct Scan<'a> {
     pub front: &'a [u8],
     pub rows: u64,
-    pub keys: Vec<Key>,
+    pub keys: Keys,
     pub tail: Tail,
 }
 
@@ -28,7 +28,7 @@ pub(crate) fn scan_lines<'a>(
     ensures ok { IfOk result (λ s. IsScanOf (length row.old) text.now s) }
     ensures stop { (place : ℕ) → IsErrOf result (ReplyStop.NotWhole place) → StopsScanAt (length row.old) text.now place }
 {
-    let mut keys = Vec::new(alloc);
+    let mut keys = Keys::new(alloc);
     let mut rows = 0u64;
     let mut place = 0u64;
     let mut rest = text;
@@ -45,7 +45,7 @@ pub(crate) fn scan_lines<'a>(
             match fit_line(line, row, rows, keys.len() as u64) {
                 Fit::No => return Err(ReplyStop::NotWhole { place }),
                 Fit::Row => rows += 1,
-                Fit::Job(key) => keys.push(key)?,
+                Fit::Job(key) => keys.push(&key)?,
                 Fit::Last(tail) => {
                     if behind.is_empty() {
                         return Ok(Scan {

@@ -268,10 +268,9 @@ fn reads_a_reply(rt: HostRuntime) {
     };
     assert_eq!(rt; reply.tail, Tail::End(count));
     assert_eq!(rt; reply.rows.len(), 1);
-    assert_eq!(rt;
-        reply.keys.as_slice(),
-        [Key::empty().with(Label::row(9))].as_slice()
-    );
+    let (first, others) = reply.keys.left().next().expect(&rt, "a key");
+    assert_eq!(rt; first, [Label::row(9)].as_slice());
+    assert_eq!(rt; others.next().is_none(), true);
 }
 
 /// What is left of a reply, and its rows up to the first line of another form.

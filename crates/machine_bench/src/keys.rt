@@ -40,7 +40,7 @@ pub fn read_replies(alloc: Global, keys: u64) -> Result<u64, Stop> {
         let mut text = MemSink::new(alloc, &[]);
         write_reply(number, &mut text)?;
         let reply = ReplyReader::read_any(alloc, COLUMNS, text.written())?;
-        given = given.saturating_add(reply.keys.as_slice().len() as u64);
+        given = given.saturating_add(reply.keys.len() as u64);
     }
     Ok(given)
 }

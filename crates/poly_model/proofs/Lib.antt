@@ -4,3 +4,4 @@ pub mod RoomLemmas
 pub mod TableLemmas
 mod LabelKnownValues
 mod ListingKnownValues
+pub mod KeyListLemmas

@@ -6,6 +6,7 @@
 mod cells;
 mod free;
 mod key;
+mod keys;
 mod kind;
 mod label;
 mod limits;
@@ -21,11 +22,12 @@ mod tests;
 
 pub use free::FreeColumns;
 pub use key::Key;
+pub use keys::{Keys, KeysLeft};
 pub use kind::{Kind, RowKind, WorkKind};
 pub use label::Label;
 pub use limits::{MOST_COLUMNS, MOST_CONE_ROWS, MOST_FILE_ROWS, MOST_LABELS};
 pub use listed::{Count, Listed};
-pub use lists::{Keys, Lines, Rows, Vector};
+pub use lists::{Lines, Rows, Vector};
 pub use memory::OutOfMemory;
 pub use overflow::{Overflow, Phase, Place};
 pub use poly::Poly;

@@ -1,7 +1,6 @@
 //! Lists that own their memory, for the fields of answers.
-ghost use Rattle.std.specs.Prelude.{◌≡◌, length};
+ghost use Rattle.std.specs.Prelude.{◌≡◌};
 
-use crate::Key;
 use poly_num::Num;
 use std::marker::Model;
 
@@ -79,42 +78,5 @@ impl Rows {
         ensures { result.now ≡ self.now }
     {
         &self.vectors
-    }
-}
-
-/// Keys, one after the other. Contracts see the list of them.
-#[derive(Drop)]
-pub struct Keys {
-    keys: Vec<Key>,
-}
-
-impl Model for Keys {
-    ghost use Rattle.std.specs.Prelude.{List};
-    ghost use Rattle.poly_model.specs.declared.key.Key.{Key};
-
-    ghost Value = { List Key };
-
-    ghost view = { λ k. k.keys.items };
-}
-
-impl Keys {
-    /// These keys. Takes no memory.
-    pub fn from_vec(keys: Vec<Key>) -> Keys
-        ensures { result ≡ keys.items }
-    {
-        Keys { keys }
-    }
-
-    /// Gives the keys back. Takes no memory.
-    pub fn into_vec(self) -> Vec<Key>
-        ensures { result.items ≡ self }
-    {
-        self.keys
-    }
-
-    pub fn as_slice(&self) -> &[Key]
-        ensures { result.now ≡ self.now }
-    {
-        &self.keys
     }
 }

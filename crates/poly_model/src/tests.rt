@@ -230,9 +230,30 @@ fn lists_give_back_what_they_are_made_of(rt: HostRuntime) -> Result<(), Fail> {
     for vector in lines.into_vec() {
         given = vector.into_vec().len();
     }
-    let keys = Keys::from_vec(Vec::from_slice(alloc, &[Key::empty()])?);
-    let first = keys.as_slice() == [Key::empty()].as_slice();
-    let held = keys.into_vec().len();
-    assert_eq!(rt; (entries, rows, given, first, held), (6, 1, 6, true, 1));
+    assert_eq!(rt; (entries, rows, given), (6, 1, 6));
+    Ok(())
+}
+
+#[test]
+fn keys_are_gone_through(rt: HostRuntime) -> Result<(), Fail> {
+    let alloc = rt.alloc();
+    let two = Key::from_ascending(&[Label::row(2), Label::row(5)]).ok_or("ascending")?;
+    let one = Key::from_ascending(&[Label::row(9)]).ok_or("ascending")?;
+    let mut keys = Keys::new(alloc);
+    keys.push(&two)?;
+    keys.push(&Key::empty())?;
+    keys.push(&one)?;
+    let mut found = Vec::new(alloc);
+    let mut left = keys.left();
+    for _ in 0..keys.len() {
+        let (labels, behind) = left.next().ok_or("a key is left")?;
+        found.push(Key::from_ascending(labels).ok_or("ascending")?)?;
+        left = behind;
+    }
+    let want = [two, Key::empty(), one];
+    assert_eq!(rt;
+        (found.as_slice(), left.next().is_none()),
+        (want.as_slice(), true)
+    );
     Ok(())
 }

@@ -48,7 +48,7 @@ fn tell(rt: &HostRuntime, task: Task, text: &Bytes) -> io::Result<()> {
     match ReplyReader::read(rt.alloc(), &key, n, text.as_slice()) {
         Ok(reply) => {
             let Reply { rows, keys, .. } = reply;
-            let (rows, keys) = (rows.len(), keys.as_slice().len());
+            let (rows, keys) = (rows.len(), keys.len());
             println!(rt; "{rows} rows {keys} keys")
         }
         Err(stop) => println!(rt; "{stop:?}"),

@@ -12,3 +12,4 @@ pub mod PlacedElements
 pub mod SideBySide
 pub mod TableLemmas
 pub mod WaitingLemmas
+pub mod LeftKeys

@@ -8,26 +8,29 @@ ghost use Rattle.run_state.specs.Stops.{IsRefused};
 
 use crate::AcceptStop;
 use indexmap::IndexSet;
-use poly_model::{Key, Label};
+use poly_model::{Key, Keys, Label};
 use std::alloc::{AllocError, Global};
 use std::collections::VecDeque;
 use std::marker::Model;
 
 // Adds a key, and says whether it was new.
-fn add_key(alloc: Global, known: &mut IndexSet<Vec<Label>>, key: &Key) -> Result<bool, AllocError>
+fn add_key(
+    alloc: Global,
+    known: &mut IndexSet<Vec<Label>>,
+    key: &[Label],
+) -> Result<bool, AllocError>
     ensures new { IfOk result (λ b. b ≡ not (holds (labels_in known.old.keys) key.now)) }
     ensures keys { IfOk result (λ b. labels_in known.new.keys
         ≡ (if b then labels_in known.old.keys ++ key.now ∷ [] else labels_in known.old.keys)) }
-    ensures is_key { IsKey key.now }
     ensures err { OnErr result (labels_in known.new.keys ≡ labels_in known.old.keys) }
 {
-    let labels = Vec::from_slice(alloc, key.labels())?;
+    let labels = Vec::from_slice(alloc, key)?;
     let added = known.insert(labels)?;
     Ok(added)
 }
 
 // Adds keys. Where one is known already, or there is no memory, none is added.
-fn add_keys(alloc: Global, known: &mut IndexSet<Vec<Label>>, keys: &[Key]) -> Result<(), AcceptStop>
+fn add_keys(alloc: Global, known: &mut IndexSet<Vec<Label>>, keys: &Keys) -> Result<(), AcceptStop>
     ensures keys { OnOk result (labels_in known.new.keys ≡ labels_in known.old.keys ++ keys.now) }
     ensures new { OnOk result (are_new (labels_in known.old.keys) keys.now ≡ true) }
     ensures are_keys { OnOk result ((k : List ℕ) → Contains keys.now k → IsKey k) }
@@ -35,45 +38,49 @@ fn add_keys(alloc: Global, known: &mut IndexSet<Vec<Label>>, keys: &[Key]) -> Re
     ensures stop { IfErr result (RefusesKeys (labels_in known.old.keys) keys.now) }
 {
     let was = known.len();
-    for key in keys {
+    let mut left = keys.left();
+    'keys: while let Some((key, behind)) = left.next() {
         match add_key(alloc, known, key) {
             Ok(true) => {}
             Ok(false) => {
                 known.truncate(was);
-                return Err(AcceptStop::Clash { key: *key });
+                return Err(AcceptStop::Clash { key: key_of(key) });
             }
             Err(_) => {
                 known.truncate(was);
                 return Err(AcceptStop::Memory);
             }
         }
+        left = behind;
     }
     Ok(())
 }
 
 // Whether keys may be added, without adding them.
-fn try_keys(alloc: Global, known: &IndexSet<Vec<Label>>, keys: &[Key]) -> Result<(), AcceptStop>
+fn try_keys(alloc: Global, known: &IndexSet<Vec<Label>>, keys: &Keys) -> Result<(), AcceptStop>
     ensures new { OnOk result (are_new (labels_in known.now.keys) keys.now ≡ true) }
     ensures stop { IfErr result (RefusesKeys (labels_in known.now.keys) keys.now) }
 {
     let mut earlier = IndexSet::new(alloc);
-    for key in keys {
+    let mut left = keys.left();
+    'keys: while let Some((key, behind)) = left.next() {
         if is_known(known, key) {
-            return Err(AcceptStop::Clash { key: *key });
+            return Err(AcceptStop::Clash { key: key_of(key) });
         }
         match add_key(alloc, &mut earlier, key) {
             Ok(true) => {}
-            Ok(false) => return Err(AcceptStop::Clash { key: *key }),
+            Ok(false) => return Err(AcceptStop::Clash { key: key_of(key) }),
             Err(_) => return Err(AcceptStop::Memory),
         }
+        left = behind;
     }
     Ok(())
 }
 
-fn is_known(known: &IndexSet<Vec<Label>>, key: &Key) -> bool
+fn is_known(known: &IndexSet<Vec<Label>>, key: &[Label]) -> bool
     ensures { result ≡ holds (labels_in known.now.keys) key.now }
 {
-    known.contains(key.labels())
+    known.contains(key)
 }
 
 /// Which of the known keys are done: a mark for each, and the places of those that are, in the order in which they were
@@ -90,7 +97,7 @@ fn take_in(
     known: &mut IndexSet<Vec<Label>>,
     done: &mut DoneKeys,
     job: &Key,
-    more: &[Key],
+    more: &Keys,
 ) -> Result<(), AcceptStop>
     requires { length done.old.marks.items ≡ length known.old.keys }
     ensures ok { OnOk result (IsTaken (labels_in known.old.keys) done.old.marks.items done.old.places.items
@@ -209,7 +216,7 @@ impl Known {
         }) }
     {
         let mut keys = IndexSet::new(alloc);
-        add_key(alloc, &mut keys, first)?;
+        add_key(alloc, &mut keys, first.labels())?;
         let mut marks = Vec::new(alloc);
         marks.push(false)?;
         let done = DoneKeys {
@@ -220,7 +227,7 @@ impl Known {
     }
 
     /// Takes a job in that is done, with the keys that it gave back.
-    pub(crate) fn take(&mut self, job: &Key, more: &[Key]) -> Result<(), AcceptStop>
+    pub(crate) fn take(&mut self, job: &Key, more: &Keys) -> Result<(), AcceptStop>
         ensures waits { OnOk result (Contains self.old.keys.waiting job.now) }
         ensures new_keys { OnOk result (are_new (self.old.keys.waiting ++ self.old.keys.done) more.now ≡ true) }
         ensures taken { OnOk result (self.new ≡ record {
@@ -234,7 +241,7 @@ impl Known {
     }
 
     /// Whether `take` would take the job in.
-    pub(crate) fn check(&self, job: &Key, more: &[Key]) -> Result<(), AcceptStop>
+    pub(crate) fn check(&self, job: &Key, more: &Keys) -> Result<(), AcceptStop>
         ensures waits { OnOk result (Contains self.now.keys.waiting job.now) }
         ensures new_keys { OnOk result (are_new (self.now.keys.waiting ++ self.now.keys.done) more.now ≡ true) }
         ensures refused { IfErr result (IsRefused self.now.keys job.now more.now) }

@@ -72,7 +72,7 @@ impl RunState {
         ensures refused { IfErr result (IsRefused self.old.keys job.now reply.now.keys) }
     {
         let rows = reply.rows.len();
-        self.known.take(job, reply.keys.as_slice())?;
+        self.known.take(job, &reply.keys)?;
         self.rows = self.rows.saturating_add(rows);
         Ok(())
     }
@@ -82,7 +82,7 @@ impl RunState {
         ensures fits { OnOk result (FitsIn self.now.keys reply.now) }
         ensures refused { IfErr result (IsRefused self.now.keys reply.now.key reply.now.keys) }
     {
-        self.known.check(&reply.key, reply.keys.as_slice())
+        self.known.check(&reply.key, &reply.keys)
     }
 
     /// Where the first payload of a ledger leads. `Bad` where it is the first payload of no search.

@@ -8,4 +8,4 @@ pub returns-clause-new : goal.returns-clause-new
 returns-clause-new c =
     c.in_ok-added.ensures.added
     ∙ ap not (any-holds c.args.known.now.keys c.in_ok-labels.labels.items
-    ∙ ap (holds (labels_in c.args.known.now.keys)) (c.in_ok-labels.ensures.items ∙ c.labels.ensures.value))
+    ∙ ap (holds (labels_in c.args.known.now.keys)) c.in_ok-labels.ensures.items)

@@ -1,4 +1,4 @@
-use Rattle.std.proofs.Common.{rules, ◌≡◌, ◌∙◌, ◌++◌, Some, false, true, slice_get, slice_set, replicate, length, ap, subst, sym, List, Bool, Err, IfErr}
+use Rattle.std.proofs.Common.{rules, ◌≡◌, ◌∙◌, ◌++◌, Some, false, true, slice_get, slice_set, replicate, length, ap, subst, sym, List, ℕ, Bool, Err, IfErr}
 use Rattle.std.proofs.lemmas.Result.{err_from_is_err_and}
 use Rattle.run_state.specs.Known.{RefusesJob, labels_in}
 use Rattle.run_state.proofs.TableLemmas.{stops_by_keys, waits_at}
@@ -15,7 +15,8 @@ returns-clause-ok c = record {
   are_keys = c.in_ok-add_keys.ensures.are_keys;
   keys_then = c.in_ok-add_keys.ensures.keys;
   marks_then = ap (λ (l : List Bool). slice_set l c.in_ok-place.place true)
-      (c.add_marks.ensures.items ∙ ap (λ (l : List Bool). l ++ replicate (length c.args.more.now) false) c.try_reserve.ensures.items);
+      (c.add_marks.ensures.items ∙ ap (λ (n : ℕ). c.try_reserve.new.self.items ++ replicate n false) c.len-2.ensures
+      ∙ ap (λ (l : List Bool). l ++ replicate (length c.args.more.now) false) c.try_reserve.ensures.items);
   places_then = search rules;
 }
 

@@ -68,7 +68,7 @@ returns-in-Ok-clause-ok c =
         lines = t.lines;
         fit = t.fit;
         rows = c.of_lines.ensures ∙ ap shown_rows t.front ∙ rows_are c.args.n t.lines t.fit;
-        keys = c.from_vec.ensures ∙ t.keys_are;
+        keys = t.keys_are;
         tail = t.ends;
         is_text = head_from c.in-Some.found.0 c.in-Some.found.1.now k.1
             ∙ ap (λ (l : List ℕ). reply_head c.in-Some.found.0 ++ l) t.split;
