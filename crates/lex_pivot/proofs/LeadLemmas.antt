@@ -4,6 +4,7 @@ use Rattle.std.specs.List.{Contains}
 use Rattle.std.specs.Cmp.{int_cmp_is}
 use Rattle.std.specs.declared.cmp.Ordering.TheVariants.{Less, Equal, Greater}
 use Rattle.std.proofs.lemmas.Bool.{cases_eq}
+use Rattle.std.proofs.lemmas.Int.{ints}
 use Rattle.std.proofs.lemmas.List.{get_or-set_same, get_or-set_other, length-set, length-replicate, get_or-replicate}
 use Rattle.std.proofs.lemmas.List.Elements.{Contains-get_or}
 use Rattle.poly_num.specs.Signs.{sign_of, lex_sign_of}
@@ -13,12 +14,23 @@ use Rattle.poly_model.specs.LexOrder.{rows_in, within}
 use Rattle.linear_laws.specs.Distinct.{AreDistinct}
 use Rattle.search_laws.specs.ChildTest.{downward}
 use Rattle.dictionary_laws.specs.Keys.{place_in, HaveSameLabels}
+use Rattle.dictionary_laws.proofs.KeyExchange.{ascending_distinct}
+use Rattle.dictionary_laws.proofs.Members.{sum_members, count_by_ones}
 use Rattle.dictionary.proofs.PlaceLemmas.{place_at, place_within, at_place}
 use Rattle.dictionary.specs.Cobases.{HasUnits}
 use Rattle.dictionary.specs.Views.{Dictionary, number, table_of}
-use Rattle.lex_pivot.specs.Leads.{lead_with, lead_sign, AreLeads, JoinsRow}
+use Rattle.lex_pivot.specs.Leads.{lead_with, lead_sign, HaveLeads, JoinsRow}
 use Rattle.lex_pivot.proofs.EarlierLemmas.{within_row, within_member, within_ascending}
 use Rattle.lex_pivot.proofs.FirstSigns.{IsZeroFrom, found_down, kept_down, none_down, sign_zero}
+
+-- there are as many columns as labels of the cobasis
+pub as_many : (key columns : List ℕ) → IsAscending key → AreDistinct columns → HaveSameLabels key columns →
+    length key ≡ length columns
+as_many key columns up once same =
+    let a = count_by_ones key in
+    let b = count_by_ones columns in
+    let c = sum_members key columns (λ _. pos 1) (ascending_distinct key up) once same in
+    omega (arith, ints)
 
 -- ---- one number behind a lead
 pub lead_with_zero : (o : Ordering) → lead_with o Equal ≡ o
@@ -110,7 +122,7 @@ module _ (d : Dictionary) (once : AreDistinct d.columns) where
     }
 
 -- the lead of a label, at the place of its column
-pub lead_of_label : (d : Dictionary) (root : List ℕ) (leads : List Ordering) → AreLeads d root leads → (s n : ℕ) →
+pub lead_of_label : (d : Dictionary) (root : List ℕ) (leads : List Ordering) → HaveLeads d root leads → (s n : ℕ) →
     Contains d.columns s → n ≡ place_in d.columns s → get_or leads n Equal ≡ lead_sign d root s
 lead_of_label d root leads h s n c e =
     subst (λ i. get_or leads i Equal ≡ lead_sign d root s) (sym e)
@@ -200,7 +212,7 @@ module _ (d : Dictionary) (root : List ℕ) (up : IsAscending d.labels) (root_up
               (get_or old j Equal) next l read (h.signs j a) none;
         })
 
-  pub leads_whole : (leads : List Ordering) → AreLeadsFrom d root 0 leads → AreLeads d root leads
+  pub leads_whole : (leads : List Ordering) → AreLeadsFrom d root 0 leads → HaveLeads d root leads
   leads_whole leads h = record {
     count = h.count;
     signs = λ j a. lead_whole d.labels root (λ q. Table.entry (table_of d) q (get_or d.columns j 0)) up root_up

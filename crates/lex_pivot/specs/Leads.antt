@@ -7,16 +7,27 @@ use Rattle.poly_num.specs.Signs.{sign_of, lex_sign_of}
 use Rattle.poly_model.specs.Dictionaries.{Table}
 use Rattle.search_laws.specs.ChildTest.{downward}
 use Rattle.dictionary.specs.Views.{Dictionary, table_of}
+use Rattle.lex_pivot.specs.BeforeRoot.{before_root}
+
+-- what is read of a dictionary: a sign for each column, as they stand, and rows outside the root
+pub record Outlook : Type 0 where
+  pub signs : List Ordering
+  pub before : List ℕ
 
 -- the sign of the greatest row of the root that is not 0 in the column of s, and else equal
 abbrev pub lead_sign : Dictionary → List ℕ → ℕ → Ordering
 lead_sign d root s = lex_sign_of (map (λ q. Table.entry (table_of d) q s) (downward d.labels root))
 
 -- the lead of each column, as they stand
-pub record AreLeads (d : Dictionary) (root : List ℕ) (leads : List Ordering) : Type 0 where
+pub record HaveLeads (d : Dictionary) (root : List ℕ) (leads : List Ordering) : Type 0 where
   pub count : length leads ≡ length d.columns
   pub signs : (j : ℕ) → j < length d.columns →
       slice_index_or leads j Equal ≡ lead_sign d root (slice_index_or d.columns j 0)
+
+-- these leads, and the rows of the cobasis that are outside the root
+pub record AreLeads (d : Dictionary) (root : List ℕ) (read : Outlook) : Type 0 where
+  pub leads : HaveLeads d root read.signs
+  pub before : read.before ≡ before_root d root
 
 -- ---- one more row
 -- the lead where one more number comes behind

@@ -1,13 +1,14 @@
-//! The leads of a dictionary: which rows of the root come first in its columns.
+//! The leads of a dictionary: which rows of the root come first in its columns. And the rows of its cobasis outside the root.
 ghost use Rattle.std.specs.Prelude.{◌≡◌, ◌<◌, IfOk, length, suc};
 ghost use Rattle.std.specs.declared.cmp.Ordering.TheVariants.{Equal};
 ghost use Rattle.std.specs.List.{Contains, slice_index_or};
 ghost use Rattle.poly_num.specs.Signs.{sign_of};
 ghost use Rattle.poly_model.specs.LexOrder.{rows_in};
 ghost use Rattle.dictionary.specs.Views.{number};
-ghost use Rattle.lex_pivot.specs.Leads.{lead_sign, lead_with, AreLeads, JoinsRow};
+ghost use Rattle.lex_pivot.specs.Leads.{lead_sign, lead_with, HaveLeads, AreLeads, JoinsRow};
 
 use crate::Order;
+use crate::before_root::gather;
 use crate::orderings::differs;
 use dictionary::{Dict, Position};
 use poly_model::{Label, OutOfMemory};
@@ -17,45 +18,60 @@ use std::cmp::Ordering;
 use std::marker::Model;
 
 /// For each column of a dictionary, as they stand there, the sign of the greatest row of the root that is not 0 in it, and
-/// `Equal` where all are. They are read once for a dictionary, and then asked again and again.
+/// `Equal` where all are; and the rows of the cobasis that are outside the root, along which two lists are compared. They are
+/// read once for a dictionary, and then asked again and again.
 #[derive(Drop)]
 pub struct Leads {
     signs: Vec<Ordering>,
+    // room for as many labels, of which the first `len` are the rows outside the root
+    room: Vec<Label>,
+    len: usize,
 }
 
 impl Model for Leads {
-    ghost use Rattle.std.specs.Prelude.{List};
-    ghost use Rattle.std.specs.declared.cmp.Ordering.{Ordering};
+    ghost use Rattle.std.specs.Prelude.{◌≡◌, ◌≤◌, length, take};
+    ghost use Rattle.lex_pivot.specs.Leads.{Outlook};
 
-    ghost Value = { List Ordering };
+    ghost Value = { Outlook };
 
-    ghost view = { λ l. l.signs.items };
+    ghost view = { λ l. record { signs = l.signs.items; before = take l.len l.room.items } };
+
+    ghost invariant = { λ l. (length l.room.items ≡ length l.signs.items) × (l.len ≤ length l.room.items) };
 }
 
 impl Leads {
-    /// Those of a dictionary. Takes memory for a sign for each column.
+    /// Those of a dictionary. Takes memory for a sign and a label for each column.
     pub fn of(alloc: Global, dict: &Dict, order: &Order) -> Result<Leads, OutOfMemory>
         ensures { IfOk result (λ l. AreLeads dict.now order.now l) }
     {
         let mut signs = Vec::new(alloc);
         signs.resize(dict.columns().len(), Ordering::Equal)?;
-        let mut leads = Leads { signs };
+        let mut room = Vec::new(alloc);
+        room.resize(signs.len(), Label::EXTRA)?;
+        let mut leads = Leads {
+            signs,
+            room,
+            len: 0,
+        };
         leads.read(dict, order);
         Ok(leads)
     }
 
     /// Reads those of a dictionary with as many columns. Takes no memory.
     pub fn read(&mut self, dict: &Dict, order: &Order)
-        requires { length self.old ≡ length dict.now.columns }
+        requires { length self.old.signs ≡ length dict.now.columns }
         ensures { AreLeads dict.now order.now self.new }
     {
+        // the columns have the labels of the cobasis
+        let (_columns, _cobasis) = (dict.columns(), dict.cobasis());
         read_leads(dict, order, &mut self.signs);
+        self.len = gather(dict, order, &mut self.room);
     }
 
     /// That of column j, counted from 0 without the constants.
     pub fn at(&self, j: usize) -> Ordering
-        requires { j < length self.now }
-        ensures { result ≡ slice_index_or self.now j Equal }
+        requires { j < length self.now.signs }
+        ensures { result ≡ slice_index_or self.now.signs j Equal }
     {
         sign_at(&self.signs, j)
     }
@@ -70,12 +86,19 @@ impl Leads {
         let _columns = dict.columns();
         self.at(dict.column_of(col) - 1)
     }
+
+    /// The rows of the cobasis that are outside the root, ascending.
+    pub fn before_root(&self) -> &[Label]
+        ensures { result.now ≡ self.now.before }
+    {
+        &self.room[..self.len]
+    }
 }
 
 // Reads the rows of the root, the greatest first.
 fn read_leads(dict: &Dict, order: &Order, signs: &mut [Ordering])
     requires { length signs.old ≡ length dict.now.columns }
-    ensures { AreLeads dict.now order.now signs.new }
+    ensures { HaveLeads dict.now order.now signs.new }
 {
     // the labels of the dictionary ascend
     let _labels = dict.labels();

@@ -15,11 +15,10 @@ mod rows;
 mod scan;
 mod ties;
 
-pub use before_root::BeforeRoot;
 pub use child::{is_child, leads_down, leads_up};
 pub use feasible::{is_lex_feasible, is_lex_feasible_by};
 pub use leads::Leads;
-pub use parents::{Pivot, parent, parent_by};
+pub use parents::{Pivot, parent, parent_along, parent_by};
 pub use ratio::{leaving, leaving_along, leaving_by, none_leaves};
 pub use reading::Reading;
 pub use relative::Order;

@@ -4,13 +4,15 @@ ghost use Rattle.std.specs.List.{Contains};
 ghost use Rattle.std.specs.Option.{MatchOption};
 ghost use Rattle.poly_model.specs.Tree.{MayEnter};
 ghost use Rattle.dictionary.specs.Views.{table_of};
+ghost use Rattle.lex_pivot.specs.BeforeRoot.{before_root};
 ghost use Rattle.lex_pivot.specs.Above.{NoneEnters, EntersAt, LeadsToParent, IsRootExactly, EntersOn, IsLeastOn, NoneOn};
 
+use crate::before_root::gather;
 use crate::orderings::is_less;
-use crate::ratio::leaving_by;
+use crate::ratio::leaving_along;
 use crate::{Order, Reading, root_sign};
 use dictionary::Dict;
-use poly_model::{Label, Root};
+use poly_model::{Label, MOST_LABELS, Root};
 
 /// A row that leaves, and the column that enters for it.
 #[derive(Clone, Copy, PartialEq, Eq, Debug)]
@@ -28,15 +30,28 @@ pub fn parent(dict: &Dict, root: &Root) -> Option<Pivot>
     parent_by(dict, &Order::of(root))
 }
 
-/// The same by the order relative to the root.
+/// The same by the order relative to the root. Takes no memory.
 pub fn parent_by(dict: &Dict, order: &Order) -> Option<Pivot>
+    ensures pivot { MatchOption result (NoneEnters dict.now order.now) (λ p. LeadsToParent dict.now order.now p.col p.row) }
+    ensures root { IsRootExactly dict.now order.now result }
+{
+    // a key has at most `MOST_LABELS` labels
+    let _few = dict.key().len();
+    let mut room = [Label::EXTRA; MOST_LABELS];
+    let len = gather(dict, order, &mut room);
+    parent_along(dict, order, &room[..len])
+}
+
+/// The same with the rows of the cobasis that are outside the root, for a caller that keeps them (`Leads::before_root`).
+pub fn parent_along(dict: &Dict, order: &Order, before: &[Label]) -> Option<Pivot>
+    requires { before.now ≡ before_root dict.now order.now }
     ensures pivot { MatchOption result (NoneEnters dict.now order.now) (λ p. LeadsToParent dict.now order.now p.col p.row) }
     ensures root { IsRootExactly dict.now order.now result }
 {
     // a label of the cobasis is negative in no column
     let (_cobasis, _denominator) = (dict.cobasis(), dict.denominator());
     match entering(dict, order) {
-        Some(col) => match leaving_by(dict, order, col) {
+        Some(col) => match leaving_along(dict, order, before, col) {
             Some(row) => Some(Pivot { row, col }),
             None => None,
         },

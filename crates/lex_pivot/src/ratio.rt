@@ -10,14 +10,15 @@ ghost use Rattle.lex_pivot.specs.BeforeRoot.{before_root};
 ghost use Rattle.lex_pivot.specs.Pairs.{IsPlaced};
 ghost use Rattle.lex_pivot.specs.Ratios.{NoneLeaves, IsCandidate, IsCandidateAt, IsLess, IsBetter, candidate_row};
 
+use crate::Order;
+use crate::before_root::gather;
 use crate::candidates::Candidate;
 use crate::orderings::is_less;
 use crate::rows::row_at;
 use crate::ties::{Pair, compare};
-use crate::{BeforeRoot, Order};
 use columns::Column;
 use dictionary::Dict;
-use poly_model::{Label, Root};
+use poly_model::{Label, MOST_LABELS, Root};
 use poly_num::neg;
 
 /// The row that leaves in the column of a label of the cobasis: of the rows outside the cobasis that are negative there,
@@ -30,17 +31,21 @@ pub fn leaving(dict: &Dict, root: &Root, col: Label) -> Option<Label>
     leaving_by(dict, &Order::of(root), col)
 }
 
-/// The same by the order relative to the root.
+/// The same by the order relative to the root. Takes no memory.
 pub fn leaving_by(dict: &Dict, order: &Order, col: Label) -> Option<Label>
     requires { Contains dict.now.key col }
     ensures { MatchOption result (NoneLeaves dict.now col)
         (λ r. Leaves dict.now.labels order.now dict.now.key (table_of dict.now) col r) }
 {
-    leaving_along(dict, order, &BeforeRoot::of(dict, order), col)
+    // a key has at most `MOST_LABELS` labels
+    let _few = dict.key().len();
+    let mut room = [Label::EXTRA; MOST_LABELS];
+    let len = gather(dict, order, &mut room);
+    leaving_along(dict, order, &room[..len], col)
 }
 
-/// The same with the rows of the cobasis that are outside the root, for a caller that asks in several columns.
-pub fn leaving_along(dict: &Dict, order: &Order, before: &BeforeRoot, col: Label) -> Option<Label>
+/// The same with the rows of the cobasis that are outside the root, for a caller that keeps them (`Leads::before_root`).
+pub fn leaving_along(dict: &Dict, order: &Order, before: &[Label], col: Label) -> Option<Label>
     requires before { before.now ≡ before_root dict.now order.now }
     requires column { Contains dict.now.key col }
     ensures { MatchOption result (NoneLeaves dict.now col)
@@ -104,7 +109,7 @@ fn candidate_at(dict: &Dict, col: Label, cells: &Column, place: usize) -> Option
 fn better(
     dict: &Dict,
     order: &Order,
-    before: &BeforeRoot,
+    before: &[Label],
     best: Option<Candidate>,
     next: Candidate,
 ) -> Candidate
@@ -127,7 +132,7 @@ fn better(
 fn is_lesser(
     dict: &Dict,
     order: &Order,
-    before: &BeforeRoot,
+    before: &[Label],
     one: &Candidate,
     other: &Candidate,
 ) -> bool

@@ -10,9 +10,9 @@ ghost use Rattle.dictionary.specs.Views.{number, table_of};
 ghost use Rattle.lex_pivot.specs.BeforeRoot.{before_root};
 ghost use Rattle.lex_pivot.specs.Pairs.{pair_gaps, gap_at, constant_gap, IsPlaced, ArePair, IsEnd, IsPastEnd, end_sign};
 
+use crate::Order;
 use crate::candidates::Candidate;
 use crate::orderings::{cmp_ratios, differs};
-use crate::{BeforeRoot, Order};
 use dictionary::Dict;
 use poly_model::Label;
 use std::cmp::Ordering;
@@ -29,7 +29,7 @@ pub struct Pair {
 /// At a row outside the root that is not in the cobasis both lists are 0, but for the two rows themselves. So the first
 /// difference is at a label of the cobasis, or at the first of the two rows that is outside the root.
 #[inline(always)]
-pub fn compare(dict: &Dict, order: &Order, before: &BeforeRoot, pair: &Pair) -> Ordering
+pub fn compare(dict: &Dict, order: &Order, before: &[Label], pair: &Pair) -> Ordering
     requires before { before.now ≡ before_root dict.now order.now }
     requires pair { ArePair dict.now pair.now }
     ensures { pair.now.one.row ≢ pair.now.other.row → result ≡ lex_sign_of (pair_gaps dict.now order.now pair.now) }
@@ -69,7 +69,7 @@ fn cmp_in_column(dict: &Dict, j: usize, one: &Candidate, other: &Candidate) -> O
 }
 
 // The order by the rows outside the root, where the constants are equal.
-fn compare_behind(dict: &Dict, order: &Order, before: &BeforeRoot, pair: &Pair) -> Ordering
+fn compare_behind(dict: &Dict, order: &Order, before: &[Label], pair: &Pair) -> Ordering
     requires before { before.now ≡ before_root dict.now order.now }
     requires pair { ArePair dict.now pair.now }
     ensures { pair.now.one.row ≢ pair.now.other.row → constant_gap (table_of dict.now) pair.now ≡ pos 0 →
@@ -77,9 +77,8 @@ fn compare_behind(dict: &Dict, order: &Order, before: &BeforeRoot, pair: &Pair) 
 {
     // the labels ascend, those of the cobasis too, and the denominator is positive
     let (_all, _cobasis, _denominator) = (dict.labels(), dict.cobasis(), dict.denominator());
-    let labels = before.labels();
     let end = end_of(order, pair);
-    'labels: for k in labels {
+    'labels: for k in before {
         if is_behind(*k, &end) {
             return end_sign(pair, &end);
         }

@@ -2,12 +2,11 @@
 ghost use Rattle.std.specs.Prelude.{◌≡◌, ℕ, IsTrue, IsFalse, length};
 ghost use Rattle.std.specs.List.{Contains};
 ghost use Rattle.std.specs.Option.{MatchOption};
-ghost use Rattle.lex_pivot.specs.BeforeRoot.{before_root};
 ghost use Rattle.lex_pivot.specs.Leads.{AreLeads};
 ghost use Rattle.reverse_step.specs.Children.{CountsChildren, HasNoChildAt, LeadsToChild, NoneBetween, IsFirstChild};
 
 use dictionary::Dict;
-use lex_pivot::{BeforeRoot, Leads, Order, is_child, leads_up, leaving_along};
+use lex_pivot::{Leads, Order, is_child, leads_up, leaving_along};
 use poly_model::Label;
 
 /// The pivot that leads to a child: the row that leaves, the column that it enters for, and the place of that in the key.
@@ -30,11 +29,10 @@ pub(crate) fn first_child(
     ensures { MatchOption result (NoneBetween order.now dict.now at (length dict.now.key))
         (λ p. IsFirstChild order.now dict.now at p) }
 {
-    let before = BeforeRoot::of(dict, order);
     let labels = dict.cobasis();
     'columns: for place in at..labels.len() {
         let col = labels[place];
-        if let Some(row) = child_along(dict, order, leads, &before, col) {
+        if let Some(row) = child_at(dict, order, leads, col) {
             return Some(ChildPivot { row, col, place });
         }
     }
@@ -46,63 +44,39 @@ pub(crate) fn child_count(dict: &Dict, order: &Order, leads: &Leads) -> usize
     requires { AreLeads dict.now order.now leads.now }
     ensures { CountsChildren order.now dict.now result }
 {
-    let before = BeforeRoot::of(dict, order);
     let labels = dict.cobasis();
     let mut place = labels.len();
     let mut count = 0;
     'columns: while place > 0 {
         place -= 1;
-        count += usize::from(has_child_along(dict, order, leads, &before, labels[place]));
+        count += usize::from(has_child_at(dict, order, leads, labels[place]));
     }
     count
 }
 
-// Whether the neighbour in a column is a child, with the rows of the cobasis that are outside the root.
-fn has_child_along(
-    dict: &Dict,
-    order: &Order,
-    leads: &Leads,
-    before: &BeforeRoot,
-    col: Label,
-) -> bool
+// Whether the neighbour in a column is a child.
+fn has_child_at(dict: &Dict, order: &Order, leads: &Leads, col: Label) -> bool
     requires leads { AreLeads dict.now order.now leads.now }
-    requires before { before.now ≡ before_root dict.now order.now }
     requires column { Contains dict.now.key col }
     ensures yes { IsTrue result → (r : ℕ) × LeadsToChild order.now dict.now col r }
     ensures no { IsFalse result → HasNoChildAt order.now dict.now col }
 {
-    match child_along(dict, order, leads, before, col) {
+    match child_at(dict, order, leads, col) {
         Some(_) => true,
         None => false,
     }
 }
 
-/// The row that leaves in a column, if the neighbour there is a child.
+/// The row that leaves in a column, if the neighbour there is a child. About half of the columns need no ratio test for it.
 pub(crate) fn child_at(dict: &Dict, order: &Order, leads: &Leads, col: Label) -> Option<Label>
     requires leads { AreLeads dict.now order.now leads.now }
-    requires column { Contains dict.now.key col }
-    ensures { MatchOption result (HasNoChildAt order.now dict.now col) (λ r. LeadsToChild order.now dict.now col r) }
-{
-    child_along(dict, order, leads, &BeforeRoot::of(dict, order), col)
-}
-
-// The same with the rows of the cobasis that are outside the root. About half of the columns need no ratio test for it.
-fn child_along(
-    dict: &Dict,
-    order: &Order,
-    leads: &Leads,
-    before: &BeforeRoot,
-    col: Label,
-) -> Option<Label>
-    requires leads { AreLeads dict.now order.now leads.now }
-    requires before { before.now ≡ before_root dict.now order.now }
     requires column { Contains dict.now.key col }
     ensures { MatchOption result (HasNoChildAt order.now dict.now col) (λ r. LeadsToChild order.now dict.now col r) }
 {
     if !leads_up(dict, order, leads, col) {
         return None;
     }
-    let Some(row) = leaving_along(dict, order, before, col) else {
+    let Some(row) = leaving_along(dict, order, leads.before_root(), col) else {
         return None;
     };
     if is_child(dict, order, leads, col, row) {

@@ -10,19 +10,19 @@ use std::sync::ledger::Ledger;
 /// Pivots into the other dictionary, and then the two change places: `other` has the one from before. Where the pivot
 /// overflows, nothing has changed.
 pub(crate) fn pivot_over<L: Ledger>(
-    here: &mut Dict,
-    other: &mut Dict,
+    here: &mut Box<Dict>,
+    other: &mut Box<Dict>,
     row: Label,
     col: Label,
     steps: &mut Steps<L>,
 ) -> Result<(), Overflow>
-    requires can { CanPivot here.old row col }
-    requires rows { length other.old.labels ≡ length here.old.labels }
-    requires columns { length other.old.columns ≡ length here.old.columns }
-    ensures pivoted { IfOk result (λ _. IsPivot here.old row col here.new) }
-    ensures before { IfOk result (λ _. other.new ≡ here.old) }
-    ensures unchanged { IfErr result (λ _. (here.new ≡ here.old) × (other.new ≡ other.old)) }
-    ensures passes { IfErr result (λ o. IsOverflow here.old row col o) }
+    requires can { CanPivot here.old.value row col }
+    requires rows { length other.old.value.labels ≡ length here.old.value.labels }
+    requires columns { length other.old.value.columns ≡ length here.old.value.columns }
+    ensures pivoted { IfOk result (λ _. IsPivot here.old.value row col here.new.value) }
+    ensures before { IfOk result (λ _. other.new.value ≡ here.old.value) }
+    ensures unchanged { IfErr result (λ _. (here.new.value ≡ here.old.value) × (other.new.value ≡ other.old.value)) }
+    ensures passes { IfErr result (λ o. IsOverflow here.old.value row col o) }
     ensures counted { steps.new ≤ steps.old + 1 }
 {
     here.pivot_into(other, row, col, steps)?;

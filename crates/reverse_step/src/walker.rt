@@ -18,7 +18,7 @@ use crate::pivots::pivot_over;
 use crate::way::reach;
 use crate::weighing::weigh;
 use dictionary::{Dict, Steps};
-use lex_pivot::{Leads, Order, parent_by};
+use lex_pivot::{Leads, Order, parent_along};
 use poly_model::{Key, Label, OutOfMemory, Overflow, Root};
 use std::alloc::Global;
 use std::marker::Model;
@@ -50,11 +50,13 @@ impl Visit {
 
 /// A walk through the cobases under one of them, the job's root, depth first.
 pub struct Walker {
-    here: Dict,
+    // behind boxes, so that the two change places without a copy
+    here: Box<Dict>,
     // room for the next dictionary, or the parent's
-    other: Dict,
+    other: Box<Dict>,
     order: Order,
-    // those of the dictionary where it stands, and, where the other one is the parent's, those of that one
+    // those of the dictionary where it stands, and, where the other one is the parent's, those of that one; each with the
+    // rows of the cobasis that are outside the root
     leads: Leads,
     kept: Leads,
     job: Key,
@@ -86,15 +88,15 @@ impl Model for Walker {
 
     ghost Value = { Walk };
 
-    ghost view = { λ w. record { dict = w.here; root = w.order; job = w.job; at = w.at; parent = kept_parent w.back w.other } };
+    ghost view = { λ w. record { dict = w.here.value; root = w.order; job = w.job; at = w.at; parent = kept_parent w.back w.other.value } };
 
-    ghost invariant = { λ w. AreAlike w.here w.other × AreLeadsKept w.here w.other w.order w.back w.leads w.kept };
+    ghost invariant = { λ w. AreAlike w.here.value w.other.value × AreLeadsKept w.here.value w.other.value w.order w.back w.leads w.kept };
 }
 
 impl Walker {
     /// A walk under this root that begins at the dictionary, whose cobasis is the job's root. Takes memory for a second
-    /// dictionary, for the order of rows and for the leads. Where the cobasis is not lexicographically feasible under the
-    /// root, it is no walk until a start at a key that is.
+    /// dictionary, for the order of rows, and for the leads of both dictionaries with the rows of the cobasis outside the
+    /// root. Where the cobasis is not lexicographically feasible under the root, it is no walk until a start at a key that is.
     pub fn new(alloc: Global, dict: Dict, root: &Root) -> Result<Walker, OutOfMemory>
         ensures { IfOk result (λ walk.
             walk ≡ record { dict = dict; root = root.now.key; job = dict.key; at = 0; parent = None }) }
@@ -102,10 +104,11 @@ impl Walker {
         let order = Order::marked(alloc, root)?;
         let leads = Leads::of(alloc, &dict, &order)?;
         let kept = Leads::of(alloc, &dict, &order)?;
-        let other = dict.copy()?;
         let job = dict.key();
+        let other = Box::new(alloc, dict.copy()?)?;
+        let here = Box::new(alloc, dict)?;
         Ok(Walker {
-            here: dict,
+            here,
             other,
             order,
             leads,
@@ -293,7 +296,7 @@ impl Walker {
                 self.at = place_of(self.here.cobasis(), col) + 1;
                 Ok(Some(col))
             }
-            None => match parent_by(&self.here, &self.order) {
+            None => match parent_along(&self.here, &self.order, self.leads.before_root()) {
                 Some(pivot) => {
                     self.here.pivot(pivot.row, pivot.col, steps)?;
                     self.leads.read(&self.here, &self.order);

@@ -3,6 +3,7 @@ use Rattle.std.specs.Prelude.{◌≡◌, ℕ, ◌+◌, ◌≤◌, List, map, len
 use Rattle.std.specs.List.{Contains}
 use Rattle.poly_num.specs.Vectors.{Vector}
 use Rattle.poly_model.specs.declared.listed.Count.{Count}
+use Rattle.poly_model.specs.Labels.{coordinates_from}
 use Rattle.poly_model.specs.Limits.{most_columns}
 use Rattle.poly_model.specs.Systems.{System}
 use Rattle.linear_laws.specs.Distinct.{AreDistinct}
@@ -16,11 +17,13 @@ use Rattle.work_core.specs.ReplyLines.{ReplyLine, row_line, WritesLines, WritesP
 abbrev pub lines_of_rows : List Vector → List ReplyLine
 lines_of_rows ys = map row_line ys
 
--- the vectors of the columns can be shown: their tests can be made, and they are no longer than a row of a file may be
+-- the vectors of the columns can be shown: their tests can be made, they are no longer than a row of a file may be, and they
+-- are no more than there can be rows
 pub record CanShow (at : Basis) : Type 0 where
   pub tests : CanTest at.cone.now at.dict.now at.rays
   pub leads : AreLeads at.dict.now at.order.now at.leads.now
   pub narrow : at.cone.now.n ≤ most_columns
+  pub few : length at.dict.now.key ≤ coordinates_from
 
 module _ (sys : System) (root : List ℕ) (d : Dictionary) (columns : List ℕ) where
   abbrev pub IsShownOf : ℕ → Type 0

@@ -59,8 +59,7 @@ pub(crate) fn show_columns<S: Sink>(
     ensures cause { HasCause (S.faults out.old) (S.faults out.new) result }
 {
     let mut count = show_column(at, Label::CONSTANT, vector, count, out)?;
-    let key = at.dict.key();
-    let cobasis = key.labels();
+    let cobasis = at.dict.cobasis();
     'columns: for col in cobasis {
         count = show_column(at, *col, vector, count, out)?;
     }

@@ -22,7 +22,7 @@ returns-then-is_zero c =
     c.requires.leaves.negative
     (ap (λ (k : ℕ). Table.entry (table_of c.args.dict.now) c.args.pivot.now.row k) (sym c.label_of_column-other.ensures.value)
     ∙ sym c.entry-f.ensures.value ∙ c.if-is_zero.ensures.0 refl)
-    (c.at.ensures ∙ c.requires.leads.signs c.args.j c.requires.other))
+    (c.at.ensures ∙ c.requires.leads.leads.signs c.args.j c.requires.other))
 
 pub returns : goal.returns
 returns c =

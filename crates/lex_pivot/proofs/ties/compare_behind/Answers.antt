@@ -25,8 +25,8 @@ in_labels c k m =
     c.cobasis-cobasis.ensures.labels k
     (subst (λ (ks : List ℕ). Contains ks k) (sym c.cobasis-cobasis.ensures.value) m)
 
-scanned : (c : At-labels) → c.labels-labels.result.now ≡ before_root c.args.dict.now c.args.order.now
-scanned c = c.labels-labels.ensures ∙ c.requires.before
+scanned : (c : At-labels) → c.args.before.now ≡ before_root c.args.dict.now c.args.order.now
+scanned c = c.requires.before
 
 so_far : (c : At-labels) → IsZeroBelow (gap_at c.args.dict.now.key (table_of c.args.dict.now) c.args.pair.now)
     (before_root c.args.dict.now c.args.order.now) (outside c.args.dict.now.labels c.args.order.now) c.labels.k-index
@@ -34,15 +34,15 @@ so_far c =
     subst (λ (ks : List ℕ). IsZeroBelow (gap_at c.args.dict.now.key (table_of c.args.dict.now) c.args.pair.now) ks
     (outside c.args.dict.now.labels c.args.order.now) c.labels.k-index) (scanned c) c.labels.invariant
 
-item : (c : At-labels) (k : ℕ) → k ≡ get_or c.labels-labels.result.now c.labels.k-index k →
-    c.labels.k-index < length c.labels-labels.result.now →
+item : (c : At-labels) (k : ℕ) → k ≡ get_or c.args.before.now c.labels.k-index k →
+    c.labels.k-index < length c.args.before.now →
     k ≡ get_or (before_root c.args.dict.now c.args.order.now) c.labels.k-index 0
 item c k e l =
     subst (λ (ks : List ℕ). k ≡ get_or ks c.labels.k-index 0) (scanned c)
-    (e ∙ get_or_default c.labels-labels.result.now c.labels.k-index k 0 l)
+    (e ∙ get_or_default c.args.before.now c.labels.k-index k 0 l)
 
-inside : (c : At-labels) (k : ℕ) → k ≡ get_or c.labels-labels.result.now c.labels.k-index k →
-    c.labels.k-index < length c.labels-labels.result.now →
+inside : (c : At-labels) (k : ℕ) → k ≡ get_or c.args.before.now c.labels.k-index k →
+    c.labels.k-index < length c.args.before.now →
     Contains c.args.dict.now.key k × Contains (outside c.args.dict.now.labels c.args.order.now) k
 inside c k e l =
     before_at c.args.dict.now c.args.order.now (in_labels c) c.labels.k-index k
@@ -56,7 +56,7 @@ gap_sign-here-requires-clause-inside c =
 pub returns-then-is_behind : goal.returns-then-is_behind
 returns-then-is_behind c differ zero =
     let a = (goal.at.returns-then-is_behind c).At-labels in
-    let l : c.labels.k-index < length c.labels-labels.result.now =
+    let l : c.labels.k-index < length c.args.before.now =
     (let t = c.labels-test.true in let b = c.labels.auto.k-index-end in omega arith) in
     c.end_sign.ensures
     ∙ at_end c.args.dict.now c.args.order.now c.args.pair.now c.requires.pair differ (up a) (key_up a) (positive a)
@@ -68,7 +68,7 @@ returns-then-is_behind c differ zero =
 pub returns-then-differs : goal.returns-then-differs
 returns-then-differs c differ zero =
     let a = (goal.at.returns-then-differs c).At-labels in
-    let l : c.labels.k-index < length c.labels-labels.result.now =
+    let l : c.labels.k-index < length c.args.before.now =
     (let t = c.labels-test.true in let b = c.labels.auto.k-index-end in omega arith) in
     differs_here c.args.dict.now c.args.order.now c.args.pair.now c.requires.pair differ (up a) (key_up a) (positive a)
     c.labels.k-index (so_far a) c.end_of-end.result c.k-item.result c.gap_sign-here.result c.end_of-end.ensures
@@ -78,7 +78,7 @@ returns-then-differs c differ zero =
 
 pub labels-preserved : goal.labels-preserved
 labels-preserved c =
-    kept_up (gap_at c.args.dict.now.key (table_of c.args.dict.now) c.args.pair.now) c.labels-labels.result.now
+    kept_up (gap_at c.args.dict.now.key (table_of c.args.dict.now) c.args.pair.now) c.args.before.now
     (outside c.args.dict.now.labels c.args.order.now) c.labels.k-index c.k-item.result
     (let t = c.labels-test.true in let b = c.labels.auto.k-index-end in omega arith) c.k-item.is
     c.gap_sign-here.result c.labels.invariant (λ _. c.gap_sign-here.ensures) (c.if-differs.ensures.no refl)
@@ -91,7 +91,7 @@ returns c differ zero =
     c.end_sign-2.ensures
     ∙ at_end c.args.dict.now c.args.order.now c.args.pair.now c.requires.pair differ (up a) (key_up a) (positive a)
     c.labels.k-index (so_far a) c.end_of-end.result c.end_of-end.ensures
-    (λ m. absurd (passed c.labels-labels.result.now (before_root c.args.dict.now c.args.order.now) c.labels.k-index
+    (λ m. absurd (passed c.args.before.now (before_root c.args.dict.now c.args.order.now) c.labels.k-index
     (scanned a) (omega arith) m))
     ∙ gaps_behind c.args.dict.now c.args.order.now c.args.pair.now zero
   where

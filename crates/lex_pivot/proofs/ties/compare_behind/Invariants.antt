@@ -6,4 +6,4 @@ use Rattle.lex_pivot.proofs.ties.compare_behind.Given as goal
 
 abbrev pub invariant-labels : goal.invariant-labels
 invariant-labels l =
-    IsZeroBelow (gap_at l.dict.key (table_of l.dict) l.pair) l.labels (outside l.dict.labels l.order) l.k-index
+    IsZeroBelow (gap_at l.dict.key (table_of l.dict) l.pair) l.before (outside l.dict.labels l.order) l.k-index

@@ -16,7 +16,7 @@ columns-preserved c =
     subst (λ (n : ℕ). CountsFrom c.args.order.now c.args.dict.now p (c.columns.count + n)) (sym c.from-count.ensures)
     (counts_on c.args.order.now c.args.dict.now p c.index-labels-place.result c.columns.count l e
     (subst (λ (n : ℕ). CountsFrom c.args.order.now c.args.dict.now n c.columns.count) (omega (arith, t)) c.columns.invariant)
-    c.has_child_along.result c.has_child_along.ensures.yes c.has_child_along.ensures.no)
+    c.has_child_at.result c.has_child_at.ensures.yes c.has_child_at.ensures.no)
 
 pub returns : goal.returns
 returns c =

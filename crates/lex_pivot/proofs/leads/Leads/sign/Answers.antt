@@ -9,6 +9,6 @@ returns c =
     let n : c.column_of.result - 1 ≡ place_in c.args.dict.now.columns c.args.col =
     (let v = c.column_of.ensures.value in omega (arith, v)) in
     c.at.ensures
-    ∙ lead_of_label c.args.dict.now c.args.order.now c.args.self.now c.requires.leads c.args.col (c.column_of.result - 1)
+    ∙ lead_of_label c.args.dict.now c.args.order.now c.args.self.now.signs c.requires.leads.leads c.args.col (c.column_of.result - 1)
     (subst (λ (ks : List ℕ). Contains ks c.args.col) c.columns-columns.ensures.value
     (c.columns-columns.ensures.key.there c.args.col c.requires.column)) n

@@ -7,4 +7,4 @@ use Rattle.reverse_step.proofs.walker.Walker.descend.Goals as goal
 pub pivot_over-requires-clause-can : goal.pivot_over-requires-clause-can
 pivot_over-requires-clause-can g c =
     let leads = subst (λ (w : Walk). LeadsToChild w.root w.dict c.args.col c.args.row) (sym c.self.view_is) c.requires in
-    can_leave c.self.inside.here c.self.inside.order c.args.col c.args.row leads.column leads.leaves
+    can_leave c.self.inside.here.value c.self.inside.order c.args.col c.args.row leads.column leads.leaves

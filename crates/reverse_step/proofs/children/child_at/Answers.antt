@@ -1,5 +1,5 @@
 use Rattle.reverse_step.proofs.ChildLemmas.{none_leaves, leads_nowhere, leads_to_child, not_a_child}
-use Rattle.reverse_step.proofs.children.child_along.Goals as goal
+use Rattle.reverse_step.proofs.children.child_at.Goals as goal
 
 pub returns-then-not-leads_up : goal.returns-then-not-leads_up
 returns-then-not-leads_up c =
