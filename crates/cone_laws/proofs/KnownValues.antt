@@ -18,10 +18,10 @@ abbrev pub equation : Vector → FileRow
 equation v = record { entries = v; linear = true }
 
 abbrev pub h_file : ℕ → List FileRow → Polyhedron
-h_file n rows = record { kind = H; n = n; rows = rows; text = [] }
+h_file n rows = record { kind = H; n = n; rows = rows; nonnegative = false; text = [] }
 
 abbrev pub v_file : ℕ → List FileRow → Polyhedron
-v_file n rows = record { kind = V; n = n; rows = rows; text = [] }
+v_file n rows = record { kind = V; n = n; rows = rows; nonnegative = false; text = [] }
 
 abbrev pub row_of : Vector → Row
 row_of v = record { entries = v; linear = false; point = false }

@@ -3,7 +3,7 @@
 use Rattle.std.proofs.Common.{◌≡◌, ℕ, ◌-◌, ◌<◌, ◌≤◌, true, List, [], ◌∷◌, pos, map, length, get_or, sym, ap, subst, ◌∙◌, arith}
 use Rattle.std.specs.List.{All, Contains}
 use Rattle.std.proofs.lemmas.Bool.{lt-ltb, cond-true}
-use Rattle.std.proofs.lemmas.List.{length-map, length-append}
+use Rattle.std.proofs.lemmas.List.{length-append}
 use Rattle.std.proofs.lemmas.List.Elements.{Contains-get_or}
 use Rattle.poly_num.specs.Vectors.{Vector, ◌·◌}
 use Rattle.poly_model.specs.declared.kind.Kind.{Kind}
@@ -14,7 +14,7 @@ use Rattle.poly_model.specs.Extreme.{TouchesPoint, IsShown, IsFeasible}
 use Rattle.poly_model.specs.Independence.{Vanish}
 use Rattle.poly_model.specs.Labels.{coordinates_from, is_row, coordinate_index}
 use Rattle.poly_model.specs.Spaces.{Space, IsInside, HasPoints, in_front, in_main, main_space, label_form, cut_space}
-use Rattle.poly_model.specs.Systems.{Row, row_of, no_row, Polyhedron, file_rows, cone_of, cone_row, added_row}
+use Rattle.poly_model.specs.Systems.{Row, row_of, no_row, Polyhedron, file_rows, cone_of, added_row}
 use Rattle.poly_model.proofs.RowLemmas.{row_from_one}
 use Rattle.cone_laws.specs.Faces.{fixed_rows}
 use Rattle.cone_laws.proofs.RowLemmas.{linear_from_fixed}
@@ -87,10 +87,10 @@ module _ (p : Polyhedron) (free : List ℕ) where
         (0 < i) × (i ≤ length (file_rows p)) × ((row_of (file_rows p) i).linear ≡ true)
     equation i c =
         let h = filter_only (λ k. (row_of (file_rows p) k).linear) _ i c in
-        let r = range_only 1 (length p.rows) i h.0 in
+        let r = range_only 1 (length (file_rows p)) i h.0 in
         let from_one = r.0 in
         let within = r.1 in
-        (omega arith, omega (arith, length-map p.rows (cone_row p.kind)), h.1)
+        (omega arith, omega arith, h.1)
 
     more : length (file_rows p) ≤ length rows
     more = omega (arith, length-append (file_rows p) (added_row p.kind p.n (file_rows p)))

@@ -15,7 +15,7 @@ use Rattle.coordinator_core.specs.Machine.{State, after, next_action, start_of, 
 use Rattle.coordinator_core.specs.Traces.{hands, stepped}
 
 abbrev plane : Polyhedron
-plane = record { kind = H; n = 3; rows = []; text = [] }
+plane = record { kind = H; n = 3; rows = []; nonnegative = false; text = [] }
 
 abbrev options : ℕ → Options
 options lost = record { workers = 2; bases = 1; depth = 2; lmin = 3; lost = lost }

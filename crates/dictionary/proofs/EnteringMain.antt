@@ -12,7 +12,7 @@ use Rattle.poly_model.specs.Spaces.{Space, is_member, is_left, cut_space, prepar
 use Rattle.poly_model.specs.Labels.{coordinates_from, is_row, coordinate_index}
 use Rattle.poly_model.specs.Dictionaries.{IsCobasis, Writes}
 use Rattle.dictionary_laws.specs.MainSpace.{stays, CanEnterMain, EntersMain}
-use Rattle.dictionary_laws.proofs.MainRows.{count_of_rows, fixed_rows}
+use Rattle.dictionary_laws.proofs.MainRows.{fixed_rows}
 use Rattle.dictionary_laws.proofs.MainSpace.{main_dictionary}
 use Rattle.dictionary.specs.Views.{Dictionary, table_of, IsDictionaryIn, IsWhole}
 use Rattle.dictionary.specs.Arrangements.{IsWithoutDivisor}
@@ -40,10 +40,10 @@ main_labels p free = ap (λ ls. filter (is_left (cone_of p).rows) ls) (by p.kind
     by H = refl
     by V = refl
 
-few_rows : (p : Polyhedron) (sys : System) → sys ≡ cone_of p → length sys.rows ≤ most_cone_rows → length p.rows < coordinates_from
+few_rows : (p : Polyhedron) (sys : System) → sys ≡ cone_of p → length sys.rows ≤ most_cone_rows → length (file_rows p) < coordinates_from
 few_rows p sys e l =
     let same : length sys.rows ≡ length (cone_of p).rows = ap (λ (s : System). length s.rows) e in
-    omega (arith, length-append (file_rows p) (added_row p.kind p.n (file_rows p)), count_of_rows p)
+    omega (arith, length-append (file_rows p) (added_row p.kind p.n (file_rows p)))
 
 -- what stays of a dictionary
 abbrev pub staying : Dictionary → List Row → List ℕ → Dictionary
@@ -55,7 +55,7 @@ module _ (old : Dictionary) (whole : IsWhole old) (rows : List Row) (free : List
     new = divided_of (staying old rows free) least cells h
 
     -- at a polyhedron whose main space can be entered
-    module _ (p : Polyhedron) (same : rows ≡ (cone_of p).rows) (few : length p.rows < coordinates_from)
+    module _ (p : Polyhedron) (same : rows ≡ (cone_of p).rows) (few : length (file_rows p) < coordinates_from)
         (d : IsDictionaryIn (prepare_space p) old) (can : CanEnterMain p free old.key (table_of old)) where
       abbrev space : Space
       space = main_space p free

@@ -29,6 +29,7 @@ abbrev file_with : Vector → Polyhedron
 file_with equation = record {
   kind = H;
   n = 3;
+  nonnegative = false;
   text = [];
   rows = record { entries = equation; linear = true }
       ∷ record { entries = pos 0 ∷ pos 1 ∷ pos 0 ∷ []; linear = false } ∷ [];

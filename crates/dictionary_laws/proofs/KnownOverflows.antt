@@ -2,7 +2,7 @@
 -- exchange of row 1 for x1 multiplies p, at (row 1, x1), and q, at (row 2, x2). 2^127 - 1 and 1 fit;
 -- 2^64 and 2^63 do not.
 use Rattle.dictionary_laws.proofs.PhasePoints.{phase_points}
-use Rattle.std.proofs.Common.{◌≡◌, ℕ, ◌<◌, ◌^◌, ◌-◌, List, [], ◌∷◌, ℤ, pos, ◌+ℤ◌, ◌*ℤ◌, refl, ap, subst, inl, arith}
+use Rattle.std.proofs.Common.{◌≡◌, ℕ, ◌<◌, ◌^◌, ◌-◌, false, List, [], ◌∷◌, ℤ, pos, ◌+ℤ◌, ◌*ℤ◌, refl, ap, subst, inl, arith}
 use Rattle.std.proofs.Common.{lit<}
 use Rattle.std.specs.Prelude.{◌==◌, if◌then◌else◌, unsigned_abs}
 use Rattle.std.specs.List.{AllByRecursion, Contains}
@@ -31,6 +31,7 @@ abbrev file : ℕ → ℕ → Polyhedron
 file p q = record {
   kind = H;
   n = 3;
+  nonnegative = false;
   text = [];
   rows = row (pos 0 ∷ pos p ∷ pos 0 ∷ []) ∷ row (pos 0 ∷ pos 0 ∷ pos q ∷ []) ∷ [];
 }

@@ -26,6 +26,7 @@ abbrev file : Polyhedron
 file = record {
   kind = H;
   n = 3;
+  nonnegative = false;
   text = [];
   rows = row (pos 1 ∷ pos 2 ∷ negsuc 2 ∷ []) ∷ row (pos 0 ∷ pos 0 ∷ pos 1 ∷ []) ∷ [];
 }

@@ -2,12 +2,12 @@
 use Rattle.std.proofs.Common.{◌≡◌, ℕ, zero, suc, ◌+◌, ◌-◌, ◌≤◌, ◌<◌, Bool, true, false, cond, List, [], ◌∷◌, ◌++◌, map, length, get_or, refl, sym, ap, subst, ◌∙◌, ⊎_elim, arith}
 use Rattle.std.specs.List.{AllByRecursion, Contains, range_with_len, list_any}
 use Rattle.std.proofs.lemmas.Bool.{lt-ltb, cond-true}
-use Rattle.std.proofs.lemmas.List.{length-map, get_or_append_left}
+use Rattle.std.proofs.lemmas.List.{get_or_append_left}
 use Rattle.std.proofs.lemmas.List.Elements.{Contains-append_left, Contains-append_right, Contains-append_cases}
 use Rattle.poly_num.specs.Vectors.{Vector}
 use Rattle.poly_model.specs.declared.kind.Kind.{Kind}
 use Rattle.poly_model.specs.declared.kind.Kind.TheVariants.{H, V}
-use Rattle.poly_model.specs.Systems.{Row, no_row, row_of, first_unit, Polyhedron, file_rows, cone_of, cone_row, added_row, is_point_row}
+use Rattle.poly_model.specs.Systems.{Row, no_row, row_of, first_unit, Polyhedron, file_rows, cone_of, added_row, is_point_row}
 use Rattle.poly_model.specs.Cones.{coordinate}
 use Rattle.poly_model.specs.Spaces.{label_form, linear_rows}
 use Rattle.poly_model.specs.Labels.{coordinate_label, is_row, coordinate_index, IsRow}
@@ -72,9 +72,6 @@ added_not_linear V n rows = by (list_any is_point_row rows)
     by false = (refl, tt)
 
 module _ (p : Polyhedron) where
-  pub count_of_rows : length (file_rows p) ≡ length p.rows
-  count_of_rows = length-map p.rows (cone_row p.kind)
-
   -- a row of the file stands at its place in the cone
   pub same_in_cone : (m : ℕ) → m < length (file_rows p) →
       get_or (cone_of p).rows m no_row ≡ get_or (file_rows p) m no_row
@@ -97,19 +94,19 @@ module _ (p : Polyhedron) where
   -- ---- equations
   pub record IsEquation (i : ℕ) : Type 0 where
     pub some : 1 ≤ i
-    pub within : i < 1 + length p.rows
+    pub within : i < 1 + length (file_rows p)
     pub linear : (row_of (file_rows p) i).linear ≡ true
 
   pub equation_only : (i : ℕ) → Contains (equation_labels p) i → IsEquation i
   equation_only i c =
-      let h = filter_only (λ k. (row_of (file_rows p) k).linear) (range_with_len 1 (length p.rows)) i c in
-      let l = range_only 1 (length p.rows) i h.0 in
+      let h = filter_only (λ k. (row_of (file_rows p) k).linear) (range_with_len 1 (length (file_rows p))) i c in
+      let l = range_only 1 (length (file_rows p)) i h.0 in
       record { some = l.0; within = l.1; linear = h.1 }
 
   pub equation_has : (i : ℕ) → IsEquation i → Contains (equation_labels p) i
   equation_has i e =
-      filter_kept (λ k. (row_of (file_rows p) k).linear) (range_with_len 1 (length p.rows)) i
-      (range_has 1 (length p.rows) i e.some e.within) e.linear
+      filter_kept (λ k. (row_of (file_rows p) k).linear) (range_with_len 1 (length (file_rows p))) i
+      (range_has 1 (length (file_rows p)) i e.some e.within) e.linear
 
   -- the labels that are 0 in the main space
   abbrev pub gone : List ℕ → List ℕ
@@ -119,7 +116,7 @@ module _ (p : Polyhedron) where
   abbrev pub fixed_rows : List ℕ → List Vector
   fixed_rows free = map coordinate free ++ linear_rows (file_rows p)
 
-  module _ (few : IsRow (length p.rows)) (free : List ℕ) (rows : List Row)
+  module _ (few : IsRow (length (file_rows p))) (free : List ℕ) (rows : List Row)
       (same : (m : ℕ) → m < length (file_rows p) → get_or rows m no_row ≡ get_or (file_rows p) m no_row) where
     equation_form : (i : ℕ) → IsEquation i → label_form rows i ≡ (row_of (file_rows p) i).entries
     equation_form i e =
@@ -127,7 +124,7 @@ module _ (p : Polyhedron) where
         let m = e.within in
         cond-true (is_row i) (row_of rows i).entries (coordinate (coordinate_index i))
         (lt-ltb i _ (omega arith))
-        ∙ ap (λ (row : Row). row.entries) (row_from_one rows i l ∙ same (i - 1) (omega (arith, count_of_rows))
+        ∙ ap (λ (row : Row). row.entries) (row_from_one rows i l ∙ same (i - 1) (omega arith)
         ∙ sym (row_from_one (file_rows p) i l))
 
     -- a fact of the fixed rows is one of the forms of these labels
@@ -168,7 +165,7 @@ module _ (p : Polyhedron) where
         row_after m l e =
             let q : IsEquation (suc m) = record {
               some = omega arith;
-              within = omega (arith, l, count_of_rows);
+              within = omega (arith, l);
               linear = e;
             } in
             subst P (equation_form (suc m) q)

@@ -24,7 +24,7 @@ use Rattle.dictionary_laws.proofs.Values.{is_label, own_row}
 use Rattle.dictionary_laws.proofs.Origins.{some_origin}
 use Rattle.dictionary_laws.proofs.Equations.{constants_where_point, point_where_constants}
 use Rattle.dictionary_laws.proofs.SettledCuts.{cut, IsCutBy, Parts, points_of_cut, writes_of_cut, cobasis_of_cut}
-use Rattle.dictionary_laws.proofs.MainRows.{count_of_rows, same_in_cone, linear_in_file, IsEquation, equation_only, equation_has, gone, fixed_rows, gone_from_fixed, fixed_from_gone}
+use Rattle.dictionary_laws.proofs.MainRows.{same_in_cone, linear_in_file, IsEquation, equation_only, equation_has, gone, fixed_rows, gone_from_fixed, fixed_from_gone}
 
 label_is_positive : (m j n k : ℕ) → Contains (labels_of m j n) k → 1 ≤ k
 label_is_positive m j n k c =
@@ -40,7 +40,7 @@ row_is_label m j n k l r =
     Contains-append_left (range_with_len 1 m) (map coordinate_label (range_with_len j (n - j))) k
     (range_has 1 m k l r)
 
-module _ (p : Polyhedron) (few : IsRow (length p.rows)) (free : List ℕ) where
+module _ (p : Polyhedron) (few : IsRow (length (file_rows p))) (free : List ℕ) where
   -- ---- the test of labels
   row_stays : (k : ℕ) → is_row k ≡ true → stays p free k ≡ not (row_of (cone_of p).rows k).linear
   row_stays k =
@@ -69,7 +69,7 @@ module _ (p : Polyhedron) (few : IsRow (length p.rows)) (free : List ℕ) where
           Contains-append_right (map coordinate_label free) (equation_labels p) k
           (equation_has p k (record {
             some = positive;
-            within = omega (arith, within, count_of_rows p);
+            within = omega (arith, within);
             linear = ap (λ (row : Row). row.linear)
                 (row_from_one (file_rows p) k positive ∙ sym (same_in_cone p (k - 1) within) ∙ sym here) ∙ linear;
           }))
@@ -104,7 +104,7 @@ module _ (p : Polyhedron) (few : IsRow (length p.rows)) (free : List ℕ) where
           let l = q.some in
           let r = q.within in
           let linear = ap (λ (row : Row). row.linear)
-          (row_from_one (cone_of p).rows k l ∙ same_in_cone p (k - 1) (omega (arith, count_of_rows p))
+          (row_from_one (cone_of p).rows k l ∙ same_in_cone p (k - 1) (omega arith)
           ∙ sym (row_from_one (file_rows p) k l)) ∙ q.linear in
           let f : true ≡ false = sym e ∙ row_stays k (lt-ltb k _ (omega arith))
           ∙ not_from_true (row_of (cone_of p).rows k).linear linear in
@@ -135,11 +135,11 @@ module _ (p : Polyhedron) (few : IsRow (length p.rows)) (free : List ℕ) where
   pub equation_in : (kind : Kind) (k : ℕ) → IsEquation p k → Contains (cut_space kind p []).labels k
   equation_in H k q =
       let r = q.within in
-      row_is_label (length (file_rows p)) 1 p.n k q.some (omega (arith, count_of_rows p))
+      row_is_label (length (file_rows p)) 1 p.n k q.some (omega arith)
   equation_in V k q =
       let r = q.within in
       row_is_label (length (cone_of p).rows) 0 p.n k q.some
-      (omega (arith, count_of_rows p, length-append (file_rows p) (added_row p.kind p.n (file_rows p))))
+      (omega (arith, length-append (file_rows p) (added_row p.kind p.n (file_rows p))))
 
   module _ (kind : Kind)
       (free_labels : (j : ℕ) → Contains free j → Contains (cut_space kind p []).labels (coordinate_label j)) where
@@ -228,7 +228,7 @@ module _ (p : Polyhedron) (few : IsRow (length p.rows)) (free : List ℕ) where
         points : HasPoints space
         points = record { vector = point.vector; inside = point.inside; finite = point.finite }
 
-pub main_dictionary : (p : Polyhedron) (free key : List ℕ) (t : Table) → IsRow (length p.rows) →
+pub main_dictionary : (p : Polyhedron) (free key : List ℕ) (t : Table) → IsRow (length (file_rows p)) →
     IsDictionary (prepare_space p) key t → CanEnterMain p free key t → EntersMain p free key t
 main_dictionary p free key t few d can = record {
   points = subst HasPoints same

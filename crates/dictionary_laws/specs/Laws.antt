@@ -2,7 +2,7 @@
 use Rattle.std.specs.Prelude.{◌≡◌, ◌≢◌, ◌↔◌, ℕ, ◌<◌, pos, ◌≤ℤ◌, List, length, remove, slice_index}
 use Rattle.std.specs.List.{Contains}
 use Rattle.poly_model.specs.Keys.{IsKey, with_label}
-use Rattle.poly_model.specs.Systems.{Polyhedron}
+use Rattle.poly_model.specs.Systems.{Polyhedron, file_rows}
 use Rattle.poly_model.specs.Spaces.{Space, IsStartCobasis, prepare_space, HasPoints}
 use Rattle.poly_model.specs.Dictionaries.{Table, IsCobasis, Writes, IsDictionary}
 use Rattle.linear_laws.specs.Distinct.{AreDistinct}
@@ -149,5 +149,5 @@ CoordinateKeys = (j n : ℕ) → AreCoordinateLabels (coordinate_key j n)
 -- up to a common divisor. No label of a row may be that of a coordinate
 abbrev pub MainDictionary : Type 0
 MainDictionary =
-    (p : Polyhedron) (free key : List ℕ) (t : Table) → IsRow (length p.rows) →
+    (p : Polyhedron) (free key : List ℕ) (t : Table) → IsRow (length (file_rows p)) →
     IsDictionary (prepare_space p) key t → CanEnterMain p free key t → EntersMain p free key t

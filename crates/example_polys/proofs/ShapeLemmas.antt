@@ -155,7 +155,7 @@ shaped kind n few =
 
 -- an example with these rows
 abbrev pub made : ExampleKind → ℕ → List FileRow → Polyhedron
-made kind n rows = record { kind = file_kind kind; n = example_width kind n; rows = rows; text = [] }
+made kind n rows = record { kind = file_kind kind; n = example_width kind n; rows = rows; nonnegative = false; text = [] }
 
 -- what is read off the cells is the example
 pub is_example : (kind : ExampleKind) (n : ℕ) →

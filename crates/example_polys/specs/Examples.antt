@@ -75,4 +75,10 @@ plain_row v = record { entries = v; linear = false }
 -- the polyhedron; it has no text
 abbrev pub example_of : ExampleKind → ℕ → Polyhedron
 example_of kind n =
-    record { kind = file_kind kind; n = example_width kind n; rows = map plain_row (example_rows kind n); text = [] }
+    record {
+      kind = file_kind kind;
+      n = example_width kind n;
+      rows = map plain_row (example_rows kind n);
+      nonnegative = false;
+      text = [];
+    }

@@ -1,5 +1,5 @@
 -- What a cone keeps of the rows of a file: their entries in one list, and two marks for each row.
-use Rattle.std.specs.Prelude.{ℕ, ◌≡◌, Bool, List, if◌then◌else◌, length, map}
+use Rattle.std.specs.Prelude.{ℕ, ◌≡◌, ◌-◌, Bool, true, false, List, if◌then◌else◌, length, map}
 use Rattle.std.specs.List.{flat_map}
 use Rattle.poly_num.specs.Vectors.{Vector}
 use Rattle.poly_model.specs.declared.kind.Kind.{Kind}
@@ -39,6 +39,12 @@ row_kind V v = vector_kind v
 -- which rows are points
 abbrev pub row_kinds : Kind → List FileRow → List RowKind
 row_kinds kind rows = map (λ row. row_kind kind row.entries) rows
+
+-- how many rows `nonnegative` adds: one for each coordinate of an H file
+abbrev pub nonnegative_count : Kind → Bool → ℕ → ℕ
+nonnegative_count H true n = n - 1
+nonnegative_count H false n = 0
+nonnegative_count V nonnegative n = 0
 
 -- of which kind the row behind those of the file is: the row at infinity is no point, the origin is one
 abbrev pub added_kind : Kind → RowKind

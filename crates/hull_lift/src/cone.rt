@@ -1,18 +1,19 @@
 //! The cone of a polyhedron.
-ghost use Rattle.std.specs.Prelude.{◌≡◌, ◌<◌, ◌≤◌, ◌++◌, ◌∷◌, [], false, length, slice_index_or, IfOk};
-ghost use Rattle.std.specs.List.{list_any, All};
-ghost use Rattle.poly_model.specs.Limits.{most_file_rows};
-ghost use Rattle.poly_model.specs.Systems.{cone_of, first_unit, no_file_row, starts_positive};
+ghost use Rattle.std.specs.Prelude.{◌≡◌, ◌<◌, ◌≤◌, ◌==◌, ◌++◌, ◌∷◌, [], false, if◌then◌else◌, pos, length, map, replicate, slice_index_or, IfOk};
+ghost use Rattle.std.specs.List.{list_any, range_with_len, All};
+ghost use Rattle.poly_model.specs.declared.kind.RowKind.TheVariants.{Ray};
+ghost use Rattle.poly_model.specs.Limits.{most_columns, most_cone_rows, most_file_rows};
+ghost use Rattle.poly_model.specs.Systems.{all_rows, cone_of, first_unit, no_file_row, nonnegative_row, starts_positive};
 ghost use Rattle.poly_model.specs.Tables.{is_point_kind};
-ghost use Rattle.hull_lift.specs.Cells.{cells_of, HasWidth, linear_marks, vector_kind, row_kind, row_kinds, added_kind};
+ghost use Rattle.hull_lift.specs.Cells.{cells_of, HasWidth, linear_marks, vector_kind, row_kind, row_kinds, added_kind, nonnegative_count};
 
 use poly_model::{Kind, OutOfMemory, Poly, RowKind, System};
 use poly_num::Num;
 use std::alloc::Global;
 
-/// The cone of a polyhedron: the rows of the file, and behind them the row at infinity `1 0 .. 0` of
-/// an H file, or, where no row of a V file is a point, the origin `1 0 .. 0` as a point. Takes memory
-/// for the rows; the answer is `Err` only for want of memory.
+/// The cone of a polyhedron: the rows of the file; behind them, where an H file says `nonnegative`, a row for each
+/// coordinate; and then the row at infinity `1 0 .. 0` of an H file, or, where no row of a V file is a point, the origin
+/// `1 0 .. 0` as a point. Takes memory for the rows; the answer is `Err` only for want of memory.
 pub fn system_of(alloc: Global, poly: &Poly) -> Result<System, OutOfMemory>
     ensures { IfOk result (λ s. s ≡ cone_of poly.now) }
 {
@@ -29,13 +30,67 @@ pub fn system_of(alloc: Global, poly: &Poly) -> Result<System, OutOfMemory>
     Ok(System::new(kind, n, cells, linear, kinds))
 }
 
-// The entries of the rows, one row after the other, with room for one row more.
+// How many rows `nonnegative` adds: one for each coordinate of an H file.
+fn nonnegative_count(poly: &Poly) -> u32
+    ensures value { result ≡ nonnegative_count poly.now.kind poly.now.nonnegative poly.now.n }
+    ensures within { result < poly.now.n }
+    ensures few { result < most_columns }
+{
+    let coordinates = poly.n() - 1;
+    if poly.kind() == Kind::H && poly.nonnegative() {
+        coordinates
+    } else {
+        0
+    }
+}
+
+// The entries of all rows, one row after the other, with room for one row more.
 fn cells_of(alloc: Global, poly: &Poly) -> Result<Vec<Num>, OutOfMemory>
+    ensures value { IfOk result (λ v. v.items ≡ cells_of (all_rows poly.now)) }
+    ensures width { IfOk result (λ v. All (HasWidth poly.now.n) (all_rows poly.now)) }
+{
+    let mut cells = file_cells(alloc, poly)?;
+    append_nonnegative_rows(&mut cells, poly.n(), nonnegative_count(poly))?;
+    Ok(cells)
+}
+
+// Appends the rows `x_j >= 0`, of n entries, for each j from 1 to so many.
+fn append_nonnegative_rows(cells: &mut Vec<Num>, n: u32, count: u32) -> Result<(), OutOfMemory>
+    requires { count < n }
+    ensures { IfOk result (λ x. cells.new.items
+        ≡ cells.old.items ++ cells_of (map (nonnegative_row n) (range_with_len 1 count))) }
+{
+    'rows: for i in 0..count {
+        append_nonnegative_row(cells, n, i + 1)?;
+    }
+    Ok(())
+}
+
+// Appends 0 but for 1 at place j, n entries.
+fn append_nonnegative_row(cells: &mut Vec<Num>, n: u32, j: u32) -> Result<(), OutOfMemory>
+    requires { j < n }
+    ensures { IfOk result (λ x. cells.new.items ≡ cells.old.items ++ (nonnegative_row n j).entries) }
+{
+    'entries: for i in 0..n {
+        cells.push(unit_entry(i, j))?;
+    }
+    Ok(())
+}
+
+// Entry i of it.
+fn unit_entry(i: u32, j: u32) -> Num
+    ensures { result ≡ (if i == j then pos 1 else pos 0) }
+{
+    if i == j { Num::ONE } else { Num::ZERO }
+}
+
+// The entries of the file's rows, with room for the others.
+fn file_cells(alloc: Global, poly: &Poly) -> Result<Vec<Num>, OutOfMemory>
     ensures value { IfOk result (λ v. v.items ≡ cells_of poly.now.rows) }
     ensures width { IfOk result (λ v. All (HasWidth poly.now.n) poly.now.rows) }
 {
-    let room = (poly.rows() as usize + 1) * poly.n() as usize;
-    let mut cells = Vec::with_capacity(alloc, room)?;
+    let rows = poly.rows() as usize + nonnegative_count(poly) as usize + 1;
+    let mut cells = Vec::with_capacity(alloc, rows * poly.n() as usize)?;
     'rows: for i in 0..poly.rows() {
         cells.extend_from_slice(row_at(poly, i))?;
     }
@@ -52,8 +107,27 @@ fn row_at(poly: &Poly, i: u32) -> &[Num]
     poly.row(i + 1)
 }
 
-// For each row whether it is linear, with room for one row more.
+// For each row whether it is linear. Those that are added are not.
 fn linear_marks(alloc: Global, poly: &Poly) -> Result<Vec<bool>, OutOfMemory>
+    ensures value { IfOk result (λ v. v.items ≡ linear_marks (all_rows poly.now)) }
+    ensures few { IfOk result (λ v. length v.items < most_cone_rows) }
+{
+    let mut marks = file_marks(alloc, poly)?;
+    append_unmarked(&mut marks, nonnegative_count(poly))?;
+    Ok(marks)
+}
+
+// Appends the marks of so many rows that are not linear.
+fn append_unmarked(marks: &mut Vec<bool>, count: u32) -> Result<(), OutOfMemory>
+    ensures { IfOk result (λ x. marks.new.items ≡ marks.old.items ++ replicate count false) }
+{
+    let all = marks.len() + count as usize;
+    marks.resize(all, false)?;
+    Ok(())
+}
+
+// The marks of the file's rows.
+fn file_marks(alloc: Global, poly: &Poly) -> Result<Vec<bool>, OutOfMemory>
     ensures value { IfOk result (λ v. v.items ≡ linear_marks poly.now.rows) }
     ensures few { IfOk result (λ v. length v.items ≤ most_file_rows) }
 {
@@ -73,8 +147,26 @@ fn is_linear_at(poly: &Poly, i: u32) -> bool
     poly.is_linear(i + 1)
 }
 
-// For each row whether it is a point or not, with room for one row more.
+// For each row whether it is a point or not. Those that are added are not.
 fn row_kinds(alloc: Global, poly: &Poly) -> Result<Vec<RowKind>, OutOfMemory>
+    ensures { IfOk result (λ v. v.items ≡ row_kinds poly.now.kind (all_rows poly.now)) }
+{
+    let mut kinds = file_kinds(alloc, poly)?;
+    append_rays(&mut kinds, nonnegative_count(poly))?;
+    Ok(kinds)
+}
+
+// Appends the kinds of so many rows that are no points.
+fn append_rays(kinds: &mut Vec<RowKind>, count: u32) -> Result<(), OutOfMemory>
+    ensures { IfOk result (λ x. kinds.new.items ≡ kinds.old.items ++ replicate count Ray) }
+{
+    let all = kinds.len() + count as usize;
+    kinds.resize(all, RowKind::Ray)?;
+    Ok(())
+}
+
+// The kinds of the file's rows.
+fn file_kinds(alloc: Global, poly: &Poly) -> Result<Vec<RowKind>, OutOfMemory>
     ensures { IfOk result (λ v. v.items ≡ row_kinds poly.now.kind poly.now.rows) }
 {
     let kind = poly.kind();

@@ -21,12 +21,12 @@ use Rattle.poly_model.specs.Limits.{most_labels}
 use Rattle.poly_model.specs.Systems.{Polyhedron}
 use Rattle.poly_reader.specs.declared.bad.BadFile.{BadFile}
 use Rattle.poly_reader.specs.FirstFault.{◌>>=◌, each}
-use Rattle.poly_reader.specs.Head.{head_of, names_of, opening_of}
+use Rattle.poly_reader.specs.Head.{head_of, names_of, nonnegative_line_of, opening_of}
 use Rattle.poly_reader.specs.Header.{size_of}
 use Rattle.poly_reader.specs.Lines.{lines_of, last_line, firsts}
 use Rattle.poly_reader.specs.Marks.{checked_marks}
 use Rattle.poly_reader.specs.Matrix.{matrix_of, late_fault}
-use Rattle.poly_reader.specs.Reading.{reading, length_fault, empty_fault, IsFileOf, IsFirstFault}
+use Rattle.poly_reader.specs.Reading.{reading, length_fault, empty_fault, is_given, nonnegative_fault, IsFileOf, IsFirstFault}
 use Rattle.poly_reader.specs.Rows.{rows_from}
 use Rattle.work_core.specs.Splits.{most_bases, most_depth}
 use Rattle.job_text.specs.declared.job.Job.{Job}
@@ -358,8 +358,12 @@ reading_keeps text =
     keeps text (each late_fault (firsts matrix.end_line matrix.words)) _ (λ late.
     keeps text (checked_marks (matrix.count / size.width) (names_of (head_of (lines_of text)))) _ (λ marks.
     keeps text (empty_fault opening.kind (matrix.count / size.width) matrix.end_line) _ (λ some.
+    let given = nonnegative_line_of (head_of (lines_of text)) in
+    keeps text (nonnegative_fault opening.kind given) _ (λ placed.
     keeps text (rows_from last opening.kind size.width marks size.words) _ (λ rows.
-    keeps_own text (record { kind = opening.kind; n = size.width; rows = rows; text = text }) refl))))))))
+    keeps_own text
+    (record { kind = opening.kind; n = size.width; rows = rows; nonnegative = is_given given; text = text })
+    refl)))))))))
 
 pub text_is_kept : (text : List ℕ) (p : Polyhedron) → IsFileOf text p → p.text ≡ text
 text_is_kept text p h = (reading_keeps text).kept p h

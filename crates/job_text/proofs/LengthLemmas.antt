@@ -38,7 +38,7 @@ labels_are_short [] h = omega arith
 labels_are_short (l ∷ labels) h =
     omega (arith, label_is_short l h.0, labels_are_short labels h.1, length-append (label_text l) (labels_text labels))
 
-key_is_short : (key : List ℕ) → HasKeyText key → length (key_text key) ≤ 1539
+key_is_short : (key : List ℕ) → HasKeyText key → length (key_text key) ≤ 3075
 key_is_short key h =
     omega (
       arith,

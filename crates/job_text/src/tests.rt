@@ -184,7 +184,7 @@ fn keys(rt: HostRuntime) {
         ("1 8192", None),
         ("1 x8192", None),
         ("1 x", None),
-        ("257", None),
+        ("513", None),
         ("99999999999999999999999999 9", None),
     ];
     for (text, key) in &cases {

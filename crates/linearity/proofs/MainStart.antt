@@ -24,7 +24,7 @@ use Rattle.dictionary_laws.proofs.Members.{contains_or}
 use Rattle.dictionary_laws.proofs.Filters.{filter_only, filter_kept, range_only, member_only, member_has, ascending_filter, ascending_range}
 use Rattle.dictionary_laws.proofs.CoordinateSpaces.{coordinate_keys}
 use Rattle.dictionary_laws.proofs.Values.{own_row}
-use Rattle.dictionary_laws.proofs.MainRows.{count_of_rows, linear_in_file, equation_only, equation_has, row_in_cone}
+use Rattle.dictionary_laws.proofs.MainRows.{linear_in_file, equation_only, equation_has, row_in_cone}
 use Rattle.dictionary_laws.proofs.MainSpace.{equation_in, main_dictionary}
 use Rattle.dictionary.specs.Views.{Dictionary, IsDictionaryIn, table_of}
 use Rattle.dictionary.proofs.Joined.{ascending_joined}
@@ -74,8 +74,8 @@ module _ (p : Polyhedron) (few : length (cone_of p).rows < coordinates_from) (d 
   abbrev rows : List Row
   rows = (cone_of p).rows
 
-  pub few_in_file : length p.rows < coordinates_from
-  few_in_file = omega (arith, few, count_of_rows p, length-append (file_rows p) (added_row p.kind p.n (file_rows p)))
+  pub few_in_file : length (file_rows p) < coordinates_from
+  few_in_file = omega (arith, few, length-append (file_rows p) (added_row p.kind p.n (file_rows p)))
 
   key_label : (k : ℕ) → Contains d.key k → Contains (prepare_space p).labels k
   key_label k c = All-contains (Contains (prepare_space p).labels) d.key k is.dictionary.cobasis.labels c
@@ -94,7 +94,7 @@ module _ (p : Polyhedron) (few : length (cone_of p).rows < coordinates_from) (d 
       let within = linear_in_file p (k - 1) (ap (λ (row : Row). row.linear) (sym (row_from_one rows k l)) ∙ e) in
       equation_has p k (record {
         some = omega arith;
-        within = omega (arith, within, count_of_rows p);
+        within = omega (arith, within);
         linear = ap (λ (row : Row). row.linear) (sym (row_in_cone p k l (omega arith))) ∙ e;
       })
 
@@ -102,7 +102,7 @@ module _ (p : Polyhedron) (few : length (cone_of p).rows < coordinates_from) (d 
   linear_equation i c =
       let q = equation_only p i c in
       let m = q.within in
-      ap (λ (row : Row). row.linear) (row_in_cone p i q.some (omega (arith, count_of_rows p))) ∙ q.linear
+      ap (λ (row : Row). row.linear) (row_in_cone p i q.some (omega arith)) ∙ q.linear
 
   -- the same of a label of the dictionary
   pub row_within : (i : ℕ) → Contains d.labels i → IsRow i → i < length rows + 1

@@ -9,7 +9,6 @@ use Rattle.lrs_cli.specs.declared.status.Status.TheVariants.{Done, Usage, BadFil
 -- the name of what is wrong with a file
 abbrev pub kind_text : BadKind → List ℕ
 kind_text kinds.TooLong = codes "TooLong"
-kind_text kinds.Nonnegative = codes "Nonnegative"
 kind_text kinds.BadLinearity = codes "BadLinearity"
 kind_text kinds.NoBegin = codes "NoBegin"
 kind_text kinds.BadHeader = codes "BadHeader"
@@ -23,6 +22,7 @@ kind_text kinds.ZeroDenominator = codes "ZeroDenominator"
 kind_text kinds.WideNumber = codes "WideNumber"
 kind_text kinds.NoEnd = codes "NoEnd"
 kind_text kinds.MisplacedLinearity = codes "MisplacedLinearity"
+kind_text kinds.MisplacedNonnegative = codes "MisplacedNonnegative"
 kind_text kinds.NoRows = codes "NoRows"
 kind_text kinds.BadFirst = codes "BadFirst"
 kind_text kinds.LinearPoint = codes "LinearPoint"

@@ -153,7 +153,6 @@ fn write_kind<S: Sink>(kind: BadKind, out: &mut S) -> Result<(), WriteFault>
 {
     match kind {
         BadKind::TooLong => write_all(out, b"TooLong"),
-        BadKind::Nonnegative => write_all(out, b"Nonnegative"),
         BadKind::BadLinearity => write_all(out, b"BadLinearity"),
         BadKind::NoBegin => write_all(out, b"NoBegin"),
         BadKind::BadHeader => write_all(out, b"BadHeader"),
@@ -167,6 +166,7 @@ fn write_kind<S: Sink>(kind: BadKind, out: &mut S) -> Result<(), WriteFault>
         BadKind::WideNumber => write_all(out, b"WideNumber"),
         BadKind::NoEnd => write_all(out, b"NoEnd"),
         BadKind::MisplacedLinearity => write_all(out, b"MisplacedLinearity"),
+        BadKind::MisplacedNonnegative => write_all(out, b"MisplacedNonnegative"),
         BadKind::NoRows => write_all(out, b"NoRows"),
         BadKind::BadFirst => write_all(out, b"BadFirst"),
         BadKind::LinearPoint => write_all(out, b"LinearPoint"),

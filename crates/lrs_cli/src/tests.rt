@@ -53,8 +53,27 @@ const SQUARE: Case = Case {
     written: "V-representation\nbegin\n***** 3 rational\n 1 0 0\n 1 1 0\n 1 0 1\n 1 1 1\nend\n",
 };
 
-const LISTED: [Case; 22] = [
+const LISTED: [Case; 25] = [
     SQUARE,
+    Case {
+        name: "the square, half of it by `nonnegative`",
+        file: "nonnegative\nbegin\n2 3 integer\n 1 -1 0\n 1 0 -1\nend\n",
+        ..SQUARE
+    },
+    Case {
+        name: "a segment on a line, between the axes",
+        file: "nonnegative\nlinearity 1 1\nbegin\n1 3 integer\n -1 1 1\nend\n",
+        end: End::Done(2, 0),
+        written: "V-representation\nbegin\n***** 3 rational\n 1 1 0\n 1 0 1\nend\n",
+        ..SQUARE
+    },
+    Case {
+        name: "a half line, where `nonnegative` says more than the row",
+        file: "nonnegative\nbegin\n1 2 integer\n 1 2\nend\n",
+        end: End::Done(2, 0),
+        written: "V-representation\nbegin\n***** 2 rational\n 1 0\n 0 1\nend\n",
+        ..SQUARE
+    },
     Case {
         name: "a row twice, and a row of zeros",
         file: "H-representation\nbegin\n6 3 integer\n0 1 0\n0 1 0\n0 0 1\n1 -1 0\n1 0 -1\n0 0 0\nend\n",

@@ -7,7 +7,7 @@ use Rattle.poly_model.specs.Spaces.{Space, IsInside, prepare_space}
 
 -- the labels of the linear rows of a file
 abbrev pub equation_labels : Polyhedron → List ℕ
-equation_labels p = filter (λ k. (row_of (file_rows p) k).linear) (range_with_len 1 (length p.rows))
+equation_labels p = filter (λ k. (row_of (file_rows p) k).linear) (range_with_len 1 (length (file_rows p)))
 
 -- some vector of the space is not 0 at infinity, and these labels are 0 there
 pub record HasPointOn (space : Space) (labels : List ℕ) : Type 0 where

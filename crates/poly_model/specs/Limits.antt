@@ -10,7 +10,7 @@ most_columns = constants.MOST_COLUMNS
 abbrev pub most_file_rows : ℕ
 most_file_rows = constants.MOST_FILE_ROWS
 
--- rows of a cone: those of a file, and the one that is added
+-- rows of a cone: those of a file, and at most one that is added for each column
 abbrev pub most_cone_rows : ℕ
 most_cone_rows = constants.MOST_CONE_ROWS
 

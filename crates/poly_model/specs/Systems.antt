@@ -1,6 +1,6 @@
 -- Polyhedra as files give them, and the rows of their cones.
-use Rattle.std.specs.Prelude.{ℕ, ◌-◌, Bool, true, false, if◌then◌else◌, pos, int_lt, List, [], ◌∷◌, ◌++◌, map, replicate}
-use Rattle.std.specs.List.{list_any, slice_index_or}
+use Rattle.std.specs.Prelude.{ℕ, ◌-◌, Bool, true, false, if◌then◌else◌, pos, int_lt, List, [], ◌∷◌, ◌++◌, map, replicate, slice_set}
+use Rattle.std.specs.List.{list_any, range_with_len, slice_index_or}
 use Rattle.poly_num.specs.Vectors.{Vector}
 use Rattle.poly_model.specs.declared.kind.Kind.{Kind}
 use Rattle.poly_model.specs.declared.kind.Kind.TheVariants.{H, V}
@@ -19,6 +19,8 @@ pub record Polyhedron : Type 0 where
   pub kind : Kind
   pub n : ℕ
   pub rows : List FileRow
+  -- a line `nonnegative` stands in the file: of an H file no coordinate is negative
+  pub nonnegative : Bool
   -- the bytes that it was read from
   pub text : List ℕ
 
@@ -64,14 +66,32 @@ cone_row V row = record { entries = row.entries; linear = row.linear; point = st
 abbrev pub is_point_row : Row → Bool
 is_point_row row = row.point
 
--- the row behind those of the file: for H the row at infinity, for V the origin, where no row is a point
+-- the row behind those: for H the row at infinity, for V the origin, where no row is a point
 abbrev pub added_row : Kind → ℕ → List Row → List Row
 added_row H n rows = record { entries = first_unit n; linear = false; point = false } ∷ []
 added_row V n rows =
     if list_any is_point_row rows then [] else record { entries = first_unit n; linear = false; point = true } ∷ []
 
+-- the row `x_j >= 0`, of n entries: 0 but for 1 at coordinate j
+abbrev pub nonnegative_row : ℕ → ℕ → FileRow
+nonnegative_row n j = record { entries = slice_set (replicate n (pos 0)) j (pos 1); linear = false }
+
+-- one for each coordinate: for j from 1 to n - 1
+abbrev pub nonnegative_rows : ℕ → List FileRow
+nonnegative_rows n = map (nonnegative_row n) (range_with_len 1 (n - 1))
+
+-- the rows of a file, and behind them those that `nonnegative` adds to an H file
+abbrev pub with_nonnegative : Kind → Bool → ℕ → List FileRow → List FileRow
+with_nonnegative H true n rows = rows ++ nonnegative_rows n
+with_nonnegative H false n rows = rows
+with_nonnegative V nonnegative n rows = rows
+
+abbrev pub all_rows : Polyhedron → List FileRow
+all_rows p = with_nonnegative p.kind p.nonnegative p.n p.rows
+
+-- the same as rows of the cone
 abbrev pub file_rows : Polyhedron → List Row
-file_rows p = map (cone_row p.kind) p.rows
+file_rows p = map (cone_row p.kind) (all_rows p)
 
 -- the cone of a polyhedron
 abbrev pub cone_of : Polyhedron → System

@@ -1,5 +1,5 @@
 //! Polyhedra as files give them.
-ghost use Rattle.std.specs.Prelude.{◌≡◌, ◌≤◌, ◌<◌, length};
+ghost use Rattle.std.specs.Prelude.{false, ◌≡◌, ◌≤◌, ◌<◌, length};
 ghost use Rattle.poly_model.specs.Limits.{most_columns, most_file_rows};
 ghost use Rattle.poly_model.specs.Systems.{file_row};
 ghost use Rattle.poly_model.specs.Tables.{IsShaped, file_rows_in};
@@ -9,13 +9,14 @@ use crate::cells::row_at;
 use poly_num::Num;
 use std::marker::Model;
 
-/// The polyhedron of a file: rows of n whole numbers without common divisor, some of them linear, and
-/// the bytes that it was read from.
+/// The polyhedron of a file: rows of n whole numbers without common divisor, some of them linear, whether
+/// its coordinates are not negative besides, and the bytes that it was read from.
 pub struct Poly {
     kind: Kind,
     n: u32,
     cells: Vec<Num>,
     linear: Vec<bool>,
+    nonnegative: bool,
     text: Vec<u8>,
 }
 
@@ -27,6 +28,7 @@ impl Drop for Poly {
             n: _,
             cells: _,
             linear: _,
+            nonnegative: _,
             text: _,
         } = self;
     }
@@ -40,25 +42,53 @@ impl Model for Poly {
 
     ghost Value = { Polyhedron };
 
-    ghost view = { λ p. record { kind = p.kind; n = p.n; rows = file_rows_in p.n p.cells.items p.linear.items; text = p.text.items } };
+    ghost view = { λ p. record {
+      kind = p.kind;
+      n = p.n;
+      rows = file_rows_in p.n p.cells.items p.linear.items;
+      nonnegative = p.nonnegative;
+      text = p.text.items;
+    } };
 
     ghost invariant = { λ p. IsShaped most_file_rows (length p.linear.items) p.n p.cells.items };
 }
 
 impl Poly {
     /// The polyhedron of these cells, row by row, n to a row, with a mark for each row that says
-    /// whether it is linear.
+    /// whether it is linear. It does not say `nonnegative`.
     pub fn new(kind: Kind, n: u32, cells: Vec<Num>, linear: Vec<bool>, text: Vec<u8>) -> Poly
         requires { IsShaped most_file_rows (length linear.items) n cells.items }
-        ensures { result ≡ record { kind = kind; n = n; rows = file_rows_in n cells.items linear.items; text = text.items } }
+        ensures { result ≡ record {
+          kind = kind;
+          n = n;
+          rows = file_rows_in n cells.items linear.items;
+          nonnegative = false;
+          text = text.items;
+        } }
     {
         Poly {
             kind,
             n,
             cells,
             linear,
+            nonnegative: false,
             text,
         }
+    }
+
+    /// The same rows of a file that says `nonnegative`, or does not.
+    pub fn with_nonnegative(self, nonnegative: bool) -> Poly
+        ensures { result ≡ record {
+          kind = self.kind;
+          n = self.n;
+          rows = self.rows;
+          nonnegative = nonnegative;
+          text = self.text;
+        } }
+    {
+        let mut poly = self;
+        poly.nonnegative = nonnegative;
+        poly
     }
 
     /// Whether it was given by inequalities or by points.
@@ -77,7 +107,7 @@ impl Poly {
         self.n
     }
 
-    /// How many rows there are.
+    /// How many rows the file has. Those that `nonnegative` adds are not counted.
     pub fn rows(&self) -> u32
         ensures value { result ≡ length self.now.rows }
         ensures few { result ≤ most_file_rows }
@@ -105,6 +135,13 @@ impl Poly {
     {
         let linear: &[bool] = &self.linear;
         linear[i as usize - 1]
+    }
+
+    /// Whether the file says `nonnegative`: of an H file no coordinate is negative then.
+    pub fn nonnegative(&self) -> bool
+        ensures { result ≡ self.now.nonnegative }
+    {
+        self.nonnegative
     }
 
     /// The bytes that it was read from.

@@ -9,8 +9,9 @@ use crate::{Kind, Label, RowKind};
 use poly_num::Num;
 use std::marker::Model;
 
-/// The rows of the cone of a polyhedron: those of the file, and behind them the row at infinity of an
-/// H file, or the origin of a V file without a point. Some are linear, and some of a V file points.
+/// The rows of the cone of a polyhedron: those of the file, behind them for an H file with `nonnegative` one for each
+/// coordinate, and then the row at infinity of an H file, or the origin of a V file without a point. Some are linear, and
+/// some of a V file points.
 pub struct System {
     kind: Kind,
     n: u32,
@@ -84,7 +85,7 @@ impl System {
         self.n
     }
 
-    /// How many rows there are, the added one among them.
+    /// How many rows there are, the added ones among them.
     pub fn rows(&self) -> u32
         ensures value { result ≡ length self.now.rows }
         ensures few { result ≤ most_cone_rows }

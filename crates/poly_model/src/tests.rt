@@ -178,19 +178,19 @@ fn polyhedra_give_their_rows(rt: HostRuntime) -> Result<(), Fail> {
     let alloc = rt.alloc();
     let marks = Vec::from_slice(alloc, &[false, true])?;
     let text = Vec::from_slice(alloc, b"text")?;
-    let poly = Poly::new(Kind::V, 3, numbers(alloc)?, marks, text);
+    let poly = Poly::new(Kind::V, 3, numbers(alloc)?, marks, text).with_nonnegative(true);
     if poly.rows() != 2 {
         return Err("two rows")?;
     }
     let found = (
         (poly.kind(), poly.n(), poly.row(2)),
-        [poly.is_linear(1), poly.is_linear(2)],
+        [poly.is_linear(1), poly.is_linear(2), poly.nonnegative()],
         poly.text(),
     );
     let row = [Num::ONE, Num::ONE, Num::ZERO];
     let want = (
         (Kind::V, 3, row.as_slice()),
-        [false, true],
+        [false, true, true],
         b"text".as_slice(),
     );
     assert_eq!(rt; found, want);

@@ -1,10 +1,16 @@
--- Checks of one element after the other, and of the words that begin a line.
-use Rattle.std.proofs.Common.{◌≡◌, ℕ, Bool, true, false, List, [], ◌∷◌, ◌++◌, Ok, Err, refl, ◌∙◌, cond}
+-- Steps that end well or in a fault; checks of one element after the other, and of the words that begin a line.
+use Rattle.std.proofs.Common.{◌≡◌, ℕ, Bool, true, false, List, [], ◌∷◌, ◌++◌, Result, Ok, Err, refl, ◌∙◌, cond}
 use Rattle.std.specs.Prelude.{◌==◌, if◌then◌else◌}
 use Rattle.std.proofs.lemmas.Bool.{eqb-true}
 use Rattle.poly_reader.specs.declared.bad.BadFile.{BadFile}
 use Rattle.poly_reader.specs.Lines.{Word, firsts}
 use Rattle.poly_reader.specs.FirstFault.{◌>>=◌, Check, each}
+
+-- what ended well went well at each of its steps
+pub ok_then : {A B : Type 0} (r : Result A BadFile) (f : A → Result B BadFile) (y : B) → (r >>= f) ≡ Ok y →
+    (x : A) × (r ≡ Ok x) × (f x ≡ Ok y)
+ok_then (Ok x) f y e = (x, refl, e)
+ok_then (Err b) f y e = absurd cc
 
 after_passed : (r a b c : Check) (u : Unit {0}) → (r >>= λ _. a) ≡ Ok u → ((v : Unit {0}) → a ≡ Ok v → b ≡ c)
     → (r >>= λ _. b) ≡ c

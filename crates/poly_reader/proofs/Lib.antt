@@ -10,6 +10,7 @@ pub mod HeaderLemmas
 pub mod EachLemmas
 pub mod MatrixLemmas
 pub mod MarkLemmas
+pub mod NonnegativeLemmas
 pub mod ScalingLemmas
 pub mod RowLemmas
 pub mod LongTexts
@@ -19,3 +20,4 @@ pub mod Multiples
 pub mod DirectionLaws
 pub mod SecondPass
 pub mod ReducedNumbers
+pub mod BeforeLemmas

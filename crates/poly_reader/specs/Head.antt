@@ -4,13 +4,13 @@ use Rattle.std.specs.List.{fold, flat_map}
 use Rattle.poly_model.specs.declared.kind.Kind.{Kind}
 use Rattle.poly_model.specs.declared.kind.Kind.TheVariants.{H, V}
 use Rattle.poly_reader.specs.declared.bad.BadFile.{BadFile}
-use Rattle.poly_reader.specs.declared.bad.BadKind.TheVariants.{Nonnegative, BadLinearity, NoBegin}
+use Rattle.poly_reader.specs.declared.bad.BadKind.TheVariants.{BadLinearity, NoBegin}
 use Rattle.poly_reader.specs.declared.head.Head.{Head}
 use Rattle.poly_reader.specs.declared.head.HeadLine.{HeadLine}
 use Rattle.poly_reader.specs.declared.head.HeadLine.TheVariants as lines
 use Rattle.poly_reader.specs.Lines.{Word, Line, begins_with, is_word, is_same, joined}
 use Rattle.plain_text.specs.Digits.{is_count, value_of}
-use Rattle.poly_reader.specs.FirstFault.{◌>>=◌, Check, bad, unless, or_bad, each}
+use Rattle.poly_reader.specs.FirstFault.{◌>>=◌, Check, unless, or_bad, each}
 
 -- the line begins with the word `begin`
 abbrev pub begins : Line → Bool
@@ -40,9 +40,7 @@ names_rows (k ∷ words) = is_count k.text && are_counts (value_of k.text) words
 -- what is wrong with a line before `begin`
 unfoldable pub line_fault : Line → Check
 line_fault [] = Ok tt
-line_fault (w ∷ words) =
-    if is_word w (codes "nonnegative") then bad Nonnegative w.line
-    else unless (is_word w (codes "linearity") && not (names_rows words)) BadLinearity w.line
+line_fault (w ∷ words) = unless (is_word w (codes "linearity") && not (names_rows words)) BadLinearity w.line
 
 -- the kind that a word says, or the one before
 abbrev pub kind_said : Kind → List ℕ → Kind
@@ -81,6 +79,21 @@ names_on (w ∷ words) = if is_word w (codes "linearity") then names_behind w.li
 -- the rows that these lines name, all together
 abbrev pub names_of : List Line → List Name
 names_of lines = flat_map names_on lines
+
+-- the number of the line, where it begins with `nonnegative`
+unfoldable pub nonnegative_line : Line → Option ℕ
+nonnegative_line [] = None
+nonnegative_line (w ∷ words) = if is_word w (codes "nonnegative") then Some w.line else None
+
+-- the first of two lines, where there is one
+abbrev pub first_of : Option ℕ → Option ℕ → Option ℕ
+first_of (Some line) other = Some line
+first_of None other = other
+
+-- the number of the first of these lines that begins with `nonnegative`
+unfoldable pub nonnegative_line_of : List Line → Option ℕ
+nonnegative_line_of [] = None
+nonnegative_line_of (line ∷ lines) = first_of (nonnegative_line line) (nonnegative_line_of lines)
 
 -- what is read before the header: the kind, and the words behind `begin`
 pub record Opening : Type 0 where

@@ -11,3 +11,4 @@ pub mod Rows
 pub mod Reading
 pub mod Taking
 pub mod Laws
+pub mod Before

@@ -4,7 +4,7 @@ use Rattle.poly_num.specs.Fractions.{Fraction, lowest}
 use Rattle.poly_model.specs.Limits.{most_file_rows}
 use Rattle.poly_reader.specs.declared.bad.BadKind.{BadKind}
 use Rattle.poly_reader.specs.declared.bad.BadFile.{BadFile}
-use Rattle.poly_reader.specs.declared.bad.BadKind.TheVariants.{TooManyRows, ShortData, LongData, BadNumber, ZeroDenominator, WideNumber, NoEnd, MisplacedLinearity, Nonnegative}
+use Rattle.poly_reader.specs.declared.bad.BadKind.TheVariants.{TooManyRows, ShortData, LongData, BadNumber, ZeroDenominator, WideNumber, NoEnd, MisplacedLinearity, MisplacedNonnegative}
 use Rattle.poly_reader.specs.declared.matrix.Extent.{Extent}
 use Rattle.poly_reader.specs.Lines.{Word, is_word}
 use Rattle.plain_text.specs.Digits.{is_negative, signed}
@@ -81,4 +81,4 @@ matrix e = record { count = e.count; end_line = e.end_line; words = e.words }
 unfoldable pub late_fault : Word → Check
 late_fault w =
     if is_word w (codes "linearity") then bad MisplacedLinearity w.line
-    else unless (is_word w (codes "nonnegative")) Nonnegative w.line
+    else unless (is_word w (codes "nonnegative")) MisplacedNonnegative w.line

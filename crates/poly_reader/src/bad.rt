@@ -8,8 +8,6 @@ use std::alloc::{AllocError, AllocFailed};
 pub enum BadKind {
     /// More than `MOST_FILE_BYTES` bytes.
     TooLong,
-    /// A line that begins with `nonnegative`.
-    Nonnegative,
     /// A line `linearity` that is not a count and so many rows of the file.
     BadLinearity,
     /// No line begins with `begin`.
@@ -36,6 +34,8 @@ pub enum BadKind {
     NoEnd,
     /// A line behind `end` that begins with `linearity`.
     MisplacedLinearity,
+    /// A line behind `end`, or a line of a V file, that begins with `nonnegative`.
+    MisplacedNonnegative,
     /// A V file without rows.
     NoRows,
     /// A row of a V file whose first number is neither 0 nor 1.

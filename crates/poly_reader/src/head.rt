@@ -94,9 +94,6 @@ fn read_line<'a>(kind: Kind, line: &LineWords<'a>) -> Result<HeadLine<'a>, BadFi
     if is(w.text, b"begin") {
         return Ok(HeadLine::Begin(rest));
     }
-    if is(w.text, b"nonnegative") {
-        return Err(bad(BadKind::Nonnegative, w.line));
-    }
     if is(w.text, b"linearity") && !names_rows(&rest) {
         return Err(bad(BadKind::BadLinearity, w.line));
     }

@@ -17,7 +17,7 @@ fn check_first(w: Token) -> Result<(), BadFile>
         return Err(bad(BadKind::MisplacedLinearity, w.line));
     }
     if is(w.text, b"nonnegative") {
-        return Err(bad(BadKind::Nonnegative, w.line));
+        return Err(bad(BadKind::MisplacedNonnegative, w.line));
     }
     Ok(())
 }

@@ -4,7 +4,7 @@ ghost use Rattle.poly_model.specs.Limits.{most_file_rows};
 ghost use Rattle.poly_model.specs.Tables.{IsShaped};
 ghost use Rattle.poly_reader.specs.FirstFault.{Gives, Parses};
 ghost use Rattle.poly_reader.specs.Limits.{most_file_bytes};
-ghost use Rattle.poly_reader.specs.Reading.{length_fault, empty_fault, polyhedron, reading, IsOfItsText};
+ghost use Rattle.poly_reader.specs.Reading.{length_fault, empty_fault, is_given, nonnegative_fault, polyhedron, reading, IsOfItsText};
 
 use crate::bad::bad;
 use crate::head::head_of;
@@ -13,6 +13,7 @@ use crate::late::check_late;
 use crate::lines::{Lines, last_line_of};
 use crate::marks::linear_marks;
 use crate::matrix::extent_of;
+use crate::nonnegative::nonnegative_line_of;
 use crate::rows::table;
 use crate::{BadFile, BadKind, MOST_FILE_BYTES, ParseStop};
 use poly_model::{Kind, Poly};
@@ -26,6 +27,7 @@ struct Parts {
     width: usize,
     cells: Vec<Num>,
     linear: Vec<bool>,
+    nonnegative: bool,
 }
 
 fn check_length(bytes: usize) -> Result<(), BadFile>
@@ -47,6 +49,23 @@ fn check_some_row(kind: Kind, rows: usize, line: u64) -> Result<(), BadFile>
     Ok(())
 }
 
+fn check_nonnegative(kind: Kind, line: Option<u64>) -> Result<(), BadFile>
+    ensures { Gives (λ x. x) result (nonnegative_fault kind line) }
+{
+    if let Some(line) = line {
+        if kind == Kind::V {
+            return Err(bad(BadKind::MisplacedNonnegative, line));
+        }
+    }
+    Ok(())
+}
+
+fn is_given(line: Option<u64>) -> bool
+    ensures { result ≡ is_given line }
+{
+    line.is_some()
+}
+
 #[tactic(auto, unfolding(crate::specs::Reading::reading))]
 fn parts_of(alloc: Global, text: &[u8]) -> Result<Parts, ParseStop>
     ensures reads { Parses (polyhedron text.now) result (reading text.now) }
@@ -62,13 +81,31 @@ fn parts_of(alloc: Global, text: &[u8]) -> Result<Parts, ParseStop>
     let rows = extent.count / width;
     let linear = linear_marks(alloc, rows, Lines::new(text))?;
     check_some_row(head.kind, rows, extent.end_line)?;
+    let given = nonnegative_line_of(Lines::new(text));
+    check_nonnegative(head.kind, given)?;
     let cells = table(alloc, head.kind, header, &linear, last)?;
     Ok(Parts {
         kind: head.kind,
         width,
         cells,
         linear,
+        nonnegative: is_given(given),
     })
+}
+
+// The polyhedron of these parts and a text.
+fn made_of(parts: Parts, text: Vec<u8>) -> Poly
+    requires { IsShaped most_file_rows (length parts.linear.items) parts.width parts.cells.items }
+    ensures { result ≡ polyhedron text.items parts }
+{
+    let poly = Poly::new(
+        parts.kind,
+        parts.width as u32,
+        parts.cells,
+        parts.linear,
+        text,
+    );
+    poly.with_nonnegative(parts.nonnegative)
 }
 
 /// The polyhedron of a text, or the first thing that is wrong with it. Besides the polyhedron, with
@@ -80,13 +117,7 @@ pub fn poly_of(alloc: Global, text: &[u8]) -> Result<Poly, ParseStop>
 {
     let parts = parts_of(alloc, text)?;
     let copy = Vec::from_slice(alloc, text)?;
-    Ok(Poly::new(
-        parts.kind,
-        parts.width as u32,
-        parts.cells,
-        parts.linear,
-        copy,
-    ))
+    Ok(made_of(parts, copy))
 }
 
 /// The polyhedron of a text that it keeps, or the first thing that is wrong with it.
@@ -96,11 +127,5 @@ pub fn poly_with(alloc: Global, text: Vec<u8>) -> Result<Poly, ParseStop>
     ensures own_text { IfOk result IsOfItsText }
 {
     let parts = parts_of(alloc, &text)?;
-    Ok(Poly::new(
-        parts.kind,
-        parts.width as u32,
-        parts.cells,
-        parts.linear,
-        text,
-    ))
+    Ok(made_of(parts, text))
 }

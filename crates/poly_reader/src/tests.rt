@@ -15,7 +15,8 @@ fn refuses_for_the_first_fault(rt: HostRuntime) {
         ("", NoBegin, 1),
         ("begin\nx 2 integer\n", BadHeader, 2),
         ("begin\n4097 2 integer\n", TooManyRows, 2),
-        ("begin\n1 257 integer\n", BadWidth, 2),
+        ("begin\n1 513 integer\n", BadWidth, 2),
+        ("begin\n1 257 integer\n", NoEnd, 3),
         ("begin\n1 2 real\n 1 1\nend\n", UnsupportedType, 2),
         ("begin\n1 2 integer\n 1 x\nend\n", BadNumber, 3),
         ("begin\n1 2 integer\n 1 2 3\nend\n", LongData, 3),
@@ -43,9 +44,19 @@ fn refuses_for_the_first_fault(rt: HostRuntime) {
             5,
         ),
         (
-            "nonnegative\nbegin\n1 2 integer\n 1 2\nend\n",
-            Nonnegative,
-            1,
+            "V-representation\nnonnegative\nbegin\n1 2 integer\n 1 0\nend\n",
+            MisplacedNonnegative,
+            2,
+        ),
+        (
+            "begin\n1 2 integer\n 1 2\nend\nnonnegative\n",
+            MisplacedNonnegative,
+            5,
+        ),
+        (
+            "nonnegative\nlinearity 1 3\nbegin\n2 3 integer\n 1 -1 0\n 1 0 -1\nend\n",
+            BadLinearity,
+            2,
         ),
         ("V-representation\nbegin\n0 2 integer\nend\n", NoRows, 4),
         (
@@ -86,6 +97,7 @@ struct Accepted {
     n: u32,
     entries: &'static [i128],
     linear: &'static [bool],
+    nonnegative: bool,
 }
 
 #[test]
@@ -98,6 +110,7 @@ fn gives_the_rows(rt: HostRuntime) -> Result<(), Fail> {
             n: 2,
             entries: &[1, -2, 0, 1],
             linear: &[false, true],
+            nonnegative: false,
         },
         Accepted {
             text: "begin\n1 2 integer\n 1 170141183460469231731687303715884105727\nend",
@@ -105,6 +118,7 @@ fn gives_the_rows(rt: HostRuntime) -> Result<(), Fail> {
             n: 2,
             entries: &[1, 170141183460469231731687303715884105727],
             linear: &[false],
+            nonnegative: false,
         },
         Accepted {
             text: "V-representation\nbegin\n***** 2 integer\n 3/3 1/6 0 -4 end of the numbers\n",
@@ -112,6 +126,7 @@ fn gives_the_rows(rt: HostRuntime) -> Result<(), Fail> {
             n: 2,
             entries: &[6, 1, 0, -1],
             linear: &[false, false],
+            nonnegative: false,
         },
         Accepted {
             text: "V-representation\nlinearity 1 3 2\nlinearity 2 1 3\nH-representation\n\
@@ -120,6 +135,15 @@ fn gives_the_rows(rt: HostRuntime) -> Result<(), Fail> {
             n: 1,
             entries: &[0, -1, 1],
             linear: &[true, false, true],
+            nonnegative: false,
+        },
+        Accepted {
+            text: "V-representation\nnonnegative\nH-representation\nnonnegative 1\nlinearity 1 1\nbegin\n1 2 integer\n 1 -1\nend\n",
+            kind: Kind::H,
+            n: 2,
+            entries: &[1, -1],
+            linear: &[true],
+            nonnegative: true,
         },
         Accepted {
             text: "begin\n0 3 integer\nend\n",
@@ -127,6 +151,7 @@ fn gives_the_rows(rt: HostRuntime) -> Result<(), Fail> {
             n: 3,
             entries: &[],
             linear: &[],
+            nonnegative: false,
         },
     ] {
         let poly = poly_of(alloc, row.text.as_bytes())?;
@@ -136,6 +161,7 @@ fn gives_the_rows(rt: HostRuntime) -> Result<(), Fail> {
             n: row.n,
             entries: Vec::from_slice(alloc, row.entries)?,
             linear: Vec::from_slice(alloc, row.linear)?,
+            nonnegative: row.nonnegative,
             text: Vec::from_slice(alloc, row.text.as_bytes())?,
         };
         assert_eq!(rt; found, want, "{}", row.text);
@@ -150,6 +176,7 @@ struct Contents {
     n: u32,
     entries: Vec<i128>,
     linear: Vec<bool>,
+    nonnegative: bool,
     text: Vec<u8>,
 }
 
@@ -159,6 +186,7 @@ fn contents_of(alloc: Global, poly: &Poly) -> Result<Contents, Fail> {
         n: poly.n(),
         entries: entries_of(alloc, poly)?,
         linear: marks_of(alloc, poly)?,
+        nonnegative: poly.nonnegative(),
         text: Vec::from_slice(alloc, poly.text())?,
     })
 }
@@ -212,6 +240,7 @@ fn reads_sources(rt: HostRuntime) -> Result<(), Fail> {
         n: 2,
         entries: Vec::from_slice(alloc, &[1, 2])?,
         linear: Vec::from_slice(alloc, &[false])?,
+        nonnegative: false,
         text: Vec::from_slice(alloc, row)?,
     };
     let too_long = BadFile {

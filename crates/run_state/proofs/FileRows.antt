@@ -1,6 +1,6 @@
 -- A file that was read has few rows, so that the labels of the rows of its cone are below those of coordinates.
-use Rattle.std.proofs.Common.{arith, ◌≡◌, ◌≢◌, ◌≤◌, ◌+◌, ◌*◌, ◌/◌, ℕ, suc, Bool, List, [], ◌∷◌, length, refl, sym, ap, ◌∙◌, subst, inl, inr, Option, Some, None, Result, Ok, Err}
-use Rattle.std.specs.Prelude.{◌==◌, drop, codes}
+use Rattle.std.proofs.Common.{arith, ◌≡◌, ◌≢◌, ◌≤◌, ◌+◌, ◌*◌, ◌/◌, ℕ, suc, Bool, List, [], ◌∷◌, length, refl, sym, ap, ◌∙◌, subst, inl, inr, Option, Some, None, Result, Ok}
+use Rattle.std.specs.Prelude.{◌==◌, ◌-◌, true, false, drop, codes}
 use Rattle.std.specs.List.{list_any}
 use Rattle.std.proofs.Math.Nat.{div-le_of_le-mul, mul-le-mul_left, mul_comm}
 use Rattle.std.proofs.lemmas.Bool.{cases_Bool, cases_lt, eqb-false, le-ltb, lt-ltb}
@@ -9,25 +9,20 @@ use Rattle.std.proofs.lemmas.List.FromFn.{length-map-range_with_len}
 use Rattle.poly_model.specs.declared.kind.Kind.{Kind}
 use Rattle.poly_model.specs.declared.kind.Kind.TheVariants.{H, V}
 use Rattle.poly_model.specs.Labels.{IsRow}
-use Rattle.poly_model.specs.Limits.{most_file_rows}
-use Rattle.poly_model.specs.Systems.{FileRow, Polyhedron, Row, added_row, cone_of, cone_row, file_rows, is_point_row}
+use Rattle.poly_model.specs.Limits.{most_columns, most_file_rows}
+use Rattle.poly_model.specs.Systems.{FileRow, Polyhedron, Row, added_row, all_rows, cone_of, cone_row, file_rows, is_point_row, nonnegative_row, nonnegative_rows, with_nonnegative}
 use Rattle.poly_reader.specs.declared.bad.BadFile.{BadFile}
-use Rattle.poly_reader.specs.declared.bad.BadKind.TheVariants.{BadHeader, ShortData, TooManyRows}
+use Rattle.poly_reader.specs.declared.bad.BadKind.TheVariants.{BadHeader, BadWidth, ShortData, TooManyRows}
 use Rattle.poly_reader.specs.FirstFault.{◌>>=◌, bad, each, or_bad}
 use Rattle.plain_text.specs.Digits.{count_of}
-use Rattle.poly_reader.specs.Head.{Name, head_of, names_of, opening_of}
-use Rattle.poly_reader.specs.Header.{Size, next_and, rows_announced, rows_within, size_of, type_fault, width_of}
+use Rattle.poly_reader.specs.Head.{Name, head_of, names_of, opening_of, nonnegative_line_of}
+use Rattle.poly_reader.specs.Header.{Size, next_and, rows_announced, rows_within, size_of, type_fault, width_of, width_within}
 use Rattle.poly_reader.specs.Lines.{Word, firsts, is_word, last_line, lines_of}
 use Rattle.poly_reader.specs.Marks.{checked_marks, is_named, marks_of, name_fault}
 use Rattle.poly_reader.specs.Matrix.{Matrix, ended, excess, is_enough, late_fault, matrix_of, most, number_of, number_on}
-use Rattle.poly_reader.specs.Reading.{IsOfItsText, empty_fault, length_fault, reading}
+use Rattle.poly_reader.specs.Reading.{IsOfItsText, empty_fault, is_given, length_fault, reading, nonnegative_fault}
 use Rattle.poly_reader.specs.Rows.{checked_row, line_of_first, numbers_in, rows_from}
-
--- what ends well went well at each of its lines
-ok_then : {A B : Type 0} (r : Result A BadFile) (f : A → Result B BadFile) (y : B) → (r >>= f) ≡ Ok y →
-    (x : A) × (r ≡ Ok x) × (f x ≡ Ok y)
-ok_then (Ok x) f y e = (x, refl, e)
-ok_then (Err b) f y e = absurd cc
+use Rattle.poly_reader.proofs.EachLemmas.{ok_then}
 
 one_value : {A : Type 0} (r : Result A BadFile) (x y : A) → r ≡ Ok x → r ≡ Ok y → x ≡ y
 one_value r x y e f = cc
@@ -70,6 +65,37 @@ few_in_header last words size e =
     let done = ok_then (type_fault third.0) _ size third.3 in
     let same : record { rows = rows.0; width = width.0; words = third.1 } ≡ size = one_value (Ok size) _ _ (sym done.2) refl in
     subst AreFew (ap (λ (z : Size). z.rows) same) (few_announced first.0 rows.0 rows.1)
+
+-- ---- the width
+narrow_within : (line n width : ℕ) → width_within line n ≡ Ok width → width ≤ most_columns
+narrow_within line n width e = elim (cases_Bool (n == 0)) [
+  | inl z ↦ absurd (let q : width_within line n ≡ bad BadWidth line = rw z refl in cc)
+  | inr z ↦ elim (cases_lt most_columns n) [
+    | inl lt ↦ absurd (let q : width_within line n ≡ bad BadWidth line = rw (z, lt-ltb most_columns n lt) refl in cc)
+    | inr le ↦
+        let q : width_within line n ≡ Ok n = rw (z, le-ltb most_columns n le) refl in
+        let same : n ≡ width = cc in
+        subst (λ (k : ℕ). k ≤ most_columns) same le
+  ]
+]
+
+narrow_width : (w : Word) (width : ℕ) → width_of w ≡ Ok width → width ≤ most_columns
+unfolding width_of
+narrow_width w width e =
+    let n = ok_then (or_bad BadHeader w.line (count_of w.text)) (width_within w.line) width e in
+    narrow_within w.line n.0 width n.2
+
+narrow_in_header : (last : ℕ) (words : List Word) (size : Size) → size_of last words ≡ Ok size → size.width ≤ most_columns
+unfolding size_of
+narrow_in_header last words size e =
+    let first = next_then last words _ size e in
+    let rows = ok_then (rows_announced first.0) _ size first.3 in
+    let second = next_then last first.1 _ size rows.2 in
+    let width = ok_then (width_of second.0) _ size second.3 in
+    let third = next_then last second.1 _ size width.2 in
+    let done = ok_then (type_fault third.0) _ size third.3 in
+    let same : record { rows = rows.0; width = width.0; words = third.1 } ≡ size = one_value (Ok size) _ _ (sym done.2) refl in
+    subst (λ (n : ℕ). n ≤ most_columns) (ap (λ (z : Size). z.width) same) (narrow_width second.0 width.0 width.1)
 
 -- ---- the numbers
 within : (rows : Option ℕ) (n : ℕ) → AreFew rows → most rows n ≤ n * most_file_rows
@@ -121,9 +147,14 @@ as_many_rows last kind n (mark ∷ marks) words rows e =
     ap length (sym same) ∙ ap suc (as_many_rows last kind n marks (drop n words) others.0 others.1)
 
 -- ---- a file
-pub few_file_rows : (p : Polyhedron) → IsOfItsText p → length p.rows ≤ most_file_rows
+-- so many rows and columns at most
+record IsSmall (p : Polyhedron) : Type 0 where
+  rows : length p.rows ≤ most_file_rows
+  columns : p.n ≤ most_columns
+
+small_file : (p : Polyhedron) → IsOfItsText p → IsSmall p
 unfolding reading
-few_file_rows p h =
+small_file p h =
     let short = ok_then (length_fault (length p.text)) _ p h in
     let opening = ok_then (opening_of (last_line p.text) (lines_of p.text)) _ p short.2 in
     let size = ok_then (size_of (last_line p.text) opening.0.words) _ p opening.2 in
@@ -131,8 +162,11 @@ few_file_rows p h =
     let late = ok_then (each late_fault (firsts matrix.0.end_line matrix.0.words)) _ p matrix.2 in
     let marks = ok_then (checked_marks (matrix.0.count / size.0.width) (names_of (head_of (lines_of p.text)))) _ p late.2 in
     let some = ok_then (empty_fault opening.0.kind (matrix.0.count / size.0.width) matrix.0.end_line) _ p marks.2 in
-    let rows = ok_then (rows_from (last_line p.text) opening.0.kind size.0.width marks.0 size.0.words) _ p some.2 in
-    let same : record { kind = opening.0.kind; n = size.0.width; rows = rows.0; text = p.text } ≡ p = one_value (Ok p) _ _ (sym rows.2) refl in
+    let given = nonnegative_line_of (head_of (lines_of p.text)) in
+    let placed = ok_then (nonnegative_fault opening.0.kind given) _ p some.2 in
+    let rows = ok_then (rows_from (last_line p.text) opening.0.kind size.0.width marks.0 size.0.words) _ p placed.2 in
+    let same : record { kind = opening.0.kind; n = size.0.width; rows = rows.0; nonnegative = is_given given; text = p.text } ≡ p =
+    one_value (Ok p) _ _ (sym rows.2) refl in
     let count : length p.rows ≡ matrix.0.count / size.0.width =
     ap (λ (z : Polyhedron). length z.rows) (sym same)
     ∙ as_many_rows (last_line p.text) opening.0.kind size.0.width marks.0 size.0.words rows.0 rows.1
@@ -140,7 +174,11 @@ few_file_rows p h =
     let numbers = few_numbers (last_line p.text) size.0.rows size.0.width 0 size.0.words matrix.0 (omega arith) matrix.1 in
     let most = within size.0.rows size.0.width (few_in_header (last_line p.text) opening.0.words size.0 size.1) in
     let few : matrix.0.count / size.0.width ≤ most_file_rows = div-le_of_le-mul size.0.width (omega (arith, numbers, most)) in
-    omega (arith, count, few)
+    record {
+      rows = omega (arith, count, few);
+      columns = subst (λ (n : ℕ). n ≤ most_columns) (ap (λ (z : Polyhedron). z.n) same)
+          (narrow_in_header (last_line p.text) opening.0.words size.0 size.1);
+    }
 
 few_added : (kind : Kind) (n : ℕ) (rows : List Row) → length (added_row kind n rows) ≤ 1
 few_added H n rows = omega arith
@@ -149,12 +187,22 @@ few_added V n rows = elim (cases_Bool (list_any is_point_row rows)) [
   | inr f ↦ rw f (omega arith)
 ]
 
+few_nonnegative : (kind : Kind) (nonnegative : Bool) (n : ℕ) (rows : List FileRow) →
+    length (with_nonnegative kind nonnegative n rows) ≤ length rows + n
+few_nonnegative H true n rows =
+    omega (arith, length-append rows (nonnegative_rows n), length-map-range_with_len (nonnegative_row n) 1 (n - 1))
+few_nonnegative H false n rows = omega arith
+few_nonnegative V nonnegative n rows = omega arith
+
 pub few_rows : (p : Polyhedron) → IsOfItsText p → IsRow (length (cone_of p).rows)
 few_rows p h =
+    let small = small_file p h in
     omega (
       arith,
-      few_file_rows p h,
+      small.rows,
+      small.columns,
+      few_nonnegative p.kind p.nonnegative p.n p.rows,
       few_added p.kind p.n (file_rows p),
       length-append (file_rows p) (added_row p.kind p.n (file_rows p)),
-      length-map p.rows (cone_row p.kind),
+      length-map (all_rows p) (cone_row p.kind),
     )

@@ -17,7 +17,7 @@ come_first most from c d l h = record {
 }
 
 module _ (most from i : ℕ) (c d : Count) (h : HasCome most from i c d) where
-  pub come_past : i + 1 ≤ from + 4098 → HasCome most from (i + 1) c d
+  pub come_past : i + 1 ≤ from + 4609 → HasCome most from (i + 1) c d
   come_past l = record {
     some = h.some;
     within = h.within;
@@ -27,7 +27,7 @@ module _ (most from i : ℕ) (c d : Count) (h : HasCome most from i c d) where
     few = l;
   }
 
-  pub come_on : (e : Count) → ComesOn most d e → i + 1 ≤ from + 4098 → HasCome most from (i + 1) c e
+  pub come_on : (e : Count) → ComesOn most d e → i + 1 ≤ from + 4609 → HasCome most from (i + 1) c e
   come_on e o l = record {
     some = omega (arith, h.some, o.on);
     within = o.within;

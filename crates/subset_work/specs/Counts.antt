@@ -48,7 +48,7 @@ pub record HasCome (most from i : ℕ) (c d : Count) : Type 0 where
   pub rows : d.rows + c.bases ≤ c.rows + d.bases
   pub jobs : d.jobs + most_keys * c.bases + most_keys + from ≤ c.jobs + most_keys * d.bases + i
   pub far : from ≤ i
-  pub few : i ≤ from + 4098
+  pub few : i ≤ from + 4609
 
 -- some bases were visited, or one key was given back
 pub record ComesOn (most : ℕ) (c d : Count) : Type 0 where

@@ -1,5 +1,5 @@
 -- What stands before the rows is read: the kind, the rows that are linear, and how wide a row is.
-use Rattle.std.proofs.Common.{◌≡◌, ◌<◌, ◌≤◌, ◌+◌, ◌^◌, ℕ, zero, suc, false, List, [], ◌∷◌, ◌++◌, None, Ok, refl, ap, ◌∙◌, arith, append-nil}
+use Rattle.std.proofs.Common.{◌≡◌, ◌<◌, ◌≤◌, ◌+◌, ◌^◌, ℕ, zero, suc, false, List, [], ◌∷◌, ◌++◌, None, Ok, refl, sym, ap, ◌∙◌, arith, append-nil}
 use Rattle.std.specs.Prelude.{◌==◌, nat_lt, codes}
 use Rattle.std.specs.Fmt.{decimal}
 use Rattle.std.proofs.lemmas.Bool.{ne_eqb, le-ltb}
@@ -8,10 +8,11 @@ use Rattle.poly_model.specs.declared.kind.Kind.TheVariants.{H, V}
 use Rattle.poly_model.specs.Limits.{most_columns}
 use Rattle.poly_model.specs.Systems.{FileRow}
 use Rattle.poly_reader.specs.Lines.{Word, Line, joined}
-use Rattle.poly_reader.specs.Head.{Name, begins, head_of, line_fault, kind_after, names_on, names_of, opening_of}
+use Rattle.poly_reader.specs.Head.{Name, begins, head_of, line_fault, kind_after, names_on, names_of, nonnegative_line, nonnegative_line_of, opening_of}
 use Rattle.poly_reader.specs.Header.{rows_announced, width_of, type_fault, size_of}
 use Rattle.poly_reader.proofs.HeadLemmas.{IsAt, starts, goes_on, begun}
 use Rattle.poly_reader.proofs.MarkLemmas.{at_begin, one_line}
+use Rattle.poly_reader.proofs.NonnegativeLemmas as nonnegative
 use Rattle.text_laws.specs.Listed.{other_kind}
 use Rattle.plain_text.proofs.Decimals.{decimal_is, count_is, count_of_is}
 use Rattle.text_laws.proofs.PlainWords.{numbered, numbered_lines}
@@ -122,6 +123,35 @@ names_are_read kind n (suc k) rows lt =
     ∙ ap (λ (l : List Name). names_on (linearity (suc k)) ++ l) (body_names 3 kind n rows) in
     one_line (title kind ∷ front) front (title kind) refl (title_begins kind)
     ∙ rw (title_names kind, second, linearity_names (suc k) lt) (append-nil (row_names 2 1 (suc k)))
+
+-- ---- no line `nonnegative`
+
+title_not_nonnegative : (kind : Kind) → nonnegative_line (title kind) ≡ None
+unfolding nonnegative_line
+title_not_nonnegative H = refl
+title_not_nonnegative V = refl
+
+linearity_not_nonnegative : (k : ℕ) → nonnegative_line (linearity k) ≡ None
+unfolding nonnegative_line
+linearity_not_nonnegative k = refl
+
+body_not_nonnegative : (number : ℕ) (kind : Kind) (n : ℕ) (rows : List FileRow)
+    → nonnegative_line_of (head_of (body number kind n rows)) ≡ None
+body_not_nonnegative number kind n rows =
+    nonnegative.at_begin (body number kind n rows) (numbered_lines (number + 1) (size_words n ∷ matrix_lines kind rows))
+    (numbered number (codes "begin" ∷ [])) refl refl
+
+pub nothing_nonnegative : (kind : Kind) (n k : ℕ) (rows : List FileRow)
+    → nonnegative_line_of (head_of (numbered_lines 1 (listing_words kind n k rows))) ≡ None
+nothing_nonnegative kind n zero rows =
+    sym (nonnegative.goes_on (title kind ∷ body 2 kind n rows) (body 2 kind n rows) (title kind) refl (title_begins kind)
+    (title_not_nonnegative kind))
+    ∙ body_not_nonnegative 2 kind n rows
+nothing_nonnegative kind n (suc k) rows =
+    let front = linearity (suc k) ∷ body 3 kind n rows in
+    sym (nonnegative.goes_on (title kind ∷ front) front (title kind) refl (title_begins kind) (title_not_nonnegative kind))
+    ∙ sym (nonnegative.goes_on front (body 3 kind n rows) (linearity (suc k)) refl refl (linearity_not_nonnegative (suc k)))
+    ∙ body_not_nonnegative 3 kind n rows
 
 -- ---- the width
 

@@ -15,7 +15,7 @@ use Rattle.poly_reader.specs.declared.bad.BadKind.TheVariants.{BadFirst, LinearP
 use Rattle.poly_reader.specs.Lines.{pieces, lines_from, firsts}
 use Rattle.plain_text.specs.Digits.{value_of, count_of}
 use Rattle.poly_reader.specs.FirstFault.{bad, each}
-use Rattle.poly_reader.specs.Head.{head_of, body_of, are_counts, line_fault, names_on, opening_of}
+use Rattle.poly_reader.specs.Head.{head_of, body_of, are_counts, line_fault, names_on, nonnegative_line, nonnegative_line_of, opening_of}
 use Rattle.poly_reader.specs.Header.{rows_announced, width_of, type_fault, size_of}
 use Rattle.poly_reader.specs.Matrix.{number_of, matrix_of, late_fault}
 use Rattle.poly_reader.specs.Marks.{name_fault, checked_marks, with_names}
@@ -50,9 +50,9 @@ strip_rows =
     ∷ record { entries = pos 1 ∷ pos 0 ∷ pos 0 ∷ []; linear = false }
     ∷ record { entries = pos 2 ∷ pos 0 ∷ pos 3 ∷ []; linear = false } ∷ []
 
-strip_read : reading strip_text ≡ Ok (record { kind = V; n = 3; rows = strip_rows; text = strip_text })
+strip_read : reading strip_text ≡ Ok (record { kind = V; n = 3; rows = strip_rows; nonnegative = false; text = strip_text })
 unfolding strip_text strip_rows reading checked_marks lines_from pieces firsts each head_of body_of are_counts
-    line_fault names_on opening_of rows_announced width_of type_fault size_of matrix_of late_fault number_of
+    line_fault names_on nonnegative_line nonnegative_line_of opening_of rows_announced width_of type_fault size_of matrix_of late_fault number_of
     name_fault with_names value_of count_of numbers_in first_fault row_fault checked_row rows_from gcd_in gcd_of
     lcm_of lowest common_den scaled_entries is_wide_row
 strip_read = refl
@@ -107,9 +107,9 @@ segment_rows =
     ∷ record { entries = pos 0 ∷ pos 1 ∷ pos 0 ∷ []; linear = false }
     ∷ record { entries = pos 20 ∷ negsuc 2 ∷ pos 0 ∷ []; linear = false } ∷ []
 
-segment_read : reading segment_text ≡ Ok (record { kind = H; n = 3; rows = segment_rows; text = segment_text })
+segment_read : reading segment_text ≡ Ok (record { kind = H; n = 3; rows = segment_rows; nonnegative = false; text = segment_text })
 unfolding segment_text segment_rows reading checked_marks lines_from pieces firsts each head_of body_of are_counts
-    line_fault names_on opening_of rows_announced width_of type_fault size_of matrix_of late_fault number_of
+    line_fault names_on nonnegative_line nonnegative_line_of opening_of rows_announced width_of type_fault size_of matrix_of late_fault number_of
     name_fault with_names value_of count_of numbers_in first_fault row_fault checked_row rows_from gcd_in gcd_of
     lcm_of lowest common_den scaled_entries is_wide_row
 segment_read = refl
@@ -119,7 +119,7 @@ segment_read = refl
 -- a listing of an H file without a row
 nothing_listed : reading (listing_text H 2 [] []) ≡ bad NoRows 4
 unfolding title_text number_text numbers_text linearity_text size_text head_text end_text digits reading checked_marks
-    lines_from pieces firsts each head_of body_of are_counts line_fault names_on opening_of rows_announced width_of
+    lines_from pieces firsts each head_of body_of are_counts line_fault names_on nonnegative_line nonnegative_line_of opening_of rows_announced width_of
     type_fault size_of matrix_of late_fault number_of name_fault with_names value_of count_of numbers_in first_fault
     row_fault checked_row rows_from gcd_in gcd_of lcm_of lowest common_den scaled_entries is_wide_row
 nothing_listed = refl
@@ -127,7 +127,7 @@ nothing_listed = refl
 -- a line of an H file that begins with 1
 line_with_one : reading (listing_text H 2 ((pos 1 ∷ pos 3 ∷ []) ∷ []) []) ≡ bad LinearPoint 5
 unfolding title_text number_text numbers_text linearity_text size_text head_text entry_text entries_text vector_text
-    end_text digits reading checked_marks lines_from pieces firsts each head_of body_of are_counts line_fault names_on
+    end_text digits reading checked_marks lines_from pieces firsts each head_of body_of are_counts line_fault names_on nonnegative_line nonnegative_line_of
     opening_of rows_announced width_of type_fault size_of matrix_of late_fault number_of name_fault with_names
     value_of count_of numbers_in first_fault row_fault checked_row rows_from gcd_in gcd_of lcm_of lowest common_den
     scaled_entries is_wide_row
@@ -137,7 +137,7 @@ line_with_one = refl
 negative_first : reading (listing_text H 2 [] ((negsuc 0 ∷ pos 3 ∷ []) ∷ [])) ≡ bad BadFirst 4
 unfolding title_text number_text numbers_text linearity_text size_text head_text entry_text entries_text vector_text
     is_point row_text end_text digits reading checked_marks lines_from pieces firsts each head_of body_of are_counts
-    line_fault names_on opening_of rows_announced width_of type_fault size_of matrix_of late_fault number_of
+    line_fault names_on nonnegative_line nonnegative_line_of opening_of rows_announced width_of type_fault size_of matrix_of late_fault number_of
     name_fault with_names value_of count_of numbers_in first_fault row_fault checked_row rows_from gcd_in gcd_of
     lcm_of lowest common_den scaled_entries is_wide_row
 negative_first = refl
@@ -150,10 +150,10 @@ halved : List FileRow
 halved = record { entries = pos 1 ∷ pos 2 ∷ []; linear = false } ∷ []
 
 divided : reading (listing_text V 2 [] doubled)
-    ≡ Ok (record { kind = H; n = 2; rows = halved; text = listing_text V 2 [] doubled })
+    ≡ Ok (record { kind = H; n = 2; rows = halved; nonnegative = false; text = listing_text V 2 [] doubled })
 unfolding doubled halved title_text number_text numbers_text linearity_text size_text head_text entry_text
     entries_text vector_text row_text end_text digits reading checked_marks lines_from pieces firsts each head_of
-    body_of are_counts line_fault names_on opening_of rows_announced width_of type_fault size_of matrix_of late_fault
+    body_of are_counts line_fault names_on nonnegative_line nonnegative_line_of opening_of rows_announced width_of type_fault size_of matrix_of late_fault
     number_of name_fault with_names value_of count_of numbers_in first_fault row_fault checked_row rows_from gcd_in
     gcd_of lcm_of lowest common_den scaled_entries is_wide_row
 divided = refl

@@ -1,5 +1,5 @@
 -- The text of a listing is read back as its polyhedron, step by step.
-use Rattle.std.proofs.Common.{◌≡◌, ◌≤◌, ◌+◌, ◌*◌, ◌/◌, ℕ, Bool, List, [], ◌∷◌, ◌++◌, None, Ok, length, map, refl, sym, ap, subst, ◌∙◌, arith}
+use Rattle.std.proofs.Common.{◌≡◌, ◌≤◌, ◌+◌, ◌*◌, ◌/◌, ℕ, Bool, false, List, [], ◌∷◌, ◌++◌, None, Ok, length, map, refl, sym, ap, subst, ◌∙◌, arith}
 use Rattle.std.specs.List.{AllByRecursion}
 use Rattle.std.proofs.lemmas.Bool.{ne_eqb, le-ltb}
 use Rattle.std.proofs.lemmas.List.{length-map}
@@ -14,7 +14,7 @@ use Rattle.poly_model.specs.Systems.{FileRow}
 use Rattle.poly_reader.specs.Limits.{most_file_bytes}
 use Rattle.poly_reader.specs.Lines.{Word, lines_of, last_line, firsts}
 use Rattle.poly_reader.specs.FirstFault.{each}
-use Rattle.poly_reader.specs.Head.{head_of, names_of, opening_of}
+use Rattle.poly_reader.specs.Head.{head_of, names_of, nonnegative_line_of, opening_of}
 use Rattle.poly_reader.specs.Header.{size_of}
 use Rattle.poly_reader.specs.Matrix.{matrix_of}
 use Rattle.poly_reader.specs.Marks.{checked_marks}
@@ -26,7 +26,7 @@ use Rattle.text_laws.proofs.ReadRows.{IsReadRow, line_is_read, row_is_read}
 use Rattle.text_laws.proofs.MatrixRead.{matrix_words, rows_read, matrix_read}
 use Rattle.text_laws.proofs.NamedRows.{marks_read}
 use Rattle.text_laws.proofs.ListingLines.{listing_lines, listing_words, listing_ended, listing_lines_are}
-use Rattle.text_laws.proofs.HeadRead.{size_line_of, body_words, opening_read, names_are_read, size_read}
+use Rattle.text_laws.proofs.HeadRead.{size_line_of, body_words, opening_read, names_are_read, nothing_nonnegative, size_read}
 
 -- ---- the steps of a reading
 
@@ -43,13 +43,14 @@ record ReadsAs (text : List ℕ) (kind : Kind) (n m : ℕ) (rows : List FileRow)
   quotient : m * n / n ≡ m
   checked : checked_marks m (names_of (head_of (lines_of text))) ≡ Ok marks
   some : empty_fault kind m line ≡ Ok tt
+  nothing_nonnegative : nonnegative_line_of (head_of (lines_of text)) ≡ None
   read : rows_from (last_line text) kind n marks matrix ≡ Ok rows
 
 reading_is : (text : List ℕ) (kind : Kind) (n m : ℕ) (rows : List FileRow) → ReadsAs text kind n m rows
-    → reading text ≡ Ok (record { kind = kind; n = n; rows = rows; text = text })
+    → reading text ≡ Ok (record { kind = kind; n = n; rows = rows; nonnegative = false; text = text })
 unfolding reading firsts each
 reading_is text kind n m rows h =
-    rw (h.short, h.opening, h.size, h.counted, h.quotient, h.checked, h.some, h.read) refl
+    rw (h.short, h.opening, h.size, h.counted, h.quotient, h.checked, h.some, h.nothing_nonnegative, h.read) refl
 
 -- ---- the rows of a listing
 
@@ -99,6 +100,7 @@ rows_are_read_back kind n lines shown w r =
           rw (these, names_are_read kind n k rows (omega (arith, w.rows)))
           (marks_read m 2 lines shown refl (omega (arith, how_many lines shown)));
       some = enough kind m (size_line_of k + 1 + m) (subst (HasEnough kind) (sym (how_many lines shown)) r.enough);
+      nothing_nonnegative = rw these (nothing_nonnegative kind n k rows);
       read = rows_read (last_line text) (size_line_of k + 1) n kind rows read;
     })
   where

@@ -34,6 +34,7 @@ listed_polyhedron kind n lines shown = record {
   kind = other_kind kind;
   n = n;
   rows = listed_rows lines shown;
+  nonnegative = false;
   text = listing_text kind n lines shown;
 }
 

@@ -8,7 +8,7 @@ use Rattle.poly_num.proofs.VectorLemmas.{dot_comm}
 use Rattle.poly_num.proofs.Order.{positive_nonzero}
 use Rattle.poly_model.specs.declared.kind.Kind.{Kind}
 use Rattle.poly_model.specs.declared.kind.Kind.TheVariants.{H, V}
-use Rattle.poly_model.specs.Systems.{FileRow, Row, Polyhedron, first_unit, starts_positive, cone_row, is_point_row, added_row, cone_of}
+use Rattle.poly_model.specs.Systems.{FileRow, Row, Polyhedron, first_unit, starts_positive, cone_row, is_point_row, added_row, all_rows, cone_of}
 use Rattle.poly_model.specs.Cones.{at}
 use Rattle.poly_model.specs.Extreme.{TouchesPoint, IsShown}
 use Rattle.linear_laws.proofs.Members.{all_at}
@@ -52,7 +52,7 @@ module _ (p : Polyhedron) where
   not_touched : p.kind ≡ V → TouchesPoint (cone_of p) (first_unit p.n) → ⊥
   not_touched e t =
       positive_nonzero (at 0 t.row.entries)
-      (all_at IsMarked (cone_of p).rows (cone_is_marked p.kind p.n p.rows e) t.row t.within t.point)
+      (all_at IsMarked (cone_of p).rows (cone_is_marked p.kind p.n (all_rows p) e) t.row t.within t.point)
       (sym (first_unit_reads p.n t.row.entries) ∙ dot_comm (first_unit p.n) t.row.entries ∙ t.tight)
 
   pub first_unit_is_not_shown : p.kind ≡ V → IsShown p.kind (cone_of p) (first_unit p.n) → ⊥

@@ -1,5 +1,6 @@
 use Rattle.std.proofs.Common.{◌≡◌, true, false, arith, ap, sym, ◌∙◌}
 use Rattle.std.specs.List.{list_any}
+use Rattle.poly_model.specs.Systems.{all_rows}
 use Rattle.poly_model.specs.Tables.{is_point_kind}
 use Rattle.hull_lift.specs.Cells.{row_kinds}
 use Rattle.hull_lift.proofs.CellLemmas.{cone_with_point, cone_without_point, full_cells, full_with_added}
@@ -10,7 +11,7 @@ new-requires-clause-shape c =
     let p = c.args.poly.now in
     record {
       full = rw (c.n-n.ensures.value, c.in_ok-cells.ensures.value, c.in_ok-linear.ensures.value)
-          (full_cells p.n p.rows c.in_ok-cells.ensures.width);
+          (full_cells p.n (all_rows p) c.in_ok-cells.ensures.width);
       few = omega (arith, c.in_ok-linear.ensures.few);
       some = c.n-n.ensures.some;
       narrow = c.n-n.ensures.narrow;
@@ -19,7 +20,7 @@ new-requires-clause-shape c =
 pub returns-then-has_point : goal.returns-then-has_point
 returns-then-has_point c =
     let p = c.args.poly.now in
-    let point : list_any is_point_kind (row_kinds p.kind p.rows) ≡ true =
+    let point : list_any is_point_kind (row_kinds p.kind (all_rows p)) ≡ true =
     ap (list_any is_point_kind) (sym (c.deref.ensures.value ∙ c.in_ok-kinds.ensures)) ∙ sym c.has_point.ensures
     ∙ c.if-has_point.true in
     rw (
@@ -43,7 +44,7 @@ new-requires-2-clause-shape c =
         c.in_ok-cells.ensures.value,
         c.in_ok-linear.ensures.value,
       )
-          (full_with_added p.n p.rows (rw c.n-n.ensures.value at c.n-n.ensures.some) c.in_ok-cells.ensures.width);
+          (full_with_added p.n (all_rows p) (rw c.n-n.ensures.value at c.n-n.ensures.some) c.in_ok-cells.ensures.width);
       few = omega (arith, c.in_ok-push.ensures.len, c.in_ok-linear.ensures.few);
       some = c.n-n.ensures.some;
       narrow = c.n-n.ensures.narrow;
@@ -52,7 +53,7 @@ new-requires-2-clause-shape c =
 pub returns : goal.returns
 returns c =
     let p = c.args.poly.now in
-    let none : list_any is_point_kind (row_kinds p.kind p.rows) ≡ false =
+    let none : list_any is_point_kind (row_kinds p.kind (all_rows p)) ≡ false =
     ap (list_any is_point_kind) (sym (c.deref.ensures.value ∙ c.in_ok-kinds.ensures)) ∙ sym c.has_point.ensures
     ∙ c.if-has_point.false in
     rw (

@@ -63,7 +63,7 @@ rows-preserved g t c =
     let so_far = c.args.so_far.now in
     let old = g.S.Sink.written c.args.out.now in
     let row : c.rows.i ≤ length list.sys.now.rows = omega (arith, c.rows-test.true, c.rows-i-end.ensures.value) in
-    let few : c.rows.i + 1 ≤ list.from + 4098 = omega (arith, row, c.rows-i-end.ensures.value, c.rows-i-end.ensures.few) in
+    let few : c.rows.i + 1 ≤ list.from + 4609 = omega (arith, row, c.rows-i-end.ensures.value, c.rows-i-end.ensures.few) in
     let come = c.rows.invariant.come in
     elim c.if-not-is_linear.branch [
       | then-not-is_linear+in-Ok w ↦ record {

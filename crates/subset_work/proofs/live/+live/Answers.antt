@@ -225,7 +225,7 @@ visit_live-rows-preserved g t c =
     let old = g.S.Sink.written c.args.out.now in
     let come = c.rows.invariant.come in
     let row : c.rows.i ≤ length prefix.sys.now.rows = omega (arith, c.rows-test.true, c.rows-i-end.ensures.value) in
-    let few : c.rows.i + 1 ≤ prefix.from + 4098 =
+    let few : c.rows.i + 1 ≤ prefix.from + 4609 =
     omega (arith, c.rows-test.true, c.rows-i-end.ensures.value, c.rows-i-end.ensures.few) in
     elim c.if-not-is_linear.branch [
       | visit_live-then-not-is_linear+in-Ok w ↦ record {

@@ -1,7 +1,7 @@
 use Rattle.std.proofs.Common.{◌≡◌, take}
 use Rattle.std.specs.List.{All}
 use Rattle.hull_lift.specs.Cells.{cells_of, HasWidth}
-use Rattle.hull_lift.proofs.cone.cells_of.Given as goal
+use Rattle.hull_lift.proofs.cone.file_cells.Given as goal
 
 -- the cells of the rows before row i
 abbrev pub invariant-rows : goal.invariant-rows
