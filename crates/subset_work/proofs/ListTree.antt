@@ -4,7 +4,7 @@ use Rattle.std.specs.List.{Contains, range_with_len}
 use Rattle.std.proofs.lemmas.Bool.{cases_lt, not_from_false}
 use Rattle.std.proofs.lemmas.List.{append_cancel_left}
 use Rattle.std.proofs.lemmas.List.Elements.{All-contains, Contains-append_left, Contains-append_right, Contains-append_cases}
-use Rattle.poly_model.specs.Keys.{IsAscending, with_label}
+use Rattle.poly_model.specs.Keys.{IsAscending}
 use Rattle.poly_model.specs.Systems.{Polyhedron, cone_of, row_of}
 use Rattle.linear_laws.proofs.Members.{same_first, Contains-nil, Contains-first, Contains-later, all_at}
 use Rattle.dictionary_laws.proofs.Members.{all_from, contains_cases}
@@ -36,15 +36,6 @@ above_front (x ∷ a) j more h k c =
     (λ (e : k ≡ x). let l = all_at (λ y. x < y) (a ++ j ∷ more) h.0 j (Contains-append_right a (j ∷ more) j (Contains-first j more)) in
     omega (arith, l, e))
     (λ d. above_front a j more h.1 k d) (contains_cases x a k c)
-
-pub with_last : (label : ℕ) (ks : List ℕ) → ((k : ℕ) → Contains ks k → k < label) → with_label label ks ≡ ks ++ label ∷ []
-with_last label [] h = refl
-with_last label (x ∷ ks) h =
-    let l = h x (Contains-first x ks) in
-    with_step label x ks l ∙ ap (λ t. x ∷ t) (with_last label ks (λ k c. h k (Contains-later k x ks c)))
-  where
-    with_step : (label x : ℕ) (ks : List ℕ) → x < label → with_label label (x ∷ ks) ≡ x ∷ with_label label ks
-    with_step label x ks l = grind arith
 
 module _ (p : Polyhedron) where
   abbrev s : Meaning

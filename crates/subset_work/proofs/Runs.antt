@@ -1,7 +1,7 @@
 -- From what a walk under the key of a job has written to a run of the work.
-use Rattle.std.proofs.Common.{◌≡◌, ◌↔◌, ◌⊎◌, inl, inr, ⊎_elim, ap₂, ℕ, ◌+◌, ◌≤◌, ◌<◌, List, [], ◌∷◌, length, length-append, Option, Result, Ok, Err, refl, sym, ap, subst, ◌∙◌, arith}
+use Rattle.std.proofs.Common.{◌≡◌, ◌↔◌, ◌⊎◌, inl, inr, ⊎_elim, ap₂, ℕ, ◌+◌, ◌≤◌, ◌<◌, List, [], ◌∷◌, length, length-append, Option, Some, None, Result, Ok, Err, ok_or, refl, sym, ap, subst, ◌∙◌, arith}
 use Rattle.std.specs.List.{Contains}
-use Rattle.std.specs.Prelude.{IfOk, OnErr, IsErrOf}
+use Rattle.std.specs.Prelude.{IfOk, IfSome, OnErr, IsErrOf}
 use Rattle.std.proofs.lemmas.Bool.{cases_lt}
 use Rattle.std.proofs.lemmas.List.Elements.{All-contains}
 use Rattle.poly_model.specs.declared.kind.WorkKind.TheVariants.{Subsets}
@@ -31,6 +31,24 @@ use Rattle.subset_work.specs.Standing.{IsPlainRow}
 use Rattle.subset_work.specs.Walked.{bound_of, WalksUnder}
 use Rattle.subset_work.proofs.ListTree.{is_plain, plain_label}
 use Rattle.subset_work.proofs.Descents.{left_is_dimension}
+
+-- ---- what a walk answers, where the trail has why it stopped
+pub walks_from : (p : Polyhedron) (key at : List ℕ) (most longest : ℕ) (old new : Option (List ℕ)) (c : Count) (x : Option Count)
+    (stop : WorkStop) (result : Result Count WorkStop) → at ≡ key → result ≡ ok_or x stop →
+    WalksUnder p at most longest old new c (ok_or x stop) → WalksUnder p key most longest old new c result
+walks_from p key at most longest old new c x stop result same is w =
+    subst (λ ks. WalksUnder p ks most longest old new c result) same
+    (subst (λ (r : Result Count WorkStop). WalksUnder p at most longest old new c r) (sym is) w)
+
+counts : (most : ℕ) (c : Count) (x : Option Count) (stop : WorkStop) → IfSome x (CountsOn most c) →
+    IfOk (ok_or x stop) (CountsOn most c)
+counts most c (Some d) stop h = h
+counts most c None stop h = tt
+
+pub counts_from : (most : ℕ) (c : Count) (x : Option Count) (stop : WorkStop) (result : Result Count WorkStop) →
+    result ≡ ok_or x stop → IfSome x (CountsOn most c) → IfOk result (CountsOn most c)
+counts_from most c x stop result is h =
+    subst (λ (r : Result Count WorkStop). IfOk r (CountsOn most c)) (sym is) (counts most c x stop h)
 
 -- the search by subsets of its polyhedron
 abbrev pub subset_search : Polyhedron → Search

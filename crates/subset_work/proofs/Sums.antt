@@ -1,8 +1,6 @@
 -- The numbers of a run, from one list to the next.
-use Rattle.std.proofs.Common.{◌≡◌, ◌+◌, ◌≤◌, ◌<◌, ℕ, Result, Ok, Err, arith}
-use Rattle.std.specs.Prelude.{IfOk}
+use Rattle.std.proofs.Common.{◌≡◌, ◌+◌, ◌≤◌, ◌<◌, ℕ, arith}
 use Rattle.poly_model.specs.declared.listed.Count.{Count}
-use Rattle.work_core.specs.declared.stops.WorkStop.{WorkStop}
 use Rattle.subset_work.specs.declared.progress.Progress.{Progress}
 use Rattle.subset_work.specs.Counts.{MayVisit, MayCome, IsOneBase, CountsOn, ComesOn, HasCome}
 
@@ -60,24 +58,14 @@ may_come so_far len more from i d may h one = record {
 }
 
 -- where the walk does not stop at a list, the list may be visited
-pub may_visit : (so_far : Progress) (len n : ℕ) → MayCome so_far len → n ≡ len →
-    (so_far.count.bases < so_far.most) × (n < so_far.longest) → MayVisit so_far len
-may_visit so_far len n may same on = record {
+pub may_visit : (so_far : Progress) (len : ℕ) → MayCome so_far len →
+    (so_far.count.bases < so_far.most) × (len < so_far.longest) → MayVisit so_far len
+may_visit so_far len may on = record {
   few = may.few;
   some = on.0;
-  near = let l = on.1 in omega (arith, l, same);
+  near = on.1;
   sum = may.sum;
 }
-
-pub on_by_visits : (most : ℕ) (c : Count) (result : Result Count WorkStop) → IfOk result (CountsOn most c) →
-    IfOk result (ComesOn most c)
-on_by_visits most c (Ok d) h = record {
-  on = omega (arith, h.some);
-  within = h.within;
-  rows = h.rows;
-  jobs = omega (arith, h.jobs);
-}
-on_by_visits most c (Err x) h = tt
 
 -- what a base more promises of a count
 pub visited_is_one : (c d : Count) → d.rows ≡ c.rows → d.jobs ≡ c.jobs → d.bases ≡ c.bases + 1 → IsOneBase c d

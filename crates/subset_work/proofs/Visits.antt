@@ -1,12 +1,10 @@
 -- One visit: where it begins, a row passed over, a list under it given back or visited, where it ends and where it stops.
 use Rattle.std.proofs.Common.{◌≡◌, ◌⊎◌, inl, inr, ⊎_elim, Bool, true, false, ℕ, ◌+◌, ◌-◌, ◌≤◌, ◌<◌, List, [], ◌∷◌, ◌++◌, length, Option, Result, Ok, Err, refl, sym, ap, subst, ◌∙◌, arith}
-use Rattle.std.specs.Prelude.{IfOk, OnOk, OnErr, IsErrOf}
-use Rattle.std.specs.Io.KnownBytes.{Appends}
+use Rattle.std.specs.Prelude.{IsErrOf}
 use Rattle.poly_num.specs.Vectors.{Vector}
-use Rattle.poly_io.specs.Written.{AppendsPart}
 use Rattle.poly_model.specs.declared.listed.Count.{Count}
 use Rattle.poly_model.specs.declared.overflow.Overflow.{Overflow}
-use Rattle.poly_model.specs.Keys.{IsKey, with_label}
+use Rattle.poly_model.specs.Keys.{IsKey}
 use Rattle.plain_enum.specs.Plain.{PassesInCone}
 use Rattle.poly_model.specs.Systems.{System, Polyhedron, cone_of, row_of}
 use Rattle.dictionary.specs.Views.{Dictionary}
@@ -20,7 +18,7 @@ use Rattle.poly_model.specs.Limits.{most_labels}
 use Rattle.work_core.specs.Meanings.{Meaning, IsKeyBelow}
 use Rattle.work_core.specs.Subsets.{IsSubsetKey}
 use Rattle.work_core.specs.Searches.{by_subsets}
-use Rattle.work_core.specs.ReplyLines.{row_line, job_line_text, WritesLines, WritesPartOfLines, IsCutRun, IsTornRun}
+use Rattle.work_core.specs.ReplyLines.{row_line, WritesLines, WritesPartOfLines, IsCutRun, IsTornRun}
 use Rattle.work_core.specs.Shown.{IsShownAtList}
 use Rattle.work_core.specs.Walked.{HasWalked}
 use Rattle.work_core.proofs.WalkLemmas.{under_itself}
@@ -28,9 +26,9 @@ use Rattle.work_core.proofs.SubsetShares.{has_shares, shows_at}
 use Rattle.work_core.proofs.WalkedLemmas.{writes_given, part_given, walked_of, walked_visit, walked_show, walked_give, walked_then, cut_here, cut_under, torn_under, cut_is_torn, torn_job, torn_row}
 use Rattle.subset_work.specs.declared.progress.Progress.{Progress}
 use Rattle.subset_work.specs.Counts.{IsOneBase, MayCome}
-use Rattle.subset_work.specs.Walked.{bound_of, HasWalkedTo, WalksUnder}
+use Rattle.subset_work.specs.Walked.{bound_of, HasWalkedTo, WalksUnder, GivesBack}
 use Rattle.subset_work.specs.Standing.{IsNext, HasRoom, MayTake, IsLive, IsDead, IsBefore}
-use Rattle.subset_work.proofs.ListTree.{with_last, plain_label, is_plain, child_under, before_none, before_under, before_apart, before_skip, before_child, before_all, key_alone, child_room, child_next}
+use Rattle.subset_work.proofs.ListTree.{plain_label, is_plain, child_under, before_none, before_under, before_apart, before_skip, before_child, before_all, key_alone, child_room, child_next}
 use Rattle.subset_work.proofs.ListPrefixes.{dead_shows_none, shown_none, shown_one}
 
 -- the list with row i, where the loop under a list has come to row i: what it is, and what a visit of it, or giving it
@@ -39,10 +37,10 @@ pub record NextStep (p : Polyhedron) (key : List ℕ) (left from most longest i 
     (c d : Count) : Type 0 where
   pub may : MayTake p key i (left - 1)
   pub goes_on : (new : Option (List ℕ)) (e : Count) → e.bases ≤ most →
-      WalksUnder p (with_label i key) most longest now new d (Ok e) →
+      WalksUnder p (key ++ i ∷ []) most longest now new d (Ok e) →
       HasWalkedTo p key from (i + 1) most longest old new c e
   pub breaks : (new : Option (List ℕ)) (x : WorkStop) →
-      WalksUnder p (with_label i key) most longest now new d (Err x) →
+      WalksUnder p (key ++ i ∷ []) most longest now new d (Err x) →
       WalksUnder p key most longest old new c (Err x)
 
 module _ (p : Polyhedron) where
@@ -84,20 +82,21 @@ module _ (p : Polyhedron) where
 
   -- ---- a key that is given back
   pub given_back : (key : List ℕ) (at : Progress) (old new : Option (List ℕ)) (result : Result Count WorkStop) →
-      IsSubsetKey p key → MayCome at (length key) → (len : ℕ) → len ≡ length key → (at.most ≤ at.count.bases) ⊎ (at.longest ≤ len) →
-      OnOk result (Appends old new (job_line_text key)) → OnErr result (AppendsPart old new (job_line_text key)) → IsKey key →
-      IfOk result (λ (d : Count). d.rows ≡ at.count.rows) → IfOk result (λ (d : Count). d.jobs ≡ at.count.jobs + 1) →
-      IfOk result (λ (d : Count). d.bases ≡ at.count.bases) → ((o : Overflow) → IsErrOf result (WorkStop.Overflow o) → ⊥) →
+      IsSubsetKey p key → (len : ℕ) → MayCome at len → length key ≡ len → (at.most ≤ at.count.bases) ⊎ (at.longest ≤ len) →
+      (IsKey key → GivesBack key at.count old new result) → ((o : Overflow) → IsErrOf result (WorkStop.Overflow o) → ⊥) →
       WalksUnder p key at.most at.longest old new at.count result
-  given_back key at old new (Ok d) is may len same stops whole part is_key rows jobs bases none =
+  given_back key at old new (Ok d) is len may same stops given none =
       let near = may.near in
+      let g = given is.ascending in
       walks_ok key at.most at.longest old new at.count d
-      (walked_give s Shows (bound_of at.most at.longest) key old new at.count d is (writes_given old new key whole is_key) rows jobs bases
-      (⊎_elim (λ (m : at.most ≤ at.count.bases). let within = may.within in inl (omega (arith, m, within, bases)))
-      (λ (m : at.longest ≤ len). inr (omega (arith, m, same, near))) stops) near)
-  given_back key at old new (Err x) is may len same stops whole part is_key rows jobs bases none =
+      (walked_give s Shows (bound_of at.most at.longest) key old new at.count d is (writes_given old new key g.whole is.ascending)
+      g.rows g.jobs g.bases
+      (⊎_elim (λ (m : at.most ≤ at.count.bases). let within = may.within in inl (omega (arith, m, within, g.bases)))
+      (λ (m : at.longest ≤ len). inr (omega (arith, m, same, near))) stops) (omega (arith, same, near)))
+  given_back key at old new (Err x) is len may same stops given none =
       walks_fault key at.most at.longest old new at.count x none
-      (torn_job s key is (under_itself (by_subsets p) (has_shares p) key) old new (part_given old new key part is_key))
+      (torn_job s key is (under_itself (by_subsets p) (has_shares p) key) old new
+      (part_given old new key (given is.ascending).part is.ascending))
 
   -- ---- a list that is full
   module _ (sys : System) (free : List ℕ) (d : Dictionary) (i : ℕ) (key : List ℕ) (live : IsLive sys free d i 0 p key)
@@ -157,9 +156,6 @@ module _ (p : Polyhedron) where
         abbrev child : List ℕ
         child = key ++ i ∷ []
 
-        last : with_label i key ≡ child
-        last = with_last i key (λ k m. let a = next.above k m in omega (arith, a, at))
-
         some_label : 0 < i
         some_label = let a = next.some in omega (arith, a, at)
 
@@ -168,9 +164,8 @@ module _ (p : Polyhedron) where
 
         may_take : MayTake p key i (left - 1)
         may_take = record {
-          last = last;
-          room = subst (λ ks. HasRoom p ks (left - 1)) (sym last) room_there;
-          next = subst (λ ks. IsNext ks (i + 1)) (sym last) (child_next p key i from next at);
+          room = room_there;
+          next = child_next p key i from next at;
         }
 
         -- what is under it is added
@@ -202,22 +197,18 @@ module _ (p : Polyhedron) where
         pub next_step : NextStep p key left from most longest i old now c d
         next_step = record {
           may = may_take;
-          goes_on = λ new e l v. joined new e l
-              (subst (λ ks. HasWalked s Shows (bound_of most longest) (IsKeyBelow s ks) now new d e) last v.whole);
-          breaks = λ new x v. breaks new x
-              (subst (λ ks. WalksUnder p ks most longest now new d (Err x)) last v);
+          goes_on = λ new e l v. joined new e l v.whole;
+          breaks = breaks;
         }
 
 -- ---- a list under one, by the row that it has more
-pub walks_to_child : (p : Polyhedron) (key below : List ℕ) (row i left most longest : ℕ) (old new : Option (List ℕ)) (c : Count)
-    (result : Result Count WorkStop) → below ≡ with_label row key → row ≡ i → MayTake p key i left →
-    (below ≡ key ++ row ∷ [] → HasRoom p below left → IsNext below (i + 1) → WalksUnder p below most longest old new c result) →
-    WalksUnder p (with_label i key) most longest old new c result
-walks_to_child p key below row i left most longest old new c result with same may h =
-    let there : below ≡ with_label i key = with ∙ ap (λ n. with_label n key) same in
+pub walks_to_child : (p : Polyhedron) (key below : List ℕ) (i left most longest : ℕ) (old new : Option (List ℕ)) (c : Count)
+    (result : Result Count WorkStop) → below ≡ key ++ i ∷ [] → MayTake p key i left →
+    (HasRoom p below left → IsNext below (i + 1) → WalksUnder p below most longest old new c result) →
+    WalksUnder p (key ++ i ∷ []) most longest old new c result
+walks_to_child p key below i left most longest old new c result there may h =
     subst (λ ks. WalksUnder p ks most longest old new c result) there
-    (h (there ∙ may.last ∙ ap (λ n. key ++ n ∷ []) (sym same)) (subst (λ ks. HasRoom p ks left) (sym there) may.room)
-    (subst (λ ks. IsNext ks (i + 1)) (sym there) may.next))
+    (h (subst (λ ks. HasRoom p ks left) (sym there) may.room) (subst (λ ks. IsNext ks (i + 1)) (sym there) may.next))
 
 -- ---- a list under a dead one is dead
 pub dead_under : (p : Polyhedron) (key : List ℕ) (i : ℕ) → IsDead p key → IsDead p (key ++ i ∷ [])
@@ -226,12 +217,12 @@ dead_under p key i dead one u y h =
 
 -- and so the walk under it is
 pub dead_child_walks : (p : Polyhedron) (key below : List ℕ) (i left most longest : ℕ) (old new : Option (List ℕ)) (c : Count)
-    (result : Result Count WorkStop) → below ≡ with_label i key → MayTake p key i left → IsDead p key →
+    (result : Result Count WorkStop) → below ≡ key ++ i ∷ [] → MayTake p key i left → IsDead p key →
     (HasRoom p below left → IsNext below (i + 1) → IsDead p below → WalksUnder p below most longest old new c result) →
-    WalksUnder p (with_label i key) most longest old new c result
-dead_child_walks p key below i left most longest old new c result same may dead h =
-    walks_to_child p key below i i left most longest old new c result same refl may
-    (λ is room next. h room next (subst (IsDead p) (sym is) (dead_under p key i dead)))
+    WalksUnder p (key ++ i ∷ []) most longest old new c result
+dead_child_walks p key below i left most longest old new c result there may dead h =
+    walks_to_child p key below i left most longest old new c result there may
+    (λ room next. h room next (subst (IsDead p) (sym there) (dead_under p key i dead)))
 
 -- ---- the row in the loop
 pub plain_here : (p : Polyhedron) (sys : System) (i : ℕ) (b : Bool) → sys ≡ cone_of p → b ≡ (row_of sys.rows i).linear → b ≡ false →

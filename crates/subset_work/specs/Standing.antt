@@ -2,7 +2,6 @@
 use Rattle.std.specs.Prelude.{◌≡◌, ◌⊎◌, ℕ, ◌+◌, ◌-◌, ◌≤◌, ◌<◌, Bool, false, List, [], ◌∷◌, ◌++◌, length}
 use Rattle.std.specs.List.{Contains}
 use Rattle.poly_num.specs.Vectors.{Vector}
-use Rattle.poly_model.specs.Keys.{with_label}
 use Rattle.poly_model.specs.Limits.{most_labels}
 use Rattle.poly_model.specs.Systems.{System, Polyhedron, row_of}
 use Rattle.dictionary.specs.Views.{Dictionary}
@@ -36,9 +35,8 @@ pub record HasRoom (p : Polyhedron) (key : List ℕ) (left : ℕ) : Type 0 where
 
 -- the row i may be the next one: behind the rows of the key, with room for so many more
 pub record MayTake (p : Polyhedron) (key : List ℕ) (i left : ℕ) : Type 0 where
-  pub last : with_label i key ≡ key ++ i ∷ []
-  pub room : HasRoom p (with_label i key) left
-  pub next : IsNext (with_label i key) (i + 1)
+  pub room : HasRoom p (key ++ i ∷ []) left
+  pub next : IsNext (key ++ i ∷ []) (i + 1)
 
 -- the rows of the key are independent, and the dictionary stands at it, before row i
 pub record IsLive (sys : System) (free : List ℕ) (d : Dictionary) (i depth : ℕ) (p : Polyhedron) (key : List ℕ) :

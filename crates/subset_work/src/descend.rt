@@ -5,24 +5,27 @@ ghost use Rattle.dictionary.specs.Views.{CanPivot};
 ghost use Rattle.plain_enum.specs.Columns.{HasRows, IsColumnOf, HasNoColumn};
 
 use crate::dead::RowList;
+use crate::progress::Progress;
 use plain_enum::{Prefix, column_of};
 use poly_model::Label;
 
-/// Where the way to a list stands: the dictionary at its first rows, the list itself, and the labels of the others.
+/// Where the way to a list stands: the dictionary at its first rows, the list itself, and the labels of the others. And how
+/// far the walk has come.
 #[derive(Clone, Copy)]
 pub struct Way<'a> {
     pub prefix: Prefix<'a>,
     pub list: RowList<'a>,
     pub rest: &'a [Label],
+    pub so_far: &'a Progress,
 }
 
 /// How many rows more a list may have, where so many may follow the first rows of the way.
 pub fn left_of(way: &Way, depth: usize) -> usize
-    requires { length way.now.list.key.now + depth ≤ most_labels + length way.now.rest.now }
+    requires fits { way.now.list.len ≤ most_labels }
+    requires deep { way.now.list.len + depth ≤ most_labels + length way.now.rest.now }
     ensures value { result ≡ depth - length way.now.rest.now }
-    ensures room { length way.now.list.key.now + result ≤ most_labels }
+    ensures room { way.now.list.len + result ≤ most_labels }
 {
-    let _room = way.list.key.len();
     depth.saturating_sub(way.rest.len())
 }
 

@@ -8,6 +8,7 @@ mod progress;
 mod stop;
 #[cfg(test)]
 mod tests;
+mod trail;
 mod work;
 
 pub use stop::SubsetStop;

@@ -1,10 +1,11 @@
 //! The lists under one whose rows are independent: a dictionary stands at it.
-ghost use Rattle.std.specs.Prelude.{◌≡◌, ◌+◌, ◌-◌, ◌≤◌, ◌<◌, ◌++◌, ℕ, List, length, IfOk, IsErrOf, []};
+ghost use Rattle.std.specs.Prelude.{◌≡◌, ◌+◌, ◌-◌, ◌≤◌, ◌<◌, ◌++◌, ℕ, List, length, take, ok_or, IfSome, IsTrue, IsFalse, IsErrOf, []};
 ghost use Rattle.poly_io.specs.Causes.{RisesAt};
 ghost use Rattle.poly_model.specs.Limits.{most_labels};
 ghost use Rattle.poly_model.specs.declared.overflow.Overflow.{Overflow as Passed};
 ghost use Rattle.poly_model.specs.Systems.{Polyhedron};
-ghost use Rattle.plain_enum.specs.Listed.{HasRoomFor};
+ghost use Rattle.dictionary.specs.Views.{CanPivot, IsPivot, IsOverflow};
+ghost use Rattle.plain_enum.specs.Listed.{HasRoomFor, HasShapeOf};
 ghost use Rattle.work_core.specs.Splits.{most_bases};
 ghost use Rattle.subset_work.specs.Standing.{IsNext, HasRoom, IsLive};
 ghost use Rattle.subset_work.specs.Counts.{MayVisit, MayCome, CountsOn, ComesOn};
@@ -13,49 +14,75 @@ ghost use Rattle.subset_work.specs.Walked.{WalksUnder};
 use crate::dead::{RowList, visit_dead};
 use crate::descend::{Way, column_for, left_of};
 use crate::progress::{Progress, stops};
+use crate::trail::Trail;
 use dictionary::Dict;
 use plain_enum::{Prefix, left_coordinate, shown_side, take_row, write_direction};
 use poly_io::{Sink, WriteFault};
-use poly_model::{Count, Key, Label};
+use poly_model::{Count, Label};
 use poly_num::Num;
-use work_core::{WorkStop, give_back, one_base, one_row, write_row};
+use work_core::{WorkStop, one_base, one_row, write_row};
 
-/// A list whose rows are independent, and where the dictionary stands at it.
+/// A list whose rows are independent: where the dictionary stands at it, how many rows it has, and how far the walk has come.
 #[derive(Clone, Copy)]
 pub struct Live<'a> {
     pub prefix: Prefix<'a>,
-    pub key: &'a Key,
+    pub len: usize,
+    pub so_far: &'a Progress,
 }
 
-/// Visits a list that is as long as may be: shows the direction that is left, if its column is shown on some side.
+/// Visits a list that is as long as may be: shows the direction that is left, if its column is shown on some side. Where
+/// the sink fails, that is noted.
+#[inline(never)]
 pub fn show_left<S: Sink>(
     prefix: &Prefix,
     vector: &mut [Num],
     before: Count,
+    stop: &mut WorkStop,
     out: &mut S,
-) -> Result<Count, WorkStop>
+) -> Option<Count>
     requires room { HasRoomFor prefix.now.sys.now prefix.now.dict.now [] vector.old }
     requires most { before.bases < most_bases }
     requires rows { before.rows ≤ before.bases }
     ensures walked { (p : Polyhedron) (key : List ℕ) (most longest : ℕ) →
         IsLive prefix.now.sys.now prefix.now.free.now prefix.now.dict.now prefix.now.from 0 p key → HasRoom p key 0 →
-        WalksUnder p key most longest (S.written out.old) (S.written out.new) before result }
-    ensures on { IfOk result (CountsOn (before.bases + 1) before) }
-    ensures overflow { (o : Passed) → IsErrOf result (WorkStop.Overflow o) → ⊥ }
+        WalksUnder p key most longest (S.written out.old) (S.written out.new) before (ok_or result stop.new) }
+    ensures on { IfSome result (CountsOn (before.bases + 1) before) }
+    ensures overflow { (o : Passed) → IsErrOf (ok_or result stop.new) (WorkStop.Overflow o) → ⊥ }
     ensures width { length vector.new ≡ prefix.now.sys.now.n }
-    ensures cause { RisesAt WorkStop.WriteFault (S.faults out.old) (S.faults out.new) result }
+    ensures cause { RisesAt WorkStop.WriteFault (S.faults out.old) (S.faults out.new) (ok_or result stop.new) }
 {
     let count = one_base(before);
     let Some(col) = left_coordinate(prefix.dict, prefix.free) else {
-        return Ok(count);
+        return Some(count);
     };
     let Some(side) = shown_side(prefix.sys, prefix.dict, col) else {
-        return Ok(count);
+        return Some(count);
     };
     write_direction(prefix.dict, col, side, vector);
     match write_row(vector, out) {
-        Ok(()) => Ok(one_row(count)),
-        Err(WriteFault) => Err(WorkStop::WriteFault),
+        Ok(()) => Some(one_row(count)),
+        Err(WriteFault) => {
+            *stop = WorkStop::WriteFault;
+            None
+        }
+    }
+}
+
+// Takes a row in the place of a column; where a product passes, that is noted.
+#[inline(never)]
+fn take_noted(dict: &Dict, row: Label, col: Label, next: &mut Dict, stop: &mut WorkStop) -> bool
+    requires can { CanPivot dict.now row col }
+    requires shape { HasShapeOf dict.now next.old }
+    ensures pivoted { IsTrue result → IsPivot dict.now row col next.new }
+    ensures passes { IsFalse result → (o : Passed) × (stop.new ≡ WorkStop.Overflow o) × IsOverflow dict.now row col o }
+    ensures shape { HasShapeOf dict.now next.new }
+{
+    match take_row(dict, row, col, next) {
+        Ok(()) => true,
+        Err(overflow) => {
+            *stop = WorkStop::Overflow(overflow);
+            false
+        }
     }
 }
 
@@ -66,50 +93,56 @@ fn visit_live<S: Sink>(
     live: &Live,
     deeper: &mut [Dict],
     vector: &mut [Num],
-    so_far: &Progress,
+    trail: &mut Trail,
     out: &mut S,
-) -> Result<Count, WorkStop>
+) -> Option<Count>
     requires room { HasRoomFor live.now.prefix.sys.now live.now.prefix.dict.now deeper.old vector.old }
-    requires few { length live.now.key.now + length deeper.old ≤ most_labels }
+    requires few { live.now.len + length deeper.old ≤ most_labels }
     requires from { 0 < live.now.prefix.from }
-    requires may { MayVisit so_far.now (length live.now.key.now) }
+    requires may { MayVisit live.now.so_far.now live.now.len }
     ensures walked { (p : Polyhedron) → IsLive live.now.prefix.sys.now live.now.prefix.free.now live.now.prefix.dict.now
-        live.now.prefix.from (length deeper.old) p live.now.key.now → HasRoom p live.now.key.now (length deeper.old) →
-        IsNext live.now.key.now live.now.prefix.from →
-        WalksUnder p live.now.key.now so_far.now.most so_far.now.longest (S.written out.old) (S.written out.new)
-        so_far.now.count result }
-    ensures on { IfOk result (CountsOn so_far.now.most so_far.now.count) }
+        live.now.prefix.from (length deeper.old) p (take live.now.len trail.old.labels) →
+        HasRoom p (take live.now.len trail.old.labels) (length deeper.old) →
+        IsNext (take live.now.len trail.old.labels) live.now.prefix.from →
+        WalksUnder p (take live.now.len trail.old.labels) live.now.so_far.now.most live.now.so_far.now.longest
+        (S.written out.old) (S.written out.new) live.now.so_far.now.count (ok_or result trail.new.stop) }
+    ensures on { IfSome result (CountsOn live.now.so_far.now.most live.now.so_far.now.count) }
     ensures room { HasRoomFor live.now.prefix.sys.now live.now.prefix.dict.now deeper.new vector.new }
     ensures depth { length deeper.new ≡ length deeper.old }
-    ensures cause { RisesAt WorkStop.WriteFault (S.faults out.old) (S.faults out.new) result }
+    ensures kept { take live.now.len trail.new.labels ≡ take live.now.len trail.old.labels }
+    ensures cause { RisesAt WorkStop.WriteFault (S.faults out.old) (S.faults out.new) (ok_or result trail.new.stop) }
 {
     let prefix = &live.prefix;
     if deeper.is_empty() {
-        return show_left(prefix, vector, so_far.count, out);
+        return show_left(prefix, vector, live.so_far.count, &mut trail.stop, out);
     }
-    let mut count = one_base(so_far.count);
+    let mut count = one_base(live.so_far.count);
     'rows: for i in prefix.from..prefix.sys.rows() + 1 {
         if !prefix.sys.is_linear(i) {
             let row = Label::row(i);
-            let child = live.key.with(row);
+            trail.put(live.len, row);
             let labels = [row];
+            let now = Progress {
+                count,
+                ..*live.so_far
+            };
             let way = Way {
                 prefix: *prefix,
                 list: RowList {
                     sys: prefix.sys,
-                    key: &child,
+                    len: live.len + 1,
                     from: i + 1,
                 },
                 rest: &labels,
+                so_far: &now,
             };
-            let now = Progress { count, ..*so_far };
-            match visit_under(&way, deeper, vector, &now, out) {
-                Ok(on) => count = on,
-                Err(stop) => return Err(stop),
+            match visit_under(&way, deeper, vector, trail, out) {
+                Some(on) => count = on,
+                None => return None,
             }
         }
     }
-    Ok(count)
+    Some(count)
 }
 
 /// Gives the list back where the walk stops at it; else takes the other labels one after the other, and visits the list and
@@ -119,30 +152,32 @@ pub fn visit_under<S: Sink>(
     way: &Way,
     deeper: &mut [Dict],
     vector: &mut [Num],
-    so_far: &Progress,
+    trail: &mut Trail,
     out: &mut S,
-) -> Result<Count, WorkStop>
+) -> Option<Count>
     requires room { HasRoomFor way.now.prefix.sys.now way.now.prefix.dict.now deeper.old vector.old }
-    requires deep { length way.now.list.key.now + length deeper.old ≤ most_labels + length way.now.rest.now }
+    requires fits { way.now.list.len ≤ most_labels }
+    requires deep { way.now.list.len + length deeper.old ≤ most_labels + length way.now.rest.now }
     requires from { 0 < way.now.list.from }
-    requires may { MayCome so_far.now (length way.now.list.key.now) }
+    requires may { MayCome way.now.so_far.now way.now.list.len }
     requires sys { way.now.list.sys.now ≡ way.now.prefix.sys.now }
     ensures walked { (p : Polyhedron) (front : List ℕ) → IsLive way.now.prefix.sys.now way.now.prefix.free.now
         way.now.prefix.dict.now way.now.prefix.from (length deeper.old) p front → IsNext front way.now.prefix.from →
-        way.now.list.key.now ≡ front ++ way.now.rest.now →
-        HasRoom p way.now.list.key.now (length deeper.old - length way.now.rest.now) →
-        IsNext way.now.list.key.now way.now.list.from →
-        WalksUnder p way.now.list.key.now so_far.now.most so_far.now.longest (S.written out.old) (S.written out.new)
-        so_far.now.count result }
-    ensures on { IfOk result (ComesOn so_far.now.most so_far.now.count) }
-    ensures visits { MayVisit so_far.now (length way.now.list.key.now) →
-        IfOk result (CountsOn so_far.now.most so_far.now.count) }
+        take way.now.list.len trail.old.labels ≡ front ++ way.now.rest.now →
+        HasRoom p (take way.now.list.len trail.old.labels) (length deeper.old - length way.now.rest.now) →
+        IsNext (take way.now.list.len trail.old.labels) way.now.list.from →
+        WalksUnder p (take way.now.list.len trail.old.labels) way.now.so_far.now.most way.now.so_far.now.longest
+        (S.written out.old) (S.written out.new) way.now.so_far.now.count (ok_or result trail.new.stop) }
+    ensures on { IfSome result (ComesOn way.now.so_far.now.most way.now.so_far.now.count) }
+    ensures visits { MayVisit way.now.so_far.now way.now.list.len →
+        IfSome result (CountsOn way.now.so_far.now.most way.now.so_far.now.count) }
     ensures room { HasRoomFor way.now.prefix.sys.now way.now.prefix.dict.now deeper.new vector.new }
     ensures depth { length deeper.new ≡ length deeper.old }
-    ensures cause { RisesAt WorkStop.WriteFault (S.faults out.old) (S.faults out.new) result }
+    ensures kept { take way.now.list.len trail.new.labels ≡ take way.now.list.len trail.old.labels }
+    ensures cause { RisesAt WorkStop.WriteFault (S.faults out.old) (S.faults out.new) (ok_or result trail.new.stop) }
 {
-    if stops(so_far, way.list.key.len()) {
-        return give_back(way.list.key, so_far.count, out);
+    if stops(way.so_far, way.list.len) {
+        return trail.give_list(way.list.len, way.so_far.count, out);
     }
     let prefix = &way.prefix;
     let left = left_of(way, deeper.len());
@@ -152,18 +187,19 @@ pub fn visit_under<S: Sink>(
                 from: way.list.from,
                 ..*prefix
             },
-            key: way.list.key,
+            len: way.list.len,
+            so_far: way.so_far,
         };
-        return visit_live(&live, deeper, vector, so_far, out);
+        return visit_live(&live, deeper, vector, trail, out);
     };
     let Some(col) = column_for(prefix, *label) else {
-        return visit_dead(&way.list, left, so_far, out);
+        return visit_dead(&way.list, left, way.so_far, trail, out);
     };
     let Some((next, others)) = deeper.split_first_mut() else {
-        return visit_dead(&way.list, left, so_far, out);
+        return visit_dead(&way.list, left, way.so_far, trail, out);
     };
-    if let Err(overflow) = take_row(prefix.dict, *label, col, next) {
-        return Err(WorkStop::Overflow(overflow));
+    if !take_noted(prefix.dict, *label, col, next, &mut trail.stop) {
+        return None;
     }
     let below = Way {
         prefix: Prefix {
@@ -173,6 +209,7 @@ pub fn visit_under<S: Sink>(
         },
         list: way.list,
         rest: later,
+        so_far: way.so_far,
     };
-    visit_under(&below, others, vector, so_far, out)
+    visit_under(&below, others, vector, trail, out)
 }

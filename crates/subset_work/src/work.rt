@@ -23,6 +23,7 @@ use crate::descend::Way;
 use crate::live::visit_under;
 use crate::progress::Progress;
 use crate::stop::SubsetStop;
+use crate::trail::Trail;
 use dictionary::Dict;
 use plain_enum::{Beginning, FeasibleStop, Prefix, Room, begin_listing, left_coordinate};
 use poly_io::Sink;
@@ -175,18 +176,20 @@ fn visit_key<S: Sink>(
     let labels = key.labels();
     let list = RowList {
         sys: start.sys,
-        key,
+        len: key.len(),
         from: after_last(labels),
     };
+    let mut trail = Trail::of(key);
     match left_coordinate(start.dict, start.free) {
-        None => visit_dead(&list, 0, so_far, out),
+        None => visit_dead(&list, 0, so_far, &mut trail, out).ok_or(trail.stop),
         Some(_) => {
             let way = Way {
                 prefix: *start,
                 list,
                 rest: labels,
+                so_far,
             };
-            visit_under(&way, &mut room.deeper, &mut room.vector, so_far, out)
+            visit_under(&way, &mut room.deeper, &mut room.vector, &mut trail, out).ok_or(trail.stop)
         }
     }
 }
