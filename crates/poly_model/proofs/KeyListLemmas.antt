@@ -1,5 +1,5 @@
 -- Keys whose labels lie one behind the other: what one key more comes to, and how many there are.
-use Rattle.std.proofs.Common.{◌≡◌, ℕ, suc, List, [], ◌∷◌, ◌++◌, length, take, drop, refl, sym, ap, ap₂, subst, ◌∙◌, arith, length-append}
+use Rattle.std.proofs.Common.{◌≡◌, ℕ, suc, List, [], ◌∷◌, ◌++◌, length, take, drop, refl, ap, arith, length-append}
 use Rattle.std.proofs.lemmas.List.{take-append-le, drop-append-le, take_all, drop_all}
 use Rattle.poly_model.specs.Keys.{IsKey}
 use Rattle.poly_model.specs.KeyRoom.{keys_by_count, AreKeysIn}

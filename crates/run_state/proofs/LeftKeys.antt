@@ -1,6 +1,6 @@
 -- Where the keys that are left of a list begin in it, and the next of them.
-use Rattle.std.proofs.Common.{◌≡◌, ◌<◌, ◌+◌, ◌-◌, ℕ, suc, List, [], ◌∷◌, length, take, drop, get_or, sym, ap, ◌∙◌, arith, drop-cons}
-use Rattle.std.proofs.lemmas.List.{length-drop, take_all}
+use Rattle.std.proofs.Common.{◌≡◌, ◌<◌, ◌+◌, ◌-◌, ℕ, suc, List, ◌∷◌, length, drop, get_or, sym, ap, ◌∙◌, arith, drop-cons}
+use Rattle.std.proofs.lemmas.List.{length-drop}
 
 -- how many keys were gone through
 abbrev pub gone : List (List ℕ) → List (List ℕ) → ℕ
@@ -9,14 +9,6 @@ gone keys left = length keys - length left
 -- these are left: the last ones
 abbrev pub AreLeft : List (List ℕ) → List (List ℕ) → Type 0
 AreLeft keys left = drop (gone keys left) keys ≡ left
-
-pub all_left : (keys left : List (List ℕ)) → left ≡ keys → AreLeft keys left
-all_left keys left e =
-    let none : gone keys left ≡ 0 = omega (arith, ap (λ (l : List (List ℕ)). length l) e) in
-    rw none (sym e)
-
-pub none_left : (keys left : List (List ℕ)) → left ≡ [] → take (gone keys left) keys ≡ keys
-none_left keys left e = rw e (take_all (length keys - 0) keys (omega arith))
 
 module _ (keys left behind : List (List ℕ)) (key : List ℕ) (h : AreLeft keys left) (next : left ≡ key ∷ behind) where
   pub within : gone keys left < length keys

@@ -1,5 +1,5 @@
-use Rattle.std.proofs.Common.{◌≡◌, ℕ, length, sym, ap, subst, ◌-◌, ◌∙◌}
-use Rattle.poly_model.specs.Systems.{Row, System, row_of}
+use Rattle.std.proofs.Common.{length, ap, ◌-◌, ◌∙◌}
+use Rattle.poly_model.specs.Systems.{Row, System}
 use Rattle.poly_model.proofs.RowLemmas.{row_from_one}
 use Rattle.poly_model.proofs.TableLemmas.{cone_entries_at, cone_row_index, row_width as width_of, row_within}
 use Rattle.poly_model.proofs.system.System.row_width.Goals as goal
