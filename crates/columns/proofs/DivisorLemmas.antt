@@ -6,7 +6,6 @@ use Rattle.std.proofs.lemmas.Int.{ints, unsigned_abs-mul}
 use Rattle.std.proofs.lemmas.Nat.Gcd.{dvd_refl}
 use Rattle.std.proofs.Math.Nat.{eq-zero_of_zero-dvd}
 use Rattle.poly_num.specs.Divisors.{gcd_of, IsGcdOf}
-use Rattle.poly_num.specs.Halves.{IsHalf}
 use Rattle.poly_num.proofs.Ring.{lin}
 use Rattle.poly_num.proofs.Order.{mul_nonzero, positive_nonzero}
 use Rattle.poly_num.proofs.DivisorLemmas.{gcd_of_is, gcd_same, gcd_of-times, quotient_times}
@@ -47,14 +46,11 @@ at_least n zero lt = absurd (omega arith)
 at_least n (suc m) lt = omega arith
 
 -- a quotient is not larger
-quotient_size : (q h a : ℤ) → pos 0 <ℤ h → q *ℤ h ≡ a → unsigned_abs q ≤ unsigned_abs a
+pub quotient_size : (q h a : ℤ) → pos 0 <ℤ h → q *ℤ h ≡ a → unsigned_abs q ≤ unsigned_abs a
 quotient_size q h a lt e =
     let l = at_least (unsigned_abs q) (unsigned_abs h) (size_positive h (positive_nonzero h lt)) in
     let f : unsigned_abs a ≡ unsigned_abs q * unsigned_abs h = ap unsigned_abs (sym e) ∙ unsigned_abs-mul q h in
     omega arith
-
-pub quotient_half : (q h a : ℤ) → pos 0 <ℤ h → q *ℤ h ≡ a → IsHalf a → IsHalf q
-quotient_half q h a lt e w = let l = quotient_size q h a lt e in omega arith
 
 pub turned_size : (t z : ℤ) → unsigned_abs t ≡ 1 → unsigned_abs (t *ℤ z) ≡ unsigned_abs z
 turned_size t z e = unsigned_abs-mul t z ∙ rw e (omega arith)

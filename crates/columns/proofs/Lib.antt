@@ -1,6 +1,6 @@
 pub mod ColumnLemmas
 pub mod CommonFactors
-pub mod HalfCellLemmas
+pub mod SizeLemmas
 pub mod OverLemmas
 pub mod LeastCells
 pub mod PassingLemmas

@@ -1,4 +1,4 @@
 pub mod Cells
-pub mod HalfCells
+pub mod Sizes
 pub mod Steps
 pub mod Slices

@@ -1,5 +1,5 @@
 -- The exchange column by column, over a divisor that shrinks where it does not divide a column.
-use Rattle.std.specs.Prelude.{◌≡◌, ◌≢◌, ℕ, ℤ, ◌<◌, ◌≤◌, ◌*◌, ◌*ℤ◌, ◌+ℤ◌, ◌-ℤ◌, ◌<ℤ◌, neg_ℤ, pos, List, length, unsigned_abs, IsTrue}
+use Rattle.std.specs.Prelude.{◌≡◌, ◌≢◌, ℕ, ℤ, ◌<◌, ◌≤◌, ◌*◌, ◌*ℤ◌, ◌+ℤ◌, ◌-ℤ◌, ◌<ℤ◌, neg_ℤ, pos, List, length, unsigned_abs}
 use Rattle.std.specs.List.{slice_index_or}
 use Prim.Native.Nat.{◌∣◌}
 use Rattle.poly_num.specs.Halves.{IsHalf}
@@ -8,7 +8,7 @@ use Rattle.columns.specs.declared.exchange.Exchange.{Exchange}
 use Rattle.columns.specs.declared.parts.Factors.{Factors}
 use Rattle.columns.specs.declared.parts.Parts.{Parts}
 use Rattle.columns.specs.Cells.{cell_at, pivot_of, AllowsExchange, IsNewCell}
-use Rattle.columns.specs.HalfCells.{AreHalvesTo}
+use Rattle.columns.specs.Sizes.{AreOf}
 
 -- d divides k times the denominator, the pivot's cell, the first m cells of the exchange's column and the first n
 -- cells of its row
@@ -60,12 +60,12 @@ pub record AreParts (cells : List ℤ) (parts : Parts ℤ) (z : ℤ) : Type 0 wh
   pub p : parts.p ≡ parts.factors.now.p
   pub u : parts.u ≡ parts.factors.now.u
 
--- the parts of an exchange in words, so that its row needs no case: e p - (p + u) e is - u e. Where `halves` is set,
--- all cells and the exchange's column are halves
+-- the parts of an exchange in words, so that its row needs no case: e p - (p + u) e is - u e. All cells and the
+-- exchange's column have the size
 pub record AreWordParts (cells : List ℤ) (parts : Parts ℤ) : Type 0 where
   pub are : AreParts cells parts (parts.p +ℤ parts.u)
-  pub small : IsTrue parts.halves →
-      AreHalvesTo (parts.x.now.width * parts.x.now.height) cells × AreHalvesTo parts.x.now.height parts.own.now
+  pub cells_size : AreOf parts.size (parts.x.now.width * parts.x.now.height) cells
+  pub own_size : AreOf parts.size parts.x.now.height parts.own.now
 
 -- the parts of an exchange in wide numbers
 abbrev pub AreWideParts : List ℤ → Parts ℤ → Type 0

@@ -1,25 +1,23 @@
 //! Cells that are words while all of them fit, and wide numbers else.
-ghost use Rattle.std.specs.Prelude.{◌≡◌, ◌<◌, ◌≤◌, ℕ, pos, IfOk, IsTrue, length};
+ghost use Rattle.std.specs.Prelude.{◌≡◌, ◌<◌, ◌≤◌, ℕ, pos, IfOk, IfSome, IsTrue, length};
 ghost use Rattle.std.specs.List.{slice_index_or};
 ghost use Rattle.columns.specs.Cells.{cell_at, place};
-ghost use Rattle.poly_num.specs.Halves.{IsHalf};
-ghost use Rattle.columns.specs.HalfCells.{AreHalvesTo};
 
 use crate::exchange::{at_place, number_at};
-use crate::slices::{Column, Slice};
+use crate::size::{Size, size_of_all};
+use crate::slices::{Column, Slice, WordCells};
 use poly_num::Num;
 use std::alloc::AllocError;
 use std::marker::Model;
 use words::Word;
 
 /// So many cells, which contracts see as a list of whole numbers. There is room for all of them as words and as wide
-/// numbers from the start, and one of the two has them. `halves` is whether the words are known to fit half a machine
-/// word: false says nothing.
+/// numbers from the start, and one of the two has them. `size` is what is known of the sizes of the words.
 pub struct Cells {
     pub(crate) words: Vec<Word>,
     pub(crate) wide: Vec<Num>,
     pub(crate) is_wide: bool,
-    pub(crate) halves: bool,
+    pub(crate) size: Size,
 }
 
 // Written out, so that to let one go is one step in the proofs of those who hold it.
@@ -29,21 +27,21 @@ impl Drop for Cells {
             words: _,
             wide: _,
             is_wide: _,
-            halves: _,
+            size: _,
         } = self;
     }
 }
 
 impl Model for Cells {
-    ghost use Rattle.std.specs.Prelude.{◌≡◌, ℤ, List, length, if◌then◌else◌, IsTrue};
-    ghost use Rattle.columns.specs.HalfCells.{AreHalvesTo};
+    ghost use Rattle.std.specs.Prelude.{◌≡◌, ℤ, List, length, if◌then◌else◌};
+    ghost use Rattle.columns.specs.Sizes.{AreOf};
 
     ghost Value = { List ℤ };
 
     ghost view = { λ c. if c.is_wide then c.wide.items else c.words.items };
 
     ghost invariant = { λ c. (length c.wide.items ≡ length c.words.items) ×
-        (IsTrue c.halves → AreHalvesTo (length c.words.items) c.words.items) };
+        AreOf c.size (length c.words.items) c.words.items };
 }
 
 impl Cells {
@@ -57,7 +55,7 @@ impl Cells {
             words,
             wide,
             is_wide: true,
-            halves: false,
+            size: Size::Words,
         };
         cells.narrow();
         Ok(cells)
@@ -73,7 +71,7 @@ impl Cells {
             words,
             wide,
             is_wide: self.is_wide,
-            halves: self.halves,
+            size: self.size,
         })
     }
 
@@ -83,12 +81,12 @@ impl Cells {
         ensures { to.new ≡ self.now }
     {
         to.is_wide = self.is_wide;
-        to.halves = false;
+        to.size = Size::Words;
         if self.is_wide {
             to.wide.copy_from_slice(&self.wide);
         } else {
             to.words.copy_from_slice(&self.words);
-            to.halves = self.halves;
+            to.size = self.size;
         }
     }
 
@@ -128,6 +126,18 @@ impl Cells {
         Column { cells }
     }
 
+    /// All cells as they lie, where they are words.
+    #[inline(always)]
+    pub fn word_cells(&self) -> Option<WordCells<'_>>
+        ensures { IfSome result (λ c. c ≡ self.now) }
+    {
+        if self.is_wide {
+            None
+        } else {
+            Some(WordCells { cells: &self.words })
+        }
+    }
+
     // Back to words, where all cells are.
     pub(crate) fn narrow(&mut self)
         ensures { self.new ≡ self.old }
@@ -135,38 +145,12 @@ impl Cells {
         if !self.is_wide {
             return;
         }
-        self.halves = false;
+        self.size = Size::Words;
         if copy_words(&self.wide, &mut self.words) {
             self.is_wide = false;
-            self.halves = are_halves(&self.words);
+            self.size = size_of_all(Size::Words, &self.words);
         }
     }
-}
-
-// Whether all words fit half a machine word.
-pub(crate) fn are_halves(words: &[Word]) -> bool
-    ensures { IsTrue result → AreHalvesTo (length words.now) words.now }
-{
-    'cells: for k in 0..words.len() {
-        if !at_place(words, k).is_half() {
-            return false;
-        }
-    }
-    true
-}
-
-// Whether others are known to be halves, and so is one more word.
-pub(crate) fn stay_halves(halves: bool, z: Word) -> bool
-    ensures { IsTrue result → IsTrue halves × IsHalf z }
-{
-    halves && z.is_half()
-}
-
-// Whether both hold.
-pub(crate) fn both(first: bool, second: bool) -> bool
-    ensures { IsTrue result → IsTrue first × IsTrue second }
-{
-    first && second
 }
 
 // The numbers as words, where all of them are; else the words are lost.

@@ -1,16 +1,17 @@
 //! The new words of one column, by the quickest way that serves.
 ghost use Rattle.std.specs.Option.{IfSome};
-ghost use Rattle.std.specs.Prelude.{◌≡◌, ◌≢◌, ◌<◌, ◌*◌, ◌+◌, ◌*ℤ◌, ℤ, List, IsTrue, pos, length};
+ghost use Rattle.std.specs.Prelude.{◌≡◌, ◌≢◌, ◌<◌, ◌*◌, ◌*ℤ◌, ℤ, List, IsTrue, pos, length};
 ghost use Rattle.std.specs.List.{slice_index_or};
 ghost use Rattle.columns.specs.Cells.{cell_at};
 ghost use Rattle.poly_num.specs.Halves.{IsHalf};
-ghost use Rattle.columns.specs.HalfCells.{AreHalvesTo};
+ghost use Rattle.columns.specs.Sizes.{IsOf, AreOf, IsColumnOf};
+ghost use Rattle.columns.specs.declared.size.Size.TheVariants.{Halves, Small};
 ghost use Rattle.columns.specs.Steps.{AreWordParts, IsOtherColumn, IsScale, AreHalfFactors, IsColumnWritten, AreKept};
 
-use crate::cells::stay_halves;
 use crate::exchange::{at_place, word_at};
-use crate::kernels::{half_column, inside_column};
+use crate::kernels::{half_column, inside_column, small_column};
 use crate::parts::{Parts, Scale};
+use crate::size::{Size, common_size, is_half, is_small, size_of};
 use words::{Word, WordDivisor, product};
 
 // What the exchange's column takes for row i: in the exchange's row it is u.
@@ -27,32 +28,25 @@ fn own_number(parts: &Parts<Word>, i: usize) -> Word
     }
 }
 
-// The new cells of the exchange's column: whether all are halves; `None` where one does not fit.
-fn own_column(parts: &Parts<Word>, new: &mut [Word], factor: Word) -> Option<bool>
+// The new cells of the exchange's column. Whether all fit.
+fn own_column(parts: &Parts<Word>, new: &mut [Word], factor: Word) -> bool
     requires own { length parts.now.own.now ≡ parts.now.x.now.height }
     requires room { length new.old ≡ parts.now.x.now.width * parts.now.x.now.height }
     requires within { parts.now.x.now.column < parts.now.x.now.width }
-    ensures written { IfSome result (λ h. (cells : List ℤ) (g : ℤ) → factor *ℤ g ≡ parts.now.x.now.denominator →
-        IsColumnWritten cells parts.now parts.now.x.now.column parts.now.x.now.height g new.new) }
+    ensures written { IsTrue result → (cells : List ℤ) (g : ℤ) → factor *ℤ g ≡ parts.now.x.now.denominator →
+        IsColumnWritten cells parts.now parts.now.x.now.column parts.now.x.now.height g new.new }
     ensures kept { AreKept (parts.now.x.now.column * parts.now.x.now.height) new.old new.new }
-    ensures halves { IfSome result (λ h. IsTrue h →
-        AreHalvesTo (parts.now.x.now.column * parts.now.x.now.height) new.old →
-        AreHalvesTo (parts.now.x.now.column * parts.now.x.now.height + parts.now.x.now.height) new.new) }
 {
     let height = parts.x.height;
     let base = parts.x.column * height;
-    let mut halves = true;
     // new(i) = own(i) factor
     'cells: for i in 0..height {
         match product(own_number(parts, i), factor) {
-            Some(q) => {
-                halves = stay_halves(halves, q);
-                new[base + i] = q;
-            }
-            None => return None,
+            Some(q) => new[base + i] = q,
+            None => return false,
         }
     }
-    Some(halves)
+    true
 }
 
 // Whether the word is 1.
@@ -62,19 +56,19 @@ fn is_one(a: Word) -> bool
     a == Word::ONE
 }
 
-// The new cells of the exchange's column where the factor is 1.
-fn same_own_column(parts: &Parts<Word>, new: &mut [Word])
+// The new cells of the exchange's column where the factor is 1; their size.
+fn same_own_column(parts: &Parts<Word>, new: &mut [Word]) -> Size
     requires own { length parts.now.own.now ≡ parts.now.x.now.height }
+    requires size { AreOf parts.now.size parts.now.x.now.height parts.now.own.now }
     requires room { length new.old ≡ parts.now.x.now.width * parts.now.x.now.height }
     requires within { parts.now.x.now.column < parts.now.x.now.width }
     ensures written { (cells : List ℤ) →
         IsColumnWritten cells parts.now parts.now.x.now.column parts.now.x.now.height parts.now.x.now.denominator
         new.new }
     ensures kept { AreKept (parts.now.x.now.column * parts.now.x.now.height) new.old new.new }
-    ensures halves { IsHalf parts.now.u → AreHalvesTo parts.now.x.now.height parts.now.own.now →
-        AreHalvesTo (parts.now.x.now.column * parts.now.x.now.height) new.old →
-        AreHalvesTo (parts.now.x.now.column * parts.now.x.now.height + parts.now.x.now.height) new.new }
+    ensures size { IsColumnOf result parts.now.x.now.height parts.now.x.now.column parts.now.x.now.height new.new }
 {
+    let size = common_size(parts.size, size_of(parts.u));
     let height = parts.x.height;
     let base = parts.x.column * height;
     // new(i) = own(i)
@@ -82,6 +76,7 @@ fn same_own_column(parts: &Parts<Word>, new: &mut [Word])
         let c = own_number(parts, i);
         new[base + i] = c;
     }
+    size
 }
 
 // The cells of a column of which the exchange takes nothing, and which it multiplies by what it divides by.
@@ -98,8 +93,7 @@ fn copy_column(
     requires same { parts.now.p ≡ divisor.now }
     ensures written { IsColumnWritten cells.now parts.now column parts.now.x.now.height divisor.now new.new }
     ensures kept { AreKept (column * parts.now.x.now.height) new.old new.new }
-    ensures halves { IsTrue parts.now.halves → AreHalvesTo (column * parts.now.x.now.height) new.old →
-        AreHalvesTo (column * parts.now.x.now.height + parts.now.x.now.height) new.new }
+    ensures size { IsColumnOf parts.now.size parts.now.x.now.height column parts.now.x.now.height new.new }
 {
     let height = parts.x.height;
     let base = column * height;
@@ -119,10 +113,31 @@ fn stays(p: Word, b: Word, divisor: &WordDivisor) -> bool
 
 // Whether all that the new cells of a column take is known to fit half a machine word.
 fn fits_halves(parts: &Parts<Word>, b: Word, divisor: &WordDivisor) -> bool
-    ensures halves { IsTrue result → IsTrue parts.now.halves }
+    ensures halves { IsTrue result → (z : ℤ) → IsOf parts.now.size z → IsHalf z }
     ensures factors { IsTrue result → AreHalfFactors parts.now.p b divisor.now }
 {
-    parts.halves && parts.p.is_half() && b.is_half() && divisor.word().is_half()
+    is_half(parts.size) && parts.p.is_half() && b.is_half() && divisor.word().is_half()
+}
+
+// Whether the column is written over the divisor, and all that it takes and gives is small.
+fn is_written_small(
+    cells: &[Word],
+    parts: &Parts<Word>,
+    new: &mut [Word],
+    column: usize,
+    divisor: &WordDivisor,
+) -> bool
+    requires parts { AreWordParts cells.now parts.now }
+    requires inside { IsOtherColumn parts.now.x.now column new.old }
+    ensures written { IsTrue result →
+        IsColumnWritten cells.now parts.now column parts.now.x.now.height divisor.now new.new }
+    ensures kept { AreKept (column * parts.now.x.now.height) new.old new.new }
+    ensures size { IsTrue result → IsColumnOf Small parts.now.x.now.height column parts.now.x.now.height new.new }
+{
+    if !is_small(parts.size) {
+        return false;
+    }
+    small_column(cells, parts, new, column, divisor)
 }
 
 // Whether the column is written over the divisor in halves.
@@ -138,8 +153,7 @@ fn is_written_in_halves(
     ensures written { IsTrue result →
         IsColumnWritten cells.now parts.now column parts.now.x.now.height divisor.now new.new }
     ensures kept { AreKept (column * parts.now.x.now.height) new.old new.new }
-    ensures halves { IsTrue result → AreHalvesTo (column * parts.now.x.now.height) new.old →
-        AreHalvesTo (column * parts.now.x.now.height + parts.now.x.now.height) new.new }
+    ensures size { IsTrue result → IsColumnOf Halves parts.now.x.now.height column parts.now.x.now.height new.new }
 {
     let b = word_at(cells, parts.x, parts.x.row, column);
     if !fits_halves(parts, b, divisor) {
@@ -148,7 +162,7 @@ fn is_written_in_halves(
     half_column(cells, parts, new, column, divisor) == parts.x.height
 }
 
-// The new cells of another column than the exchange's: whether they are known to be halves; `None` where the divisor
+// The new cells of another column than the exchange's: the size that they are known to have; `None` where the divisor
 // does not divide it, or a cell does not fit.
 fn other_column(
     cells: &[Word],
@@ -156,31 +170,34 @@ fn other_column(
     new: &mut [Word],
     column: usize,
     divisor: &WordDivisor,
-) -> Option<bool>
+) -> Option<Size>
     requires parts { AreWordParts cells.now parts.now }
     requires inside { IsOtherColumn parts.now.x.now column new.old }
     ensures written { IfSome result (λ h.
         IsColumnWritten cells.now parts.now column parts.now.x.now.height divisor.now new.new) }
     ensures kept { AreKept (column * parts.now.x.now.height) new.old new.new }
-    ensures halves { IfSome result (λ h. IsTrue h → AreHalvesTo (column * parts.now.x.now.height) new.old →
-        AreHalvesTo (column * parts.now.x.now.height + parts.now.x.now.height) new.new) }
+    ensures size { IfSome result (λ s.
+        IsColumnOf s parts.now.x.now.height column parts.now.x.now.height new.new) }
 {
     let b = word_at(cells, parts.x, parts.x.row, column);
     if stays(parts.p, b, divisor) {
         copy_column(cells, parts, new, column, divisor);
-        return Some(parts.halves);
+        return Some(parts.size);
+    }
+    if is_written_small(cells, parts, new, column, divisor) {
+        return Some(Size::Small);
     }
     if is_written_in_halves(cells, parts, new, column, divisor) {
-        return Some(true);
+        return Some(Size::Halves);
     }
     if inside_column(cells, parts, new, column, divisor) == parts.x.height {
-        Some(false)
+        Some(Size::Words)
     } else {
         None
     }
 }
 
-// The new cells of a column: whether they are known to be halves; `None` where the divisor does not divide it, or a
+// The new cells of a column: the size that they are known to have; `None` where the divisor does not divide it, or a
 // cell does not fit.
 pub(crate) fn write_column(
     cells: &[Word],
@@ -188,7 +205,7 @@ pub(crate) fn write_column(
     new: &mut [Word],
     column: usize,
     scale: &Scale,
-) -> Option<bool>
+) -> Option<Size>
     requires parts { AreWordParts cells.now parts.now }
     requires room { length new.old ≡ parts.now.x.now.width * parts.now.x.now.height }
     requires within { column < parts.now.x.now.width }
@@ -196,15 +213,18 @@ pub(crate) fn write_column(
     ensures written { IfSome result (λ h.
         IsColumnWritten cells.now parts.now column parts.now.x.now.height scale.now.divisor new.new) }
     ensures kept { AreKept (column * parts.now.x.now.height) new.old new.new }
-    ensures halves { IfSome result (λ h. IsTrue h → AreHalvesTo (column * parts.now.x.now.height) new.old →
-        AreHalvesTo (column * parts.now.x.now.height + parts.now.x.now.height) new.new) }
+    ensures size { IfSome result (λ s.
+        IsColumnOf s parts.now.x.now.height column parts.now.x.now.height new.new) }
 {
     if column != parts.x.column {
         return other_column(cells, parts, new, column, &scale.divisor);
     }
     if is_one(scale.factor) {
-        same_own_column(parts, new);
-        return Some(stay_halves(parts.halves, parts.u));
+        return Some(same_own_column(parts, new));
     }
-    own_column(parts, new, scale.factor)
+    if own_column(parts, new, scale.factor) {
+        Some(Size::Words)
+    } else {
+        None
+    }
 }

@@ -2,13 +2,13 @@
 ghost use Rattle.std.specs.Option.{IfSome};
 ghost use Rattle.std.specs.Prelude.{◌≡◌, ◌<◌, ◌*◌, ◌+◌, IsTrue, length};
 ghost use Rattle.columns.specs.Cells.{IsTableAfter};
-ghost use Rattle.columns.specs.HalfCells.{AreHalvesTo};
+ghost use Rattle.columns.specs.Sizes.{AreOf};
 ghost use Rattle.columns.specs.Steps.{AreWordParts, IsScale, IsColumnDone};
 
-use crate::cells::both;
 use crate::column::write_column;
 use crate::parts::{Parts, Scale, Written};
 use crate::rescale::shrink_scale;
+use crate::size::{Size, common_size};
 use words::{Word, WordDivisor, product};
 
 // The new cells of a column; where the divisor does not divide it, it shrinks, and the columns before grow. Whether
@@ -27,14 +27,13 @@ fn exchange_column(
     ensures done { IsTrue result →
         IsColumnDone cells.now parts.now column scale.old.divisor scale.new.divisor new.old new.new }
     ensures scale { IsTrue result → IsScale parts.now.x.now scale.new.divisor scale.new.factor }
-    ensures halves { IsTrue result → IsTrue scale.new.halves →
-        IsTrue scale.old.halves × (AreHalvesTo (column * parts.now.x.now.height) new.old →
-        AreHalvesTo (column * parts.now.x.now.height + parts.now.x.now.height) new.new) }
+    ensures size { IsTrue result → AreOf scale.old.size (column * parts.now.x.now.height) new.old →
+        AreOf scale.new.size (column * parts.now.x.now.height + parts.now.x.now.height) new.new }
 {
     // each time that it shrinks, the divisor is half as large at most
     'tries: for _ in 0..64 {
-        if let Some(halves) = write_column(cells, parts, new, column, scale) {
-            scale.halves = both(scale.halves, halves);
+        if let Some(size) = write_column(cells, parts, new, column, scale) {
+            scale.size = common_size(scale.size, size);
             return true;
         }
         if column == parts.x.column {
@@ -56,15 +55,15 @@ pub(crate) fn exchange_into(
     requires parts { AreWordParts cells.now parts.now }
     requires room { length new.old ≡ parts.now.x.now.width * parts.now.x.now.height }
     ensures written { IfSome result (λ w. IsTableAfter parts.now.x.now cells.now w.denominator new.new) }
-    ensures halves { IfSome result (λ w. IsTrue w.halves →
-        AreHalvesTo (parts.now.x.now.width * parts.now.x.now.height) new.new) }
+    ensures size { IfSome result (λ w.
+        AreOf w.size (parts.now.x.now.width * parts.now.x.now.height) new.new) }
 {
     let d = Word::of(parts.x.denominator)?;
     let divisor = WordDivisor::new(d);
     let mut scale = Scale {
         divisor,
         factor: Word::ONE,
-        halves: true,
+        size: Size::Small,
     };
     'columns: for j in 0..parts.x.width {
         if !exchange_column(cells, parts, new, j, &mut scale) {
@@ -74,6 +73,6 @@ pub(crate) fn exchange_into(
     let denominator = product(parts.p, scale.factor)?;
     Some(Written {
         denominator,
-        halves: scale.halves,
+        size: scale.size,
     })
 }

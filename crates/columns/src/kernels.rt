@@ -1,7 +1,10 @@
 //! The inner loops: the new cells of one column, over one divisor.
-ghost use Rattle.std.specs.Prelude.{◌≤◌, ◌*◌, ◌+◌, IsTrue};
+ghost use Rattle.std.specs.Prelude.{◌≤◌, ◌*◌, ℤ, IsTrue};
+ghost use Rattle.poly_num.specs.Halves.{IsHalf};
+ghost use Rattle.words.specs.Small.{IsSmall};
 ghost use Rattle.columns.specs.Cells.{cell_at};
-ghost use Rattle.columns.specs.HalfCells.{AreHalvesTo};
+ghost use Rattle.columns.specs.Sizes.{IsOf, IsColumnOf};
+ghost use Rattle.columns.specs.declared.size.Size.TheVariants.{Halves, Small};
 ghost use Rattle.columns.specs.Steps.{AreWordParts, IsOtherColumn, AreHalfFactors, IsColumnWritten, AreKept};
 
 use crate::exchange::{at_place, word_at};
@@ -50,14 +53,13 @@ pub(crate) fn half_column(
 ) -> usize
     requires parts { AreWordParts cells.now parts.now }
     requires inside { IsOtherColumn parts.now.x.now column new.old }
-    requires halves { IsTrue parts.now.halves }
+    requires halves { (z : ℤ) → IsOf parts.now.size z → IsHalf z }
     requires factors { AreHalfFactors parts.now.p
         (cell_at parts.now.x.now.height cells.now parts.now.x.now.row column) half_divisor.now }
     ensures count { result ≤ parts.now.x.now.height }
     ensures written { IsColumnWritten cells.now parts.now column result half_divisor.now new.new }
     ensures kept { AreKept (column * parts.now.x.now.height) new.old new.new }
-    ensures halves { AreHalvesTo (column * parts.now.x.now.height) new.old →
-        AreHalvesTo (column * parts.now.x.now.height + result) new.new }
+    ensures halves { IsColumnOf Halves parts.now.x.now.height column result new.new }
 {
     let own = parts.own;
     let b = word_at(cells, parts.x, parts.x.row, column);
@@ -74,4 +76,28 @@ pub(crate) fn half_column(
         }
     }
     height
+}
+
+// The new cells of a column where all that it takes is small; whether they are written and are small too.
+pub(crate) fn small_column(
+    cells: &[Word],
+    parts: &Parts<Word>,
+    new: &mut [Word],
+    column: usize,
+    divisor: &WordDivisor,
+) -> bool
+    requires parts { AreWordParts cells.now parts.now }
+    requires inside { IsOtherColumn parts.now.x.now column new.old }
+    requires small { (z : ℤ) → IsOf parts.now.size z → IsSmall z }
+    ensures written { IsTrue result →
+        IsColumnWritten cells.now parts.now column parts.now.x.now.height divisor.now new.new }
+    ensures kept { AreKept (column * parts.now.x.now.height) new.old new.new }
+    ensures small { IsTrue result → IsColumnOf Small parts.now.x.now.height column parts.now.x.now.height new.new }
+{
+    let b = word_at(cells, parts.x, parts.x.row, column);
+    let base = column * parts.x.height;
+    match divisor.small_cross(parts.p, b) {
+        Some(cross) => cross.write(cells, parts.own, new, base),
+        None => false,
+    }
 }

@@ -10,6 +10,7 @@ mod kernels;
 mod multiplier;
 mod parts;
 mod rescale;
+mod size;
 mod slices;
 mod table;
 #[cfg(test)]
@@ -20,5 +21,5 @@ mod wide_kernel;
 
 pub use cells::Cells;
 pub use exchange::{Exchange, Passing, Spot};
-pub use slices::Column;
+pub use slices::{Column, WordCells};
 pub use table::exchange_cells;

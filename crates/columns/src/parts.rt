@@ -1,6 +1,7 @@
 //! What an exchange takes, and what its new cells are over.
 use crate::exchange::Exchange;
 use crate::multiplier::WideDivisor;
+use crate::size::Size;
 use poly_num::Num;
 use words::{Word, WordDivisor};
 
@@ -15,8 +16,8 @@ pub struct Factors {
 }
 
 /// What the new cells are made of, beside the cells of the table: the factors of the exchange, two of them as the type
-/// that the cells have; its column over the common factor with the sign; and whether the cells and that column are
-/// known to fit half a machine word.
+/// that the cells have; its column over the common factor with the sign; and the size that the cells and that column
+/// are known to have.
 #[derive(Clone, Copy)]
 pub struct Parts<'a, T> {
     pub x: &'a Exchange,
@@ -24,16 +25,16 @@ pub struct Parts<'a, T> {
     pub own: &'a [T],
     pub p: T,
     pub u: T,
-    pub halves: bool,
+    pub size: Size,
 }
 
-/// What the new words are over: the divisor, which with the factor is the denominator; and whether the words that are
-/// written are known to fit half a machine word.
+/// What the new words are over: the divisor, which with the factor is the denominator; and the size that the words
+/// which are written are known to have.
 #[derive(Drop)]
 pub struct Scale {
     pub divisor: WordDivisor,
     pub factor: Word,
-    pub halves: bool,
+    pub size: Size,
 }
 
 /// What the new wide numbers are over: the divisor, which with the factor is the denominator.
@@ -43,9 +44,9 @@ pub struct WideScale {
     pub factor: Num,
 }
 
-/// The new denominator, and whether all new words are known to fit half a machine word.
+/// The new denominator, and the size that all new words are known to have.
 #[derive(Clone, Copy)]
 pub struct Written {
     pub denominator: Word,
-    pub halves: bool,
+    pub size: Size,
 }

@@ -1,13 +1,13 @@
 //! Where the divisor does not divide a column of words: it shrinks, and the columns before grow.
 ghost use Rattle.std.specs.Option.{IfSome};
-ghost use Rattle.std.specs.Prelude.{◌≡◌, ◌≢◌, ◌<◌, ◌*◌, ◌+◌, IsTrue, length};
-ghost use Rattle.columns.specs.HalfCells.{AreHalvesTo};
+ghost use Rattle.std.specs.Prelude.{◌≡◌, ◌≢◌, ◌<◌, ◌*◌, ◌+◌, ℤ, IsTrue, length};
+ghost use Rattle.columns.specs.Sizes.{IsOf};
 ghost use Rattle.columns.specs.Steps.{AreWordParts, IsOtherColumn, IsScale, IsNumerator, IsLeftOfRow, IsLeftOfColumn, IsShrunk, IsScaled};
 
-use crate::cells::{both, stay_halves};
 use crate::common::shrink;
 use crate::exchange::{Exchange, at_place, word_at};
 use crate::parts::{Parts, Scale};
+use crate::size::Size;
 use poly_num::{Num, quotient};
 use words::{Word, WordDivisor, product, wide_cross};
 
@@ -83,26 +83,21 @@ fn left_of_words(
     None
 }
 
-// The words of the columns before a column times a factor, where all fit: whether all are halves; else they are lost.
-fn scale_words(new: &mut [Word], x: &Exchange, column: usize, factor: Word) -> Option<bool>
+// The words of the columns before a column times a factor, where all fit; else they are lost. Whether all fit.
+fn scale_words(new: &mut [Word], x: &Exchange, column: usize, factor: Word) -> bool
     requires room { length new.old ≡ x.now.width * x.now.height }
     requires within { column < x.now.width }
     ensures length { length new.new ≡ length new.old }
-    ensures scaled { IfSome result (λ h. IsScaled (column * x.now.height) factor new.old new.new) }
-    ensures halves { IfSome result (λ h. IsTrue h → AreHalvesTo (column * x.now.height) new.new) }
+    ensures scaled { IsTrue result → IsScaled (column * x.now.height) factor new.old new.new }
 {
-    let mut halves = true;
     // new(k) = new(k) factor
     'cells: for k in 0..column * x.height {
         match product(at_place(new, k), factor) {
-            Some(z) => {
-                halves = stay_halves(halves, z);
-                new[k] = z;
-            }
-            None => return None,
+            Some(z) => new[k] = z,
+            None => return false,
         }
     }
-    Some(halves)
+    true
 }
 
 // Makes the divisor what is left of it where it is to divide another row of a column, and the columns before grow.
@@ -122,8 +117,7 @@ pub(crate) fn shrink_scale(
     ensures shrunk { IsTrue result →
         IsShrunk cells.now parts.now column shrinking.old.divisor shrinking.new.divisor new.old new.new }
     ensures scale { IsTrue result → IsScale parts.now.x.now shrinking.new.divisor shrinking.new.factor }
-    ensures halves { IsTrue result → IsTrue shrinking.new.halves →
-        IsTrue shrinking.old.halves × AreHalvesTo (column * parts.now.x.now.height) new.new }
+    ensures size { IsTrue result → (z : ℤ) → IsOf shrinking.new.size z }
 {
     let g = shrinking.divisor.word();
     let Some(less) = left_of_words(cells, parts, column, &shrinking.divisor) else {
@@ -135,13 +129,13 @@ pub(crate) fn shrink_scale(
     let Some(grown) = product(shrinking.factor, k) else {
         return false;
     };
-    let Some(before) = scale_words(new, parts.x, column, k) else {
+    if !scale_words(new, parts.x, column, k) {
         return false;
-    };
+    }
     *shrinking = Scale {
         divisor: less,
         factor: grown,
-        halves: both(shrinking.halves, before),
+        size: Size::Words,
     };
     true
 }

@@ -1,6 +1,7 @@
-//! One column of cells as it lies there, in words or in wide numbers.
+//! Cells as they lie: one column, in words or in wide numbers, and all of them where they are words.
 ghost use Rattle.std.specs.Prelude.{◌≡◌, ◌≢◌, ◌<◌, ◌↔◌, ◌<ℤ◌, IsTrue, pos, length};
 ghost use Rattle.std.specs.List.{slice_index_or};
+ghost use Rattle.poly_num.specs.Numbers.{IsWord};
 
 use crate::exchange::{at_place, number_at};
 use poly_num::Num;
@@ -72,5 +73,40 @@ impl<'a> Column<'a> {
         ensures { IsTrue result ↔ (slice_index_or self.now i (pos 0) <ℤ pos 0) }
     {
         self.at(i).get() < 0
+    }
+}
+
+/// All cells of a table where they are words, one column after the other, which contracts see as a list of whole numbers.
+/// They are read where they lie.
+#[derive(Drop)]
+pub struct WordCells<'a> {
+    pub(crate) cells: &'a [Word],
+}
+
+impl<'a> Model for WordCells<'a> {
+    ghost use Rattle.std.specs.Prelude.{ℤ, List};
+
+    ghost Value = { List ℤ };
+
+    ghost view = { λ c. c.cells.now };
+}
+
+impl<'a> WordCells<'a> {
+    /// How many there are.
+    #[inline(always)]
+    pub fn len(&self) -> usize
+        ensures { result ≡ length self.now }
+    {
+        self.cells.len()
+    }
+
+    /// The cell at a place.
+    #[inline(always)]
+    pub fn at(&self, place: usize) -> i64
+        requires { place < length self.now }
+        ensures value { result ≡ slice_index_or self.now place (pos 0) }
+        ensures word { IsWord result }
+    {
+        at_place(self.cells, place).wide().get() as i64
     }
 }

@@ -4,11 +4,12 @@ ghost use Rattle.std.specs.Prelude.{◌≡◌, ◌*◌, IfOk, IfErr, length};
 ghost use Rattle.columns.specs.Cells.{AllowsExchange, IsTableAfter, ExchangePasses};
 ghost use Rattle.columns.specs.Steps.{AreFactors, AreWordParts};
 
-use crate::cells::{Cells, are_halves, stay_halves};
+use crate::cells::Cells;
 use crate::common::{factors_of, own_of, wide_own_of};
 use crate::exchange::{Exchange, Passing, at_place};
 use crate::into::exchange_into;
 use crate::parts::{Factors, Parts};
+use crate::size::{Size, common_size, size_of, size_of_all};
 use crate::wide::wide_into;
 use poly_num::Num;
 use words::Word;
@@ -59,20 +60,20 @@ impl Cells {
             return None;
         }
         own.is_wide = false;
-        own.halves = false;
+        own.size = Size::Words;
         if !own_of(&self.words, &mut own.words, x, factors) {
             return None;
         }
         let p = Word::of(factors.p)?;
         let u = Word::of(factors.u)?;
-        let halves = stay_halves(self.halves, at_place(&own.words, x.row));
+        let size = common_size(self.size, size_of(at_place(&own.words, x.row)));
         let parts = Parts {
             x,
             factors,
             own: &own.words,
             p,
             u,
-            halves,
+            size,
         };
         new.write_words(&self.words, &parts)
     }
@@ -85,10 +86,10 @@ impl Cells {
         ensures room { length self.new ≡ length self.old }
     {
         self.is_wide = false;
-        self.halves = false;
+        self.size = Size::Words;
         match exchange_into(cells, parts, &mut self.words) {
             Some(written) => {
-                self.halves = written.halves || are_halves(&self.words);
+                self.size = size_of_all(written.size, &self.words);
                 Some(written.denominator.wide())
             }
             None => None,
@@ -121,7 +122,7 @@ impl Cells {
             own: &own.wide,
             p: factors.p,
             u: factors.u,
-            halves: false,
+            size: Size::Words,
         };
         wide_into(self, &parts, &mut new.wide)
     }

@@ -1,6 +1,7 @@
 //! Tables of two columns of three cells, exchanged to and fro, against tables worked out by hand.
 ghost use Rattle.std.specs.Prelude.{◌≡◌, ◌↔◌, IfOk, IsTrue, length, pos};
 
+use crate::size::Size;
 use crate::{Cells, Exchange, Passing, Spot, exchange_cells};
 use poly_num::Num;
 use std::alloc::{AllocError, Global};
@@ -78,9 +79,10 @@ fn exchanged(
     }
 }
 
-/// How the cells are kept; words that are known to be halves are told apart.
+/// How the cells are kept; words that are known to be small or halves are told apart.
 #[derive(Clone, Copy, PartialEq, Eq, Debug)]
 enum Form {
+    Small,
     Halves,
     Words,
     Wide,
@@ -88,11 +90,12 @@ enum Form {
 
 fn form_of(cells: &Cells) -> Form {
     if cells.is_wide {
-        Form::Wide
-    } else if cells.halves {
-        Form::Halves
-    } else {
-        Form::Words
+        return Form::Wide;
+    }
+    match cells.size {
+        Size::Small => Form::Small,
+        Size::Halves => Form::Halves,
+        Size::Words => Form::Words,
     }
 }
 
@@ -152,26 +155,44 @@ struct Case {
     form_again: Form,
 }
 
-fn cases() -> [Case; 6] {
+fn cases() -> [Case; 8] {
     let (a, b, c, most) = (1 << 30, 1 << 40, 1 << 50, i128::MAX);
     [
         Case {
-            name: "halves",
+            name: "small",
             cells: [3, 4, 1, 5, 6, -3],
             denominator: 2,
             new: [3, 2, 1, 1, -6, -9],
             next: 4,
+            form: Form::Small,
+            form_again: Form::Small,
+        },
+        Case {
+            name: "one cell just too large to be small",
+            cells: [1, 1, 1, (1 << 14) - 1, -1, 0],
+            denominator: 1,
+            new: [1, 1, 1, 1 << 14, 1, 1],
+            next: 1,
+            form: Form::Halves,
+            form_again: Form::Small,
+        },
+        Case {
+            name: "halves",
+            cells: [1, 1, 2, 1 << 20, 3, 1 << 14],
+            denominator: 1,
+            new: [1, 1, 2, (1 << 20) - 3, -3, (1 << 14) - 6],
+            next: 1,
             form: Form::Halves,
             form_again: Form::Halves,
         },
         Case {
-            name: "the divisor shrinks, the signs are turned, and halves are found again",
+            name: "the divisor shrinks, the signs are turned, and it is found again that all are small",
             cells: [5, -4, 3, 7, 1, 2],
             denominator: 6,
             new: [-30, -36, -18, 33, 6, 11],
             next: 24,
-            form: Form::Halves,
-            form_again: Form::Halves,
+            form: Form::Small,
+            form_again: Form::Small,
         },
         Case {
             name: "words",
@@ -385,7 +406,7 @@ fn second_of(alloc: Global, cells: [i128; 6]) -> Result<Read, AllocError> {
 #[test]
 fn reads_a_column_in_words_and_in_wide_numbers(rt: HostRuntime) -> Result<(), Fail> {
     let (words, wide) = ([1, 2, 3, -4, 0, 6], [1, 2, 1 << 100, -4, 0, 6]);
-    for (cells, form) in [(words, Form::Halves), (wide, Form::Wide)] {
+    for (cells, form) in [(words, Form::Small), (wide, Form::Wide)] {
         let want = Read {
             form,
             cells: [-4, 0, 6],

@@ -1,5 +1,5 @@
 -- What a search begins with is one at the root.
-use Rattle.std.proofs.Common.{◌≡◌, ℕ, ◌≤◌, List, ◌∷◌, length, refl, sym, subst, None, arith}
+use Rattle.std.proofs.Common.{◌≡◌, ℕ, ◌≤◌, List, [], ◌∷◌, length, refl, sym, subst, arith}
 use Rattle.poly_num.specs.Vectors.{Vector}
 use Rattle.poly_model.specs.Spaces.{Space, main_space}
 use Rattle.poly_model.specs.Dictionaries.{IsDictionary}
@@ -38,7 +38,7 @@ is_root_of p lines free start x root d found = record {
 -- ---- the walk
 -- a walk that begins at this dictionary
 abbrev pub walk_at : Dictionary → List ℕ → Walk
-walk_at d root = record { dict = d; root = root; job = d.key; at = 0; parent = None }
+walk_at d root = record { dict = d; root = root; job = d.key; at = 0; parents = [] }
 
 module _ (p : Polyhedron) (root : List ℕ) (d : Dictionary) (lines : List Vector) (x : IsRootOf p root d lines) where
   abbrev space : Space

@@ -10,6 +10,7 @@ use Rattle.poly_model.specs.PhaseOne.{IsSearchRoot}
 use Rattle.poly_model.specs.Systems.{System, Polyhedron, cone_of}
 use Rattle.search_laws.specs.SharesOfListings.{IsSubtreeWeight}
 use Rattle.poly_io.specs.Written.{AppendsPart}
+use Rattle.dictionary.specs.Views.{Dictionary, overflow_of}
 use Rattle.reverse_step.specs.declared.walker.Visit.{Visit}
 use Rattle.reverse_step.specs.declared.walker.Visit.TheVariants.{New, Back, End}
 use Rattle.reverse_step.specs.Walks.{Walk}
@@ -18,6 +19,8 @@ use Rattle.reverse_step.specs.Children.{StopsWalk}
 use Rattle.row_printer.specs.declared.shown.Shown.{Shown}
 use Rattle.row_printer.specs.declared.tally.Tally.{Tally}
 use Rattle.row_printer.specs.Rows.{HasWritten}
+use Rattle.convert_core.specs.declared.walk.StepStop.{StepStop}
+use Rattle.convert_core.specs.declared.walk.StepStop.TheVariants.{Passing, WriteFault as Unwritten}
 use Rattle.convert_core.specs.declared.walk.Ended.{Ended}
 use Rattle.convert_core.specs.declared.walk.Ended.TheVariants.{Overflow, WriteFault}
 use Rattle.convert_core.specs.Rows.{WritesShown, FailsShown, columns_of}
@@ -44,6 +47,11 @@ EndsStep written faults sys before after s old new (Overflow o) =
     StopsWalk before.dict before.root o × (new ≡ old)
 EndsStep written faults sys before after s old new WriteFault =
     IsVisit before New after × FailsShown written faults sys after.root after.dict (columns_of after.dict) s old new
+
+-- why a walk ends where a step was not carried out: products that pass are those of this dictionary
+abbrev pub ended_by : Dictionary → StepStop → Ended
+ended_by d (Passing products) = Overflow (overflow_of d products)
+ended_by d Unwritten = WriteFault
 
 -- ---- all steps
 -- the rows of all extreme vectors were written, each once; at Err first bytes of those of some

@@ -5,12 +5,12 @@ ghost use Rattle.poly_model.specs.declared.overflow.Overflow.{Overflow as Passed
 ghost use Rattle.poly_model.specs.Due.{IsDue, IsAskedInMain};
 ghost use Rattle.convert_core.specs.Rows.{ShowsColumns, columns_of};
 ghost use Rattle.convert_core.specs.Searches.{IsSearch, IsAtRoot};
-ghost use Rattle.convert_core.specs.Listed.{WritesStep, EndsStep, ListsRows, TakesSteps};
+ghost use Rattle.convert_core.specs.Listed.{WritesStep, EndsStep, ListsRows, TakesSteps, ended_by};
 
 use crate::rows::{Basis, show_columns};
 use crate::search::Search;
 use countdown::Countdown;
-use dictionary::Steps;
+use dictionary::{PassingProducts, Steps};
 use poly_io::{Sink, WriteFault};
 use poly_model::Overflow;
 use reverse_step::Visit;
@@ -21,6 +21,13 @@ use std::sync::ledger::Ledger;
 #[derive(Clone, Copy, PartialEq, Eq, Debug)]
 pub(crate) enum Ended {
     Overflow(Overflow),
+    WriteFault,
+}
+
+/// Why a step was not carried out: products of its pivot would pass 127 bits, or a row could not be written.
+#[derive(Clone, Copy, PartialEq, Eq, Debug)]
+pub(crate) enum StepStop {
+    Passing(PassingProducts),
     WriteFault,
 }
 
@@ -42,11 +49,17 @@ pub(crate) fn list_rows<S: Sink, L: Ledger>(
         IsDue search.old.poly.now o (IsAskedInMain search.old.poly.now search.old.walker.root o) }
     ensures cost { TakesSteps search.old.poly.now steps.old steps.new }
 {
-    let mut shown = show(search, shown, out)?;
+    let mut shown = match show(search, shown, out) {
+        Ok(shown) => shown,
+        Err(WriteFault) => return Err(Ended::WriteFault),
+    };
     let mut left = Countdown::full();
     'steps: loop {
         left.lower();
-        let (visit, next) = step(search, shown, out, steps)?;
+        let (visit, next) = match step(search, shown, out, steps) {
+            Ok(done) => done,
+            Err(stop) => return Err(ended_by(search, stop)),
+        };
         shown = next;
         if visit.is_end() {
             return Ok(shown);
@@ -60,13 +73,13 @@ fn step<S: Sink, L: Ledger>(
     shown: Shown,
     out: &mut S,
     steps: &mut Steps<L>,
-) -> Result<(Visit, Shown), Ended>
+) -> Result<(Visit, Shown), StepStop>
     requires search { IsSearch search.old.poly.now search.old.cone search.old.rays search.old.walker
         search.old.vector.items }
     ensures step { IfOk result (λ r. WritesStep S.written S.faults search.old.cone search.old.walker r.0 search.new.walker
         shown out.old r.1 out.new) }
     ensures ends { IfErr result (λ e. EndsStep S.written S.faults search.old.cone search.old.walker search.new.walker
-        shown out.old out.new e) }
+        shown out.old out.new (ended_by search.new.walker.dict e)) }
     ensures counted { steps.new ≤ steps.old + 1 }
     ensures poly { search.new.poly.now ≡ search.old.poly.now }
     ensures cone { search.new.cone ≡ search.old.cone }
@@ -74,20 +87,32 @@ fn step<S: Sink, L: Ledger>(
     ensures width { length search.new.vector.items ≡ length search.old.vector.items }
 {
     match search.walker.next(steps) {
-        Ok(Visit::New) => Ok((Visit::New, show(search, shown, out)?)),
+        Ok(Visit::New) => match show(search, shown, out) {
+            Ok(next) => Ok((Visit::New, next)),
+            Err(WriteFault) => Err(StepStop::WriteFault),
+        },
         Ok(Visit::Back) => Ok((Visit::Back, shown)),
         Ok(Visit::End) => Ok((Visit::End, shown)),
-        Err(overflow) => Err(Ended::Overflow(overflow)),
+        Err(products) => Err(StepStop::Passing(products)),
+    }
+}
+
+// Why the walk ended, where a step was not carried out: products that pass are those of the dictionary where it stands.
+fn ended_by(search: &Search, stop: StepStop) -> Ended
+    ensures { result ≡ ended_by search.now.walker.dict stop }
+{
+    match stop {
+        StepStop::Passing(products) => Ended::Overflow(search.walker.dict().overflow(products)),
+        StepStop::WriteFault => Ended::WriteFault,
     }
 }
 
 // Prints the rows that are shown where the walk stands.
-fn show<S: Sink>(search: &mut Search, shown: Shown, out: &mut S) -> Result<Shown, Ended>
+fn show<S: Sink>(search: &mut Search, shown: Shown, out: &mut S) -> Result<Shown, WriteFault>
     requires search { IsSearch search.old.poly.now search.old.cone search.old.rays search.old.walker
         search.old.vector.items }
     ensures shows { ShowsColumns S.written S.faults search.old.cone search.old.walker.root search.old.walker.dict
         (columns_of search.old.walker.dict) shown out.old out.new result }
-    ensures fault { IfErr result (λ e. e ≡ Ended.WriteFault) }
     ensures poly { search.new.poly.now ≡ search.old.poly.now }
     ensures cone { search.new.cone ≡ search.old.cone }
     ensures rays { search.new.rays ≡ search.old.rays }
@@ -101,8 +126,5 @@ fn show<S: Sink>(search: &mut Search, shown: Shown, out: &mut S) -> Result<Shown
         order: search.walker.order(),
         leads: search.walker.leads(),
     };
-    match show_columns(&at, &mut search.vector, shown, out) {
-        Ok(shown) => Ok(shown),
-        Err(WriteFault) => Err(Ended::WriteFault),
-    }
+    show_columns(&at, &mut search.vector, shown, out)
 }

@@ -1,5 +1,5 @@
 -- Positions of labels: what writing them gives, and what they say of a dictionary.
-use Rattle.std.proofs.Common.{◌≡◌, ◌≢◌, ℕ, zero, suc, ◌+◌, ◌<◌, ◌≤◌, List, length, get_or, set, pos, arith, refl, sym, ap, subst, ◌∙◌, ⊎_elim}
+use Rattle.std.proofs.Common.{◌≡◌, ◌≢◌, ℕ, ℤ, zero, suc, ◌+◌, ◌<◌, ◌≤◌, List, length, get_or, set, pos, arith, refl, sym, ap, subst, ◌∙◌, ⊎_elim}
 use Rattle.std.specs.List.{Contains}
 use Rattle.std.proofs.lemmas.Bool.{cases_eq}
 use Rattle.std.proofs.lemmas.Nat.{mul-add-lt}
@@ -12,7 +12,7 @@ use Rattle.columns.specs.Cells.{place as at_row, cell_at}
 use Rattle.dictionary.specs.declared.positions.Position.{Position}
 use Rattle.dictionary.specs.declared.positions.Position.TheVariants.{Row, Column}
 use Rattle.dictionary.specs.Views.{Dictionary, IsWhole, number}
-use Rattle.dictionary.specs.Positions.{label_count, index_of, position_at, StandsInRow, StandsInColumn, IsPosition, StandOnce, AreBelow, ArePositions}
+use Rattle.dictionary.specs.Positions.{label_count, index_of, position_at, StandsInRow, StandsInColumn, IsPosition, StandOnce, AreBelow, ArePositions, AreCells}
 use Rattle.dictionary.proofs.Numbers.{own_number, other_number, row_number}
 use Rattle.dictionary.proofs.PlaceLemmas.{place_at, place_within, at_place, one_at_place}
 
@@ -134,3 +134,10 @@ module _ (d : Dictionary) (whole : IsWhole d) where
         outside = λ k. (whole.row_back (get_or d.rows i 0) (Contains-get_or d.rows i 0 l)).1
             (whole.same.there (get_or d.rows i 0) k);
       }))
+
+  -- the numbers of all cells
+  pub are_cells : (cells : List ℤ) → cells ≡ d.cells → AreCells d cells
+  are_cells cells e = record {
+    within = λ i j l m. subst (λ (zs : List ℤ). at_row (length d.rows) i j < length zs) (sym e) (cell_within i j l m);
+    numbers = λ i j l m. ap (λ (zs : List ℤ). cell_at (length d.rows) zs i j) e ∙ cell_is_number i j l;
+  }

@@ -3,6 +3,7 @@ use Rattle.std.specs.Prelude.{◌≡◌, ◌≢◌, ℕ, suc, ◌<◌, ◌≤◌
 use Rattle.std.specs.List.{Contains, slice_index_or}
 use Rattle.poly_model.specs.Labels.{coordinates_from}
 use Rattle.poly_model.specs.Limits.{most_columns}
+use Rattle.columns.specs.Cells.{place}
 use Rattle.linear_laws.specs.Distinct.{AreDistinct}
 use Rattle.dictionary_laws.specs.Keys.{place_in}
 use Rattle.dictionary.specs.declared.positions.Position.{Position}
@@ -71,6 +72,12 @@ pub record IsCellColumn (d : Dictionary) (j : ℕ) (cells : List ℤ) : Type 0 w
   pub height : length cells ≡ length d.rows
   pub numbers : (i : ℕ) → i < length d.rows →
       slice_index_or cells i (pos 0) ≡ number d (slice_index_or d.rows i 0) j
+
+-- all cells, one column after the other: so many are there, and which number stands where
+pub record AreCells (d : Dictionary) (cells : List ℤ) : Type 0 where
+  pub within : (i j : ℕ) → i < length d.rows → j < suc (length d.columns) → place (length d.rows) i j < length cells
+  pub numbers : (i j : ℕ) → i < length d.rows → j < suc (length d.columns) →
+      slice_index_or cells (place (length d.rows) i j) (pos 0) ≡ number d (slice_index_or d.rows i 0) j
 
 -- from place n on, the numbers of these labels are 0 in column j
 abbrev pub AreZeroFrom : Dictionary → List ℕ → ℕ → ℕ → Type 0

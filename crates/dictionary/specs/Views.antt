@@ -13,6 +13,7 @@ use Rattle.dictionary_laws.specs.Keys.{place_in, HaveSameLabels}
 use Rattle.dictionary_laws.specs.Laws.{IsExchangedKey}
 use Rattle.columns.specs.declared.exchange.Exchange.{Exchange}
 use Rattle.columns.specs.Cells.{cell_at}
+use Rattle.dictionary.specs.declared.passing.PassingProducts.{PassingProducts}
 
 -- the labels of a phase over a cobasis: for each label outside the cobasis a row of cells, a constant and an entry for
 -- each label of the cobasis
@@ -73,6 +74,10 @@ pub record IsOverflow (d : Dictionary) (r s : ℕ) (o : Overflow) : Type 0 where
   pub phase : o.phase ≡ d.phase
   pub key : o.key ≡ d.key
   pub passes : IsPassing d.labels d.key (table_of d) r s o
+
+-- the overflow of products that a pivot at d needs
+abbrev pub overflow_of : Dictionary → PassingProducts → Overflow
+overflow_of d p = record { phase = d.phase; key = d.key; a = p.a; b = p.b; c = p.c; d = p.d }
 
 -- no product and no difference passes
 abbrev pub NothingPasses : Dictionary → ℕ → ℕ → Type 0

@@ -1,5 +1,5 @@
 //! The dictionary of a cobasis in one table by columns.
-ghost use Rattle.std.specs.Prelude.{◌≡◌, ◌≢◌, ◌<◌, ◌<ℤ◌, ◌↔◌, IsTrue, ℕ, suc, pos, IfOk, length};
+ghost use Rattle.std.specs.Prelude.{◌≡◌, ◌≢◌, ◌<◌, ◌<ℤ◌, ◌↔◌, IsTrue, ℕ, suc, pos, IfOk, IfSome, length};
 ghost use Rattle.std.specs.List.{Contains};
 ghost use Rattle.poly_model.specs.Dictionaries.{Table};
 ghost use Rattle.poly_model.specs.Keys.{IsAscending};
@@ -7,13 +7,13 @@ ghost use Rattle.linear_laws.specs.Distinct.{AreDistinct};
 ghost use Rattle.dictionary_laws.specs.Keys.{place_in, HaveSameLabels};
 ghost use Rattle.dictionary.specs.Cobases.{HasUnits, AreOutside};
 ghost use Rattle.dictionary.specs.Views.{number, table_of};
-ghost use Rattle.dictionary.specs.Positions.{IsPosition, IsCellColumn};
+ghost use Rattle.dictionary.specs.Positions.{IsPosition, IsCellColumn, AreCells};
 
 use crate::places::copied;
 use crate::positions::{
     Position, is_in_column, is_in_row, position_at, positions_of, write_positions,
 };
-use columns::{Cells, Column};
+use columns::{Cells, Column, WordCells};
 use poly_model::{Key, Label, OutOfMemory, Phase};
 use poly_num::Num;
 use std::marker::Model;
@@ -219,6 +219,15 @@ impl Dict {
         ensures { IsCellColumn self.now j result }
     {
         self.cells.column(self.rows.len(), j)
+    }
+
+    /// All cells as they lie, where they are words: that of row i in column j is at place `j height + i`, where the height is
+    /// the number of rows.
+    #[inline(always)]
+    pub fn word_cells(&self) -> Option<WordCells<'_>>
+        ensures { IfSome result (λ c. AreCells self.now c) }
+    {
+        self.cells.word_cells()
     }
 
     /// The number of a label in column j of the cells, where column 0 has the constants. That of a label of the cobasis is

@@ -8,6 +8,7 @@ mod lead;
 mod main_phase;
 mod new;
 mod overflow;
+mod passing;
 mod pivot;
 mod places;
 mod positions;
@@ -17,5 +18,6 @@ mod steps;
 mod tests;
 
 pub use dict::Dict;
+pub use passing::PassingProducts;
 pub use positions::Position;
 pub use steps::Steps;

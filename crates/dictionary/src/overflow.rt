@@ -1,4 +1,4 @@
-//! Which product of a pivot passes, by its labels.
+//! Which products of a pivot pass, by their labels.
 ghost use Rattle.std.specs.Prelude.{◌≡◌, ◌≢◌, ◌<◌, ◌*ℤ◌, ℕ, suc, length};
 ghost use Rattle.std.specs.List.{Contains, slice_index_or};
 ghost use Rattle.poly_num.specs.Numbers.{IsNum, Crosses};
@@ -6,9 +6,9 @@ ghost use Rattle.poly_model.specs.Dictionaries.{Table};
 ghost use Rattle.poly_model.specs.Overflows.{IsPlace};
 ghost use Rattle.dictionary_laws.specs.Keys.{place_in};
 ghost use Rattle.columns.specs.Cells.{CellPasses, ExchangePasses};
-ghost use Rattle.dictionary.specs.Views.{exchange_at, column_label, number, table_of, CanPivot, IsOverflow};
+ghost use Rattle.dictionary.specs.Views.{exchange_at, column_label, number, table_of, CanPivot, IsOverflow, overflow_of};
 
-use crate::Dict;
+use crate::{Dict, PassingProducts};
 use columns::{Passing, Spot};
 use poly_model::{Label, Overflow, Place};
 
@@ -19,31 +19,45 @@ fn place(row: Label, col: Label) -> Place
 }
 
 impl Dict {
-    // The overflow of a pivot where its exchange of cells passes.
-    pub(crate) fn overflow_at(&self, row: Label, col: Label, passing: Passing) -> Overflow
+    /// The overflow of a pivot of this dictionary that was refused, by the products that pass there.
+    pub fn overflow(&self, products: PassingProducts) -> Overflow
+        ensures { result ≡ overflow_of self.now products }
+    {
+        Overflow {
+            phase: self.phase,
+            key: self.key,
+            a: products.a,
+            b: products.b,
+            c: products.c,
+            d: products.d,
+        }
+    }
+
+    // The products of a pivot that pass, where its exchange of cells passes.
+    pub(crate) fn products_at(&self, row: Label, col: Label, passing: Passing) -> PassingProducts
         requires can { CanPivot self.now row col }
         requires passes { ExchangePasses (exchange_at self.now row col) self.now.cells passing }
-        ensures { IsOverflow self.now row col result }
+        ensures { IsOverflow self.now row col (overflow_of self.now result) }
     {
         let _ = &self.phase;
         match passing {
-            Passing::Denominator => self.product_overflow(row, col),
-            Passing::Cell(spot) => self.overflow_in(row, col, spot),
+            Passing::Denominator => self.outer_products(row, col),
+            Passing::Cell(spot) => self.products_in(row, col, spot),
         }
     }
 
     // The same at a cell. The exchange's row has the label that leaves the cobasis.
-    fn overflow_in(&self, row: Label, col: Label, spot: Spot) -> Overflow
+    fn products_in(&self, row: Label, col: Label, spot: Spot) -> PassingProducts
         requires can { CanPivot self.now row col }
         requires passes { CellPasses (exchange_at self.now row col) self.now.cells spot.row spot.column }
-        ensures { IsOverflow self.now row col result }
+        ensures { IsOverflow self.now row col (overflow_of self.now result) }
     {
         let _ = &self.phase;
         let label = self.label_after(self.row_of(row), col, spot.row);
         if spot.column == self.column_of(col) {
-            self.product_overflow(label, col)
+            self.outer_products(label, col)
         } else {
-            self.cross_overflow(row, col, label, spot.column)
+            self.inner_products(row, col, label, spot.column)
         }
     }
 
@@ -56,25 +70,25 @@ impl Dict {
         if i == exchanged { other } else { self.rows[i] }
     }
 
-    // The overflow of the product of the entry of `label` and the denominator.
-    fn product_overflow(&self, label: Label, col: Label) -> Overflow
+    // The product of the entry of `label` and the denominator.
+    fn outer_products(&self, label: Label, col: Label) -> PassingProducts
         requires label { Contains self.now.labels label }
         requires column { Contains self.now.key col }
         requires passes { ¬ (IsNum (Table.entry (table_of self.now) label col *ℤ self.now.denominator)) }
-        ensures { (r : ℕ) → IsOverflow self.now r col result }
+        ensures { (r : ℕ) → IsOverflow self.now r col (overflow_of self.now result) }
     {
         let _ = &self.phase;
         // a place cannot be passed twice
-        let at = place(label, col);
-        let own = place(col, col);
-        let same = place(label, col);
-        let denominator = place(col, col);
-        self.overflow(at, own, same, denominator)
+        PassingProducts {
+            a: place(label, col),
+            b: place(col, col),
+            c: place(label, col),
+            d: place(col, col),
+        }
     }
 
-    // The overflow of the products of the entry of `row` and `col` and the number of `label` in a column, and crosswise,
-    // or of their difference.
-    fn cross_overflow(&self, row: Label, col: Label, label: Label, column: usize) -> Overflow
+    // The products of the entry of `row` and `col` and the number of `label` in a column, and crosswise.
+    fn inner_products(&self, row: Label, col: Label, label: Label, column: usize) -> PassingProducts
         requires inside { Contains self.now.key col }
         requires label { Contains self.now.labels label }
         requires other { label ≢ row }
@@ -82,27 +96,15 @@ impl Dict {
         requires apart { column ≢ suc (place_in self.now.columns col) }
         requires passes { ¬ (Crosses (Table.entry (table_of self.now) row col) (number self.now label column)
             (Table.entry (table_of self.now) label col) (number self.now row column)) }
-        ensures { IsOverflow self.now row col result }
+        ensures { IsOverflow self.now row col (overflow_of self.now result) }
     {
         let _ = &self.phase;
         let other = self.column_label(column);
-        let pivot = place(row, col);
-        let inside = place(label, other);
-        let at = place(label, col);
-        let across = place(row, other);
-        self.overflow(pivot, inside, at, across)
-    }
-
-    fn overflow(&self, a: Place, b: Place, c: Place, d: Place) -> Overflow
-        ensures { result ≡ record { phase = self.now.phase; key = self.now.key; a = a; b = b; c = c; d = d } }
-    {
-        Overflow {
-            phase: self.phase,
-            key: self.key,
-            a,
-            b,
-            c,
-            d,
+        PassingProducts {
+            a: place(row, col),
+            b: place(label, other),
+            c: place(label, col),
+            d: place(row, other),
         }
     }
 

@@ -1,11 +1,11 @@
 //! Pivots: a label outside the cobasis takes the place of one inside.
 ghost use Rattle.std.specs.Prelude.{◌≡◌, ◌≢◌, ◌↔◌, ◌+◌, IsTrue, IsOk, IfOk, IfErr, MatchResult, length};
 ghost use Rattle.std.specs.List.{Contains};
-ghost use Rattle.dictionary.specs.Views.{exchange_at, CanPivot, IsPivot, IsOverflow, NothingPasses};
+ghost use Rattle.dictionary.specs.Views.{exchange_at, CanPivot, IsPivot, IsOverflow, NothingPasses, overflow_of};
 
 use crate::places::place_of;
 use crate::positions::{exchange_positions, write_positions};
-use crate::{Dict, Steps};
+use crate::{Dict, PassingProducts, Steps};
 use columns::{Exchange, exchange_cells};
 use poly_model::{Label, Overflow};
 use poly_num::Num;
@@ -55,24 +55,25 @@ impl Dict {
                 exchange_positions(&mut self.positions, col, x.row, row, x.column);
                 Ok(())
             }
-            Err(passing) => Err(self.overflow_at(row, col, passing)),
+            Err(passing) => Err(self.overflow(self.products_at(row, col, passing))),
         }
     }
 
-    /// The same into another dictionary of the same shape, which is written over; this one stays. Takes no memory.
+    /// The same into another dictionary of the same shape, which is written over; this one stays. Where a product or a
+    /// difference of two has no 127 bits, the answer names the places alone. Takes no memory.
     pub fn pivot_into<L: Ledger>(
         &self,
         to: &mut Dict,
         row: Label,
         col: Label,
         steps: &mut Steps<L>,
-    ) -> Result<(), Overflow>
+    ) -> Result<(), PassingProducts>
         requires can { CanPivot self.now row col }
         requires rows { length to.old.labels ≡ length self.now.labels }
         requires columns { length to.old.columns ≡ length self.now.columns }
         ensures pivoted { IfOk result (λ _. IsPivot self.now row col to.new) }
         ensures unchanged { IfErr result (λ _. to.new ≡ to.old) }
-        ensures passes { IfErr result (λ o. IsOverflow self.now row col o) }
+        ensures passes { IfErr result (λ p. IsOverflow self.now row col (overflow_of self.now p)) }
         ensures complete { NothingPasses self.now row col → IsOk result }
         ensures counted { MatchResult result (λ _. steps.new ≡ steps.old + 1) (λ _. steps.new ≡ steps.old) }
     {
@@ -94,7 +95,7 @@ impl Dict {
                 write_positions(&mut to.positions, &to.rows, &to.columns);
                 Ok(())
             }
-            Err(passing) => Err(self.overflow_at(row, col, passing)),
+            Err(passing) => Err(self.products_at(row, col, passing)),
         }
     }
 

@@ -7,3 +7,5 @@ pub mod EnterLemmas
 pub mod ChildLemmas
 pub mod PivotLemmas
 pub mod LeadLemmas
+pub mod NegativeLemmas
+pub mod NeighbourLemmas

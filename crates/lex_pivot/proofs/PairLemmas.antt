@@ -22,7 +22,7 @@ use Rattle.tree_laws.proofs.ListSums.{gaps_of_maps}
 use Rattle.lex_pivot.specs.Earlier.{is_before_root}
 use Rattle.lex_pivot.specs.BeforeRoot.{before_root}
 use Rattle.lex_pivot.specs.Pairs.{ArePair, pair_gaps, constant_gap, gap_at, IsEnd, IsEndAt, IsPastEnd, end_sign}
-use Rattle.lex_pivot.specs.declared.ties.Pair.{Pair}
+use Rattle.lex_pivot.specs.declared.candidates.Pair.{Pair}
 use Rattle.lex_pivot.proofs.EarlierLemmas.{before_has, before_only, row_only, outside_ascending}
 use Rattle.lex_pivot.proofs.SignLemmas.{turned_sign, listed_elsewhere, listed_inside}
 use Rattle.lex_pivot.proofs.FirstSigns.{IsZeroBelow, zero_first, ascending_sign, no_sign, sign_zero}
@@ -46,7 +46,7 @@ own_number key t i k e =
     ap (λ b. cond b t.denominator (cond (is_member k key) (neg_ℤ (t.entry i k)) (pos 0))) (eq-eqb k i e)
 
 -- the numbers at a label of the cobasis, as the code compares them: the lists have minus the entries x and y
-pub gap_inside : (key : List ℕ) (t : Table) (pair : Pair) (k : ℕ) (x y : ℤ) (o : Ordering) → Contains key k →
+pub gap_inside : (key : List ℕ) (t : Table) (pair : Pair ℤ) (k : ℕ) (x y : ℤ) (o : Ordering) → Contains key k →
     k ≢ pair.one.row → k ≢ pair.other.row → x ≡ t.entry pair.one.row k → y ≡ t.entry pair.other.row k →
     o ≡ int_cmp (y *ℤ pair.one.over) (x *ℤ pair.other.over) → o ≡ sign_of (gap_at key t pair k)
 gap_inside key t pair k x y o c m n e f g =
@@ -57,7 +57,7 @@ gap_inside key t pair k x y o c m n e f g =
     (ap neg_ℤ f ∙ sym (listed_inside key t pair.other.row k n c))
 
 -- where the constants are equal the rows outside the root decide, and else the constants
-pub gaps_behind : (d : Dictionary) (root : List ℕ) (pair : Pair) → constant_gap (table_of d) pair ≡ pos 0 →
+pub gaps_behind : (d : Dictionary) (root : List ℕ) (pair : Pair ℤ) → constant_gap (table_of d) pair ≡ pos 0 →
     lex_sign_of (map (gap_at d.key (table_of d) pair) (outside d.labels root)) ≡ lex_sign_of (pair_gaps d root pair)
 gaps_behind d root pair z =
     ap lex_sign_of (sym (gaps_of_maps pair.other.over (listed_at d.key (table_of d) pair.one.row) pair.one.over
@@ -75,7 +75,7 @@ before_at d root labels n k l e =
     (subst (Contains (before_root d root)) (sym e) (Contains-get_or (before_root d root) n 0 l)) in
     (m.0, before_has d.labels root k (labels k m.0) m.1)
 
-module _ (d : Dictionary) (root : List ℕ) (pair : Pair) (two : ArePair d pair) (differ : pair.one.row ≢ pair.other.row)
+module _ (d : Dictionary) (root : List ℕ) (pair : Pair ℤ) (two : ArePair d pair) (differ : pair.one.row ≢ pair.other.row)
     (up : IsAscending d.labels) (key_up : IsAscending d.key) (positive : pos 0 <ℤ d.denominator) where
   elsewhere : (k : ℕ) → (Contains d.key k → ⊥) → k ≢ pair.one.row → k ≢ pair.other.row → gap_at d.key (table_of d) pair k ≡ pos 0
   elsewhere k n a b =
@@ -122,7 +122,7 @@ module _ (d : Dictionary) (root : List ℕ) (pair : Pair) (two : ArePair d pair)
             (below_or (place_in (before_root d root) k) n)
 
     -- at a label of the cobasis
-    pub differs_here : (end : Option ℕ) (k : ℕ) (o : Ordering) → IsEnd root pair end →
+    pub differs_here : (end : Option ℕ) (k : ℕ) (o : Ordering) → IsEnd root pair.one.row pair.other.row end →
         k ≡ get_or (before_root d root) n 0 →
         (IsPastEnd k end → ⊥) → Contains (outside d.labels root) k → o ≢ Equal →
         o ≡ sign_of (gap_at d.key (table_of d) pair k) →
@@ -133,23 +133,23 @@ module _ (d : Dictionary) (root : List ℕ) (pair : Pair) (two : ArePair d pair)
         (zero_below k (λ l. omega arith) (λ j q l. by end is b j (before_only d.labels root j q).1 l))
         (λ z. m (v ∙ sign_zero (gap_at d.key (table_of d) pair k) z)))
       where
-        by : (end : Option ℕ) → IsEnd root pair end → (IsPastEnd k end → ⊥) → (j : ℕ) → is_before_root root j ≡ true →
+        by : (end : Option ℕ) → IsEnd root pair.one.row pair.other.row end → (IsPastEnd k end → ⊥) → (j : ℕ) → is_before_root root j ≡ true →
             j < k → (j ≢ pair.one.row) × (j ≢ pair.other.row)
         by (Some x) is b j t l = (
-          (λ e. is.row (subst (λ z. is_before_root root z ≡ true) e t) (nearer x j pair.one.row l e b)),
-          (λ e. is.other (subst (λ z. is_before_root root z ≡ true) e t) (nearer x j pair.other.row l e b)),
+          (λ e. is.first (subst (λ z. is_before_root root z ≡ true) e t) (nearer x j pair.one.row l e b)),
+          (λ e. is.second (subst (λ z. is_before_root root z ≡ true) e t) (nearer x j pair.other.row l e b)),
         )
           where
             nearer : (x j i : ℕ) → j < k → j ≡ i → (x < k → ⊥) → i < x
             nearer x j i l e b = grind arith
         by None is b j t l = (
-          (λ e. true≢false (sym t ∙ ap (is_before_root root) e ∙ is.row)),
-          (λ e. true≢false (sym t ∙ ap (is_before_root root) e ∙ is.other)),
+          (λ e. true≢false (sym t ∙ ap (is_before_root root) e ∙ is.first)),
+          (λ e. true≢false (sym t ∙ ap (is_before_root root) e ∙ is.second)),
         )
 
     -- at the end
     row_end : (x : ℕ) → x ≡ pair.one.row →
-        (end_sign pair (Some x) ≡ sign_of (gap_at d.key (table_of d) pair x)) × (gap_at d.key (table_of d) pair x ≢ pos 0)
+        (end_sign pair.one.row (Some x) ≡ sign_of (gap_at d.key (table_of d) pair x)) × (gap_at d.key (table_of d) pair x ≢ pos 0)
     row_end x e =
         let up : pos 0 <ℤ gap_at d.key (table_of d) pair x =
         positive_gap pair.other.over pair.one.over (listed_at d.key (table_of d) pair.one.row x)
@@ -163,7 +163,7 @@ module _ (d : Dictionary) (root : List ℕ) (pair : Pair) (two : ArePair d pair)
         )
 
     other_end : (x : ℕ) → x ≡ pair.other.row →
-        (end_sign pair (Some x) ≡ sign_of (gap_at d.key (table_of d) pair x)) × (gap_at d.key (table_of d) pair x ≢ pos 0)
+        (end_sign pair.one.row (Some x) ≡ sign_of (gap_at d.key (table_of d) pair x)) × (gap_at d.key (table_of d) pair x ≢ pos 0)
     other_end x e =
         let down : gap_at d.key (table_of d) pair x <ℤ pos 0 =
         negative_gap pair.other.over pair.one.over (listed_at d.key (table_of d) pair.one.row x)
@@ -179,8 +179,8 @@ module _ (d : Dictionary) (root : List ℕ) (pair : Pair) (two : ArePair d pair)
         not_negative : (z : ℤ) → z <ℤ pos 0 → z ≢ pos 0
         not_negative z l e = omega (arith, lin)
 
-    end_at : (x : ℕ) → IsEndAt root pair x → Contains (outside d.labels root) x
-        × (end_sign pair (Some x) ≡ sign_of (gap_at d.key (table_of d) pair x)) × (gap_at d.key (table_of d) pair x ≢ pos 0)
+    end_at : (x : ℕ) → IsEndAt root pair.one.row pair.other.row x → Contains (outside d.labels root) x
+        × (end_sign pair.one.row (Some x) ≡ sign_of (gap_at d.key (table_of d) pair x)) × (gap_at d.key (table_of d) pair x ≢ pos 0)
     end_at x is =
         ⊎_elim
         (λ (e : x ≡ pair.one.row). let w = row_end x e in (
@@ -193,23 +193,23 @@ module _ (d : Dictionary) (root : List ℕ) (pair : Pair) (two : ArePair d pair)
           w.0,
           w.1,
         ))
-        is.one
+        is.row
 
-    pub at_end : (end : Option ℕ) → IsEnd root pair end →
+    pub at_end : (end : Option ℕ) → IsEnd root pair.one.row pair.other.row end →
         (n < length (before_root d root) → IsPastEnd (get_or (before_root d root) n 0) end) →
-        end_sign pair end ≡ lex_sign_of (map (gap_at d.key (table_of d) pair) (outside d.labels root))
+        end_sign pair.one.row end ≡ lex_sign_of (map (gap_at d.key (table_of d) pair) (outside d.labels root))
     at_end (Some x) is far =
         let w = end_at x is in
         w.1 ∙ sym (ascending_sign (gap_at d.key (table_of d) pair) (outside d.labels root)
         (outside_ascending d.labels root up) x w.0
         (zero_below x (λ l. let f = far l in omega arith) (λ j q l. (
-          (λ e. is.row (subst (λ z. is_before_root root z ≡ true) e (before_only d.labels root j q).1) (subst (λ z. z < x) e l)),
-          (λ e. is.other (subst (λ z. is_before_root root z ≡ true) e (before_only d.labels root j q).1) (subst (λ z. z < x) e l)),
+          (λ e. is.first (subst (λ z. is_before_root root z ≡ true) e (before_only d.labels root j q).1) (subst (λ z. z < x) e l)),
+          (λ e. is.second (subst (λ z. is_before_root root z ≡ true) e (before_only d.labels root j q).1) (subst (λ z. z < x) e l)),
         )))
         w.2)
     at_end None is far =
         sym (no_sign (gap_at d.key (table_of d) pair) (outside d.labels root)
         (λ k c. zero_below (k + 1) (λ l. absurd (far l)) (λ j q l. (
-          (λ e. true≢false (sym (before_only d.labels root j q).1 ∙ ap (is_before_root root) e ∙ is.row)),
-          (λ e. true≢false (sym (before_only d.labels root j q).1 ∙ ap (is_before_root root) e ∙ is.other)),
+          (λ e. true≢false (sym (before_only d.labels root j q).1 ∙ ap (is_before_root root) e ∙ is.first)),
+          (λ e. true≢false (sym (before_only d.labels root j q).1 ∙ ap (is_before_root root) e ∙ is.second)),
         )) k c (omega arith)))

@@ -147,54 +147,67 @@ module _ (d : Dictionary) (root : List ℕ) (s : ℕ) where
       h.numbers i at.place_is.within ∙ ap (λ z. Table.entry (table_of d) z s) at.place_is.label_is in
       record { at = at; negative = subst (λ z. z <ℤ pos 0) same n; over = o ∙ ap neg_ℤ same }
 
-  candidate : (c : Candidate) → IsCandidateAt d s c → IsCandidate d s c.row
+  -- a row at a place that is negative
+  pub candidate_at : (place row : ℕ) (over : ℤ) → IsRowAt d place row →
+      Table.entry (table_of d) (get_or d.rows place 0) s <ℤ pos 0 →
+      over ≡ neg_ℤ (Table.entry (table_of d) (get_or d.rows place 0) s) →
+      IsCandidateAt d s (record { row = row; place = place; over = over })
+  candidate_at place row over at n e =
+      let same = at.place_is.label_is in
+      record {
+        at = at;
+        negative = subst (λ k. Table.entry (table_of d) k s <ℤ pos 0) same n;
+        over = e ∙ ap (λ k. neg_ℤ (Table.entry (table_of d) k s)) same;
+      }
+
+  candidate : (c : Candidate ℤ) → IsCandidateAt d s c → IsCandidate d s c.row
   candidate c h = record { row = h.at.row; negative = h.negative }
 
   -- it can be compared with others
-  pub placed : (c : Candidate) → IsCandidateAt d s c → IsPlaced d c
+  pub placed : (c : Candidate ℤ) → IsCandidateAt d s c → IsPlaced d c
   placed c h = record {
     at = h.at;
     over = subst (λ z. pos 0 <ℤ z) (sym h.over) (positive d root s c.row (candidate c h));
   }
 
-  pub placed_if : (best : Option Candidate) → IfSome best (λ c. IsCandidateAt d s c) → IfSome best (λ c. IsPlaced d c)
+  pub placed_if : (best : Option (Candidate ℤ)) → IfSome best (λ c. IsCandidateAt d s c) → IfSome best (λ c. IsPlaced d c)
   placed_if None h = tt
   placed_if (Some c) h = placed c h
 
-  same_gaps : (one other : Candidate) → IsCandidateAt d s one → IsCandidateAt d s other →
+  same_gaps : (one other : Candidate ℤ) → IsCandidateAt d s one → IsCandidateAt d s other →
       pair_gaps d root (record { one = one; other = other }) ≡ ratio_gaps d.labels root d.key (table_of d) s other.row one.row
   same_gaps one other h k =
       ap (λ p. gaps p (list_of d.labels root d.key (table_of d) one.row) one.over (list_of d.labels root d.key (table_of d) other.row)) k.over
       ∙ ap (λ p. gaps (neg_ℤ (Table.entry (table_of d) other.row s)) (list_of d.labels root d.key (table_of d) one.row) p (list_of d.labels root d.key (table_of d) other.row)) h.over
 
-  module _ (rows : List ℕ) (next : Candidate) (here : IsCandidateAt d s next)
+  module _ (rows : List ℕ) (next : Candidate ℤ) (here : IsCandidateAt d s next)
       (fresh : (k : ℕ) → Contains rows k → k ≢ next.row) where
     -- the better one is the best of the rows so far with the next one
-    pub better_is_best : (best : Option Candidate) (c : Candidate) → IsBestAt d root s rows best →
+    pub better_is_best : (best : Option (Candidate ℤ)) (c : Candidate ℤ) → IsBestAt d root s rows best →
         IsBetter d root best next c → IsBestAt d root s (rows ++ next.row ∷ []) (Some c)
     better_is_best None c h e = record {
       at_place = subst (λ x. IsCandidateAt d s x) (sym e) here;
-      least = subst (λ (x : Candidate). IsLeastOf d root s (rows ++ next.row ∷ []) x.row) (sym e)
+      least = subst (λ (x : Candidate ℤ). IsLeastOf d root s (rows ++ next.row ∷ []) x.row) (sym e)
           (best_first d root s rows next.row h.least (candidate next here));
     }
     better_is_best (Some before) c h e =
         ⊎_elim
         (λ (w : IsLess d root next before × (c ≡ next)). record {
           at_place = subst (λ x. IsCandidateAt d s x) (sym w.1) here;
-          least = subst (λ (x : Candidate). IsLeastOf d root s (rows ++ next.row ∷ []) x.row) (sym w.1)
+          least = subst (λ (x : Candidate ℤ). IsLeastOf d root s (rows ++ next.row ∷ []) x.row) (sym w.1)
               (best_new d root s rows next.row before.row h.least (candidate next here)
               (subst (λ v. lex_sign_of v ≡ Less) (same_gaps next before here h.at_place) w.0));
         })
         (λ (w : (IsLess d root next before → ⊥) × (c ≡ before)). record {
           at_place = subst (λ x. IsCandidateAt d s x) (sym w.1) h.at_place;
-          least = subst (λ (x : Candidate). IsLeastOf d root s (rows ++ next.row ∷ []) x.row) (sym w.1)
+          least = subst (λ (x : Candidate ℤ). IsLeastOf d root s (rows ++ next.row ∷ []) x.row) (sym w.1)
               (best_old d root s rows next.row before.row h.least
               (λ l. w.0 (subst (λ v. lex_sign_of v ≡ Less) (sym (same_gaps next before here h.at_place)) l)));
         })
         (e (λ f. fresh before.row h.least.member (sym f)))
 
   -- one row more that is none
-  pub kept_best : (rows : List ℕ) (q : ℕ) (best : Option Candidate) → IsBestAt d root s rows best →
+  pub kept_best : (rows : List ℕ) (q : ℕ) (best : Option (Candidate ℤ)) → IsBestAt d root s rows best →
       (IsCandidate d s q → ⊥) → IsBestAt d root s (rows ++ q ∷ []) best
   kept_best rows q best h n = record {
     at_place = h.at_place;
@@ -202,7 +215,7 @@ module _ (d : Dictionary) (root : List ℕ) (s : ℕ) where
   }
 
 -- rows are passed over that are no candidates
-module _ (d : Dictionary) (root : List ℕ) (s : ℕ) (best : Option Candidate) where
+module _ (d : Dictionary) (root : List ℕ) (s : ℕ) (best : Option (Candidate ℤ)) where
   pub kept_to : (m a b : ℕ) → b ≡ a + m → b ≤ length d.rows → IsBestAt d root s (take a d.rows) best →
       ((i : ℕ) → a ≤ i → i < b → IsCandidate d s (get_or d.rows i 0) → ⊥) → IsBestAt d root s (take b d.rows) best
   kept_to zero a b e l h n = subst (λ k. IsBestAt d root s (take k d.rows) best) (sym (omega (arith, e))) h
@@ -216,6 +229,12 @@ module _ (d : Dictionary) (root : List ℕ) (s : ℕ) (best : Option Candidate) 
     where
       last : (a m b : ℕ) → b ≡ a + suc m → a + m + 1 ≡ b
       last a m b e = omega (arith, e)
+
+  -- no row between two places is negative
+  pub passed : (a b : ℕ) → a ≤ b → b ≤ length d.rows → IsBestAt d root s (take a d.rows) best →
+      ((i : ℕ) → a ≤ i → i < b → Table.entry (table_of d) (get_or d.rows i 0) s <ℤ pos 0 → ⊥) →
+      IsBestAt d root s (take b d.rows) best
+  passed a b k l best_so n = kept_to (b - a) a b (omega (arith, k)) l best_so (λ i f g c. n i f g c.negative)
 
   -- the cells of the column say so
   pub passed_over : (cells : List ℤ) → IsCellColumn d (suc (place_in d.columns s)) cells → (a b : ℕ) → a ≤ b →

@@ -22,7 +22,7 @@ sign_of_gap x y z e = sym (int_cmp_is x y (int_cmp z (pos 0)) (by (int_cmp z (po
     by Equal h = omega (arith, lin)
     by Greater h = omega (arith, lin)
 
-turned : (x y : ℤ) → x *ℤ y ≡ y *ℤ x
+pub turned : (x y : ℤ) → x *ℤ y ≡ y *ℤ x
 turned x y = simp expand (omega (arith, lin))
 
 -- one positive factor for both keeps the order
@@ -102,6 +102,16 @@ over_zero a b p f h z = int_cmp_is (p *ℤ a +ℤ b *ℤ f) (pos 0) (sign_of a) 
     by Less l = let k = keeps_order p a (pos 0) h l in let m = mul_zero p in let n = none in omega (arith, lin)
     by Equal l = let k = ap (λ x. p *ℤ x) l in let m = mul_zero p in let n = none in omega (arith, lin)
     by Greater l = let k = keeps_order p (pos 0) a h l in let m = mul_zero p in let n = none in omega (arith, lin)
+
+swapped : (b f p a : ℤ) → b *ℤ f +ℤ p *ℤ a ≡ p *ℤ a +ℤ b *ℤ f
+swapped b f p a = omega (arith, lin)
+
+-- where one number is 0, the other decides
+pub one_alone : (a b p f : ℤ) → pos 0 <ℤ p → b ≡ pos 0 → sign_of a ≡ sign_of (p *ℤ a +ℤ b *ℤ f)
+one_alone a b p f h z = over_zero a f p b h z ∙ ap (λ x. sign_of (p *ℤ a +ℤ x)) (turned f b)
+
+pub other_alone : (a b p f : ℤ) → pos 0 <ℤ b → a ≡ pos 0 → sign_of f ≡ sign_of (p *ℤ a +ℤ b *ℤ f)
+other_alone a b p f h z = over_zero f p b a h z ∙ ap sign_of (swapped b f p a)
 
 -- a number is 0 where two tests say that it is neither positive nor negative
 pub zero_between : (v : ℤ) → (pos 0 <ℤ v → false ≡ true) → (v <ℤ pos 0 → false ≡ true) → v ≡ pos 0

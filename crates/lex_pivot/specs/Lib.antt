@@ -1,6 +1,8 @@
 pub mod Earlier
 pub mod BeforeRoot
 pub mod Places
+pub mod Tables
+pub mod Negatives
 pub mod Readings
 pub mod Pairs
 pub mod Ratios
@@ -8,3 +10,4 @@ pub mod Above
 pub mod Children
 pub mod Feasible
 pub mod Leads
+pub mod Scans

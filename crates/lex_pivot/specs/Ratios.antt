@@ -1,5 +1,5 @@
 -- The ratio test, row by row.
-use Rattle.std.specs.Prelude.{◌≡◌, ◌≢◌, ◌⊎◌, ℕ, pos, neg_ℤ, ◌<ℤ◌, ◌≤ℤ◌, List, Option, Some, None, IfSome, option_map}
+use Rattle.std.specs.Prelude.{◌≡◌, ◌≢◌, ◌⊎◌, ℕ, ℤ, pos, neg_ℤ, ◌<ℤ◌, ◌≤ℤ◌, List, Option, Some, None, IfSome, option_map}
 use Rattle.std.specs.List.{Contains}
 use Rattle.std.specs.Option.{MatchOption}
 use Rattle.poly_model.specs.Dictionaries.{Table}
@@ -35,27 +35,27 @@ IsBest d root s rows best =
 
 -- ---- candidates at their places
 -- with minus the entry in the column of s
-pub record IsCandidateAt (d : Dictionary) (s : ℕ) (c : Candidate) : Type 0 where
+pub record IsCandidateAt (d : Dictionary) (s : ℕ) (c : Candidate ℤ) : Type 0 where
   pub at : IsRowAt d c.place c.row
   pub negative : Table.entry (table_of d) c.row s <ℤ pos 0
   pub over : c.over ≡ neg_ℤ (Table.entry (table_of d) c.row s)
 
 -- the list of `one` is less than that of `other`, each over its own factor
-abbrev pub IsLess : Dictionary → List ℕ → Candidate → Candidate → Type 0
+abbrev pub IsLess : Dictionary → List ℕ → Candidate ℤ → Candidate ℤ → Type 0
 IsLess d root one other = lex_sign_of (pair_gaps d root (record { one = one; other = other })) ≡ Less
 
 -- of two candidates at different places it is the next one exactly where its list is less
-abbrev pub IsBetter : Dictionary → List ℕ → Option Candidate → Candidate → Candidate → Type 0
+abbrev pub IsBetter : Dictionary → List ℕ → Option (Candidate ℤ) → Candidate ℤ → Candidate ℤ → Type 0
 IsBetter d root None next c = c ≡ next
 IsBetter d root (Some before) next c =
     next.row ≢ before.row →
     (IsLess d root next before × (c ≡ next)) ⊎ ((IsLess d root next before → ⊥) × (c ≡ before))
 
 -- the row of a candidate
-abbrev pub candidate_row : Option Candidate → Option ℕ
+abbrev pub candidate_row : Option (Candidate ℤ) → Option ℕ
 candidate_row best = option_map (λ c. c.row) best
 
 -- the least candidate among these rows, if there is one
-pub record IsBestAt (d : Dictionary) (root : List ℕ) (s : ℕ) (rows : List ℕ) (best : Option Candidate) : Type 0 where
+pub record IsBestAt (d : Dictionary) (root : List ℕ) (s : ℕ) (rows : List ℕ) (best : Option (Candidate ℤ)) : Type 0 where
   pub at_place : IfSome best (λ c. IsCandidateAt d s c)
   pub least : IsBest d root s rows (candidate_row best)

@@ -11,6 +11,8 @@ ghost use Rattle.lex_pivot.specs.Ratios.{NoneLeaves};
 use crate::orderings::{is_greater, is_less};
 use crate::rows::{comes_before, label_of_column};
 use crate::scan::root_sign;
+use crate::word_child::none_enters_in_words;
+use crate::word_table::WordTable;
 use crate::{Leads, Order, Pivot, Reading};
 use dictionary::Dict;
 use poly_model::Label;
@@ -57,6 +59,30 @@ pub fn leads_down(dict: &Dict, order: &Order, leads: &Leads, col: Label) -> bool
 
 // Whether no label before the row that leaves would enter in its place.
 fn none_enters_first(dict: &Dict, order: &Order, leads: &Leads, pivot: &Pivot) -> bool
+    requires leads { AreLeads dict.now order.now leads.now }
+    requires column { Contains dict.now.key pivot.now.col }
+    requires up { LeadsUp dict.now.labels order.now (table_of dict.now) pivot.now.col }
+    requires leaves { Leaves dict.now.labels order.now dict.now.key (table_of dict.now) pivot.now.col pivot.now.row }
+    ensures { IsTrue result ↔ NoneInPlace dict.now order.now pivot.now.col pivot.now.row }
+{
+    match dict.word_cells() {
+        Some(cells) => none_enters_in_words(
+            &WordTable {
+                dict,
+                order,
+                before: &[],
+                cells: &cells,
+            },
+            leads,
+            pivot,
+        ),
+        None => none_enters_in_wide(dict, order, leads, pivot),
+    }
+}
+
+// The same where some cell is no word.
+#[cold]
+fn none_enters_in_wide(dict: &Dict, order: &Order, leads: &Leads, pivot: &Pivot) -> bool
     requires leads { AreLeads dict.now order.now leads.now }
     requires column { Contains dict.now.key pivot.now.col }
     requires leaves { Leaves dict.now.labels order.now dict.now.key (table_of dict.now) pivot.now.col pivot.now.row }

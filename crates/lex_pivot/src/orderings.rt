@@ -35,6 +35,33 @@ pub(crate) fn cmp_ratios(a: Num, b: Num, c: Num, d: Num) -> Ordering
     cmp_cross(a, b, c, d)
 }
 
+/// The order of `a b` and `c d`, numbers of one machine word: where both a and c are 0, as they mostly are, without a product.
+#[inline(always)]
+pub(crate) fn cmp_products(a: i64, b: i64, c: i64, d: i64) -> Ordering
+    ensures { result ≡ int_cmp (a *ℤ b) (c *ℤ d) }
+{
+    if a == 0 && c == 0 {
+        return Ordering::Equal;
+    }
+    product(a, b).cmp(&product(c, d))
+}
+
+/// The order of two numbers of one machine word.
+#[inline(always)]
+pub(crate) fn order_of_words(a: i64, b: i64) -> Ordering
+    ensures { result ≡ int_cmp a b }
+{
+    a.cmp(&b)
+}
+
+// `a b`, which two words hold.
+#[inline(always)]
+fn product(a: i64, b: i64) -> i128
+    ensures { result ≡ a *ℤ b }
+{
+    a as i128 * b as i128
+}
+
 // Whether both are 0.
 #[inline(always)]
 fn are_zero(a: Num, c: Num) -> bool

@@ -13,6 +13,7 @@ use crate::ratio::leaving_along;
 use crate::{Order, Reading, root_sign};
 use dictionary::Dict;
 use poly_model::{Label, MOST_LABELS, Root};
+use poly_num::Num;
 
 /// A row that leaves, and the column that enters for it.
 #[derive(Clone, Copy, PartialEq, Eq, Debug)]
@@ -97,5 +98,5 @@ fn may_enter(dict: &Dict, order: &Order, col: Label) -> bool
     requires { Contains dict.now.key col }
     ensures { IsTrue result ↔ MayEnter dict.now.labels order.now (table_of dict.now) col }
 {
-    is_less(root_sign(dict, order, &Reading::Entry { col }))
+    is_less(root_sign(dict, order, &Reading::<Num>::Entry { col }))
 }

@@ -12,14 +12,16 @@ ghost use Rattle.lex_pivot.specs.Ratios.{NoneLeaves, IsCandidate, IsCandidateAt,
 
 use crate::Order;
 use crate::before_root::gather;
-use crate::candidates::Candidate;
+use crate::candidates::{Candidate, Pair};
 use crate::orderings::is_less;
 use crate::rows::row_at;
-use crate::ties::{Pair, compare};
+use crate::ties::compare;
+use crate::word_ratio::leaving_in_words;
+use crate::word_table::WordTable;
 use columns::Column;
 use dictionary::Dict;
 use poly_model::{Label, MOST_LABELS, Root};
-use poly_num::neg;
+use poly_num::{Num, neg};
 
 /// The row that leaves in the column of a label of the cobasis: of the rows outside the cobasis that are negative there,
 /// the one with the least list over minus its entry. None where no such row is negative.
@@ -51,10 +53,32 @@ pub fn leaving_along(dict: &Dict, order: &Order, before: &[Label], col: Label) -
     ensures { MatchOption result (NoneLeaves dict.now col)
         (λ r. Leaves dict.now.labels order.now dict.now.key (table_of dict.now) col r) }
 {
+    match dict.word_cells() {
+        Some(cells) => leaving_in_words(
+            &WordTable {
+                dict,
+                order,
+                before,
+                cells: &cells,
+            },
+            col,
+        ),
+        None => leaving_in_wide(dict, order, before, col),
+    }
+}
+
+// The same where some cell is no word.
+#[cold]
+fn leaving_in_wide(dict: &Dict, order: &Order, before: &[Label], col: Label) -> Option<Label>
+    requires before { before.now ≡ before_root dict.now order.now }
+    requires column { Contains dict.now.key col }
+    ensures { MatchOption result (NoneLeaves dict.now col)
+        (λ r. Leaves dict.now.labels order.now dict.now.key (table_of dict.now) col r) }
+{
     // the labels outside the cobasis stand once
     let _rows = dict.rows();
     let column = dict.column(dict.column_of(col));
-    let mut best: Option<Candidate> = None;
+    let mut best: Option<Candidate<Num>> = None;
     let mut from = 0;
     'rows: loop {
         let place = next_negative(&column, from);
@@ -86,7 +110,7 @@ fn next_negative(cells: &Column, from: usize) -> usize
 
 // The row at a place of the rows of cells, if it is a candidate in the column of a label, whose cells these are.
 #[inline(always)]
-fn candidate_at(dict: &Dict, col: Label, cells: &Column, place: usize) -> Option<Candidate>
+fn candidate_at(dict: &Dict, col: Label, cells: &Column, place: usize) -> Option<Candidate<Num>>
     requires column { Contains dict.now.key col }
     requires cells { IsCellColumn dict.now (suc (place_in dict.now.columns col)) cells.now }
     requires place { place < length dict.now.rows }
@@ -110,9 +134,9 @@ fn better(
     dict: &Dict,
     order: &Order,
     before: &[Label],
-    best: Option<Candidate>,
-    next: Candidate,
-) -> Candidate
+    best: Option<Candidate<Num>>,
+    next: Candidate<Num>,
+) -> Candidate<Num>
     requires before { before.now ≡ before_root dict.now order.now }
     requires next { IsPlaced dict.now next }
     requires best { IfSome best (λ c. IsPlaced dict.now c) }
@@ -133,8 +157,8 @@ fn is_lesser(
     dict: &Dict,
     order: &Order,
     before: &[Label],
-    one: &Candidate,
-    other: &Candidate,
+    one: &Candidate<Num>,
+    other: &Candidate<Num>,
 ) -> bool
     requires before { before.now ≡ before_root dict.now order.now }
     requires one { IsPlaced dict.now one.now }
@@ -149,7 +173,7 @@ fn is_lesser(
 }
 
 // The row of a candidate.
-fn candidate_row(best: Option<Candidate>) -> Option<Label>
+fn candidate_row(best: Option<Candidate<Num>>) -> Option<Label>
     ensures { result ≡ candidate_row best }
 {
     match best {

@@ -12,18 +12,19 @@ use poly_model::Label;
 use poly_num::{Num, neg, sign};
 use std::cmp::Ordering;
 
-/// A number for each row, by its entries.
+/// A number for each row, by its entries. The factors of a sum are of the type that the cells have: machine numbers where
+/// all are words.
 #[derive(Clone, Copy)]
-pub enum Reading {
+pub enum Reading<T> {
     /// The entry in the column of `col`.
     Entry {
         col: Label,
     },
     /// `p` times the entry in the column of `col`, and `f` times that in the column of `other`.
     Sum {
-        p: Num,
+        p: T,
         col: Label,
-        f: Num,
+        f: T,
         other: Label,
     },
     /// The entry in the column of `col` where that in the column of `zero` is 0, and else 0.
@@ -33,7 +34,7 @@ pub enum Reading {
     },
 }
 
-impl Reading {
+impl Reading<Num> {
     /// The sign of the number of a row.
     #[inline(always)]
     pub fn sign_at(&self, dict: &Dict, row: Label) -> Ordering
@@ -117,7 +118,7 @@ fn cell(dict: &Dict, place: usize, col: Label) -> Num
     dict.column(dict.column_of(col)).at(place)
 }
 
-impl Reading {
+impl Reading<Num> {
     // Whether the own column of a label of the cobasis is not read: then its number is 0.
     #[inline(always)]
     fn is_elsewhere(&self, dict: &Dict, row: Label) -> bool

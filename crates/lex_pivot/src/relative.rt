@@ -1,5 +1,6 @@
 //! The order of rows relative to a root: the rows outside it come first, ascending, and then its own.
-ghost use Rattle.std.specs.Prelude.{◌≡◌, ◌++◌, ◌∷◌, [], ℕ, List, IfOk, length};
+ghost use Rattle.std.specs.Prelude.{◌≡◌, ◌≤◌, ◌++◌, ◌∷◌, [], ℕ, List, IfOk, length};
+ghost use Rattle.poly_model.specs.Limits.{most_labels};
 ghost use Rattle.poly_model.specs.Keys.{IsAscending};
 ghost use Rattle.poly_model.specs.Spaces.{is_member};
 ghost use Rattle.lex_pivot.specs.Earlier.{is_before_root, is_earlier, AreMarks};
@@ -56,6 +57,14 @@ impl Order {
         ensures ascending { IsAscending result.now }
     {
         self.key.labels()
+    }
+
+    /// How many labels the root has, at most `MOST_LABELS`.
+    pub(crate) fn root_count(&self) -> usize
+        ensures value { result ≡ length self.now }
+        ensures room { result ≤ most_labels }
+    {
+        self.key.len()
     }
 
     /// Whether the label is one of the root.

@@ -30,7 +30,7 @@ pub fn row_at(dict: &Dict, place: usize) -> Option<Label>
 }
 
 /// The label of column j, counted from 0 without the constants.
-pub(crate) fn label_of_column(dict: &Dict, j: usize) -> Label
+pub fn label_of_column(dict: &Dict, j: usize) -> Label
     requires { j < length dict.now.columns }
     ensures value { result ≡ slice_index_or dict.now.columns j 0 }
     ensures key { Contains dict.now.key result }

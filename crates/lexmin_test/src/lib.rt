@@ -5,6 +5,8 @@ mod points;
 mod rays;
 #[cfg(test)]
 mod tests;
+mod word_points;
+mod word_rays;
 
 pub use points::{shows_point, shows_point_by};
 pub use rays::{shows_ray, shows_ray_by};

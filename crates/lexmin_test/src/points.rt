@@ -7,9 +7,10 @@ ghost use Rattle.dictionary.specs.Views.{table_of};
 ghost use Rattle.lex_pivot.specs.Places.{IsRowAt};
 ghost use Rattle.lexmin_test.specs.Settled.{RowShowsPoint, IsZeroBefore, IsZeroIfEarlier};
 
+use crate::word_points::shows_point_in_words;
 use columns::Column;
 use dictionary::Dict;
-use lex_pivot::{Order, comes_before, row_at};
+use lex_pivot::{Order, WordTable, comes_before, row_at};
 use poly_model::{Label, Root};
 
 /// Whether the point of the cobasis is shown there: each row outside it with the constant 0 is 0 in the column of each
@@ -22,6 +23,22 @@ pub fn shows_point(dict: &Dict, root: &Root) -> bool
 
 /// The same by the order relative to the root.
 pub fn shows_point_by(dict: &Dict, order: &Order) -> bool
+    ensures { IsTrue result ↔ ShowsPoint dict.now.labels order.now dict.now.key (table_of dict.now) }
+{
+    match dict.word_cells() {
+        Some(cells) => shows_point_in_words(&WordTable {
+            dict,
+            order,
+            before: &[],
+            cells: &cells,
+        }),
+        None => shows_point_in_wide(dict, order),
+    }
+}
+
+// The same where some cell is no word.
+#[cold]
+fn shows_point_in_wide(dict: &Dict, order: &Order) -> bool
     ensures { IsTrue result ↔ ShowsPoint dict.now.labels order.now dict.now.key (table_of dict.now) }
 {
     let constants = dict.column(0);

@@ -7,11 +7,14 @@ ghost use Rattle.lex_pivot.specs.Ratios.{NoneLeaves};
 ghost use Rattle.lex_pivot.specs.Leads.{AreLeads};
 ghost use Rattle.lexmin_test.specs.Zeros.{AreOthersPositive, IsPositiveOnZeros, IsOtherPositive};
 
+use crate::word_rays::is_ray_in_words;
 use dictionary::Dict;
 use lex_pivot::{
-    Leads, Order, Reading, differs, is_greater, leads_down, none_leaves, outside_sign, root_sign,
+    Leads, Order, Reading, WordTable, differs, is_greater, leads_down, none_leaves, outside_sign,
+    root_sign,
 };
 use poly_model::{Label, Root};
+use poly_num::Num;
 
 /// Whether the ray along the column of a label of the cobasis is shown there: no row outside the cobasis is negative in
 /// the column, and in the column of each other label, of the rows that are 0 in this one and not 0 there, the greatest
@@ -33,7 +36,19 @@ pub fn shows_ray_by(dict: &Dict, order: &Order, leads: &Leads, col: Label) -> bo
     if leads_down(dict, order, leads, col) {
         return false;
     }
-    is_ray(dict, order, col)
+    match dict.word_cells() {
+        Some(cells) => is_ray_in_words(
+            &WordTable {
+                dict,
+                order,
+                before: &[],
+                cells: &cells,
+            },
+            leads,
+            col,
+        ),
+        None => is_ray(dict, order, col),
+    }
 }
 
 // The same by the order alone.
@@ -79,7 +94,7 @@ fn is_positive_on_zeros(dict: &Dict, order: &Order, col: Label, other: Label) ->
     requires other { Contains dict.now.key other }
     ensures { IsTrue result ↔ IsPositiveOnZeros dict.now order.now col other }
 {
-    let reading = Reading::Where {
+    let reading = Reading::<Num>::Where {
         col: other,
         zero: col,
     };

@@ -92,7 +92,10 @@ fn take_row_counted<L: Ledger>(
     ensures passes { IfErr result (λ o. IsOverflow dict.now row col o) }
     ensures shape { HasShapeOf dict.now next.new }
 {
-    dict.pivot_into(next, row, col, &mut Steps::<L>::new(blank))
+    match dict.pivot_into(next, row, col, &mut Steps::<L>::new(blank)) {
+        Ok(()) => Ok(()),
+        Err(products) => Err(dict.overflow(products)),
+    }
 }
 
 /// Visits the vectors under a prefix of rows: those whose first list of tight rows has, of the rows before the prefix's

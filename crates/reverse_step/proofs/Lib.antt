@@ -1,3 +1,4 @@
+pub mod RingLemmas
 pub mod Along
 pub mod WaitLemmas
 pub mod StepLemmas

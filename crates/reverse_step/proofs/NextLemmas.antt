@@ -1,5 +1,5 @@
 -- What one step of the walk does to what waits.
-use Rattle.std.proofs.Common.{◌≡◌, ◌≢◌, ◌⊎◌, inl, inr, ⊎_elim, ℕ, zero, suc, ◌+◌, ◌≤◌, ◌<◌, ◌-◌, List, length, get_or, refl, sym, subst, ◌∙◌, arith, add-one, Option, Some, None}
+use Rattle.std.proofs.Common.{◌≡◌, ◌≢◌, ◌⊎◌, inl, inr, ⊎_elim, ℕ, zero, suc, ◌+◌, ◌≤◌, ◌<◌, ◌-◌, List, [], ◌∷◌, length, take, drop, get_or, refl, sym, ap, subst, ◌∙◌, arith, add-one, Option, Some, None}
 use Rattle.poly_model.specs.LexOrder.{rows_in}
 use Rattle.poly_model.specs.Spaces.{Space}
 use Rattle.poly_model.specs.Dictionaries.{Table}
@@ -21,9 +21,9 @@ use Rattle.reverse_step.specs.declared.children.ChildPivot.{ChildPivot}
 use Rattle.reverse_step.specs.declared.walker.Visit.{Visit}
 use Rattle.reverse_step.specs.declared.walker.Visit.TheVariants.{New, Back, End}
 use Rattle.reverse_step.specs.Waiting.{AreAlong, Wait}
-use Rattle.reverse_step.specs.Walks.{Parent, Walk, IsChildAt, Stands, IsParentKept, IsWalkIn, Waits}
+use Rattle.reverse_step.specs.Walks.{Parent, Walk, IsChildAt, Stands, AreParentsKept, IsWalkIn, Waits}
 use Rattle.reverse_step.specs.Children.{LeadsToChild, NoneBetween, IsFirstChild}
-use Rattle.reverse_step.specs.Moves.{moved_to, Moves, IsMovedDown, IsAtChild, GoesUp, IsVisit}
+use Rattle.reverse_step.specs.Moves.{moved_to, parents_below, Moves, IsMovedDown, IsMovedUp, IsBackAtParent, IsAtChild, GoesUp, IsVisit}
 use Rattle.reverse_step.proofs.Along.{one_child, one_column, some_along, lists_children}
 use Rattle.reverse_step.proofs.StepLemmas.{new_stands, child_here, parent_here}
 use Rattle.reverse_step.proofs.WaitLemmas.{wait_skip, wait_child, wait_end, wait_parent, WaitsAtChild, WaitsAtParent}
@@ -54,11 +54,19 @@ module _ (space : Space) (home : Table) (root job : List ℕ) (d : Dictionary) (
       under_twice space root key parent job (child_under space root parent key c.child)
       (under_job depth (suc (place_in parent s)) parent rest w)
 
+-- some of what is kept, from the parent on
+some_kept : (space : Space) (home : Table) (root : List ℕ) (d : Dictionary) (ps : List Parent) (n : ℕ) →
+    AreParentsKept space home root d ps → AreParentsKept space home root d (take n ps)
+some_kept space home root d [] zero k = tt
+some_kept space home root d [] (suc n) k = tt
+some_kept space home root d (p ∷ ps) zero k = tt
+some_kept space home root d (p ∷ ps) (suc n) (a, c, k) = (a, c, some_kept space home root p.dict ps n k)
+
 -- ---- New: at the first child
 module _ (old : Walk) (d : Dictionary) (p : ChildPivot) (f : IsFirstChild old.root old.dict old.at p)
-    (pivot : IsPivot old.dict p.row p.col d) where
+    (pivot : IsPivot old.dict p.row p.col d) (kept : ℕ) where
   abbrev new : Walk
-  new = moved_to old d 0 (Some (record { dict = old.dict; column = p.col }))
+  new = moved_to old d 0 (parents_below old p.col kept)
 
   module _ (space : Space) (home : Table) (st : Stands space home old.root old.dict) where
     stands : Stands space home old.root d
@@ -124,7 +132,11 @@ module _ (old : Walk) (d : Dictionary) (p : ChildPivot) (f : IsFirstChild old.ro
     phase = pivot.phase;
     walk = λ space home w. record {
       stands = stands space home w.stands;
-      kept = (w.stands, child space home w.stands);
+      kept = (
+        w.stands,
+        child space home w.stands,
+        some_kept space home old.root old.dict old.parents kept w.kept,
+      );
     };
     moves = λ space home w. move space home w.stands;
   }
@@ -202,20 +214,21 @@ module _ (old : Walk) (none : NoneBetween old.root old.dict old.at (length old.d
           (parent_too space old.root old.dict.key c.0 (table_of old.dict) c.1.dictionary st.feasible.dictionary p.parent c.2))
 
   -- Back: at the parent
-  module _ (n : old.dict.key ≢ old.job) (d : Dictionary) (s : ℕ)
-      (up : (space : Space) (home : Table) → IsWalkIn space home old →
-      Stands space home old.root d × IsChildAt space old.root d.key s old.dict.key) (at : ℕ)
-      (next : at ≡ place_in d.key s + 1) where
+  module _ (n : old.dict.key ≢ old.job) (new : Walk) (s : ℕ) (m : IsMovedUp old s new) where
+    abbrev d : Dictionary
+    d = new.dict
+
     back_at : (space : Space) (home : Table) → IsWalkIn space home old → (depth : ℕ) (ws : List (List ℕ)) →
-        Waits space old depth ws → Moves space (moved_to old d at None) depth ws Back
+        Waits space old depth ws → Moves space new depth ws Back
     back_at space home x zero ws w = absurd (n w.0)
     back_at space home x (suc depth) ws w = (
       depth,
       refl,
-      subst (λ k. Wait (IsChildAt space old.root) old.job depth d.key k ws) (sym (next ∙ add-one (place_in d.key s)))
+      subst (λ (v : Walk). Waits space v depth ws) (sym m.same)
+          (subst (λ k. Wait (IsChildAt space old.root) old.job depth d.key k ws) (sym (add-one (place_in d.key s)))
           (subst (λ q. Wait (IsChildAt space old.root) old.job depth d.key (suc (place_in d.key q)) ws) same_column
           (subst (λ k. Wait (IsChildAt space old.root) old.job depth k (suc (place_in k p.column)) ws) same_parent
-          p.waits)),
+          p.waits))),
     )
       where
         st : Stands space home old.root old.dict
@@ -225,7 +238,13 @@ module _ (old : Walk) (none : NoneBetween old.root old.dict old.at (length old.d
         p = parent_of space home st depth ws w
 
         c : IsChildAt space old.root d.key s old.dict.key
-        c = (up space home x).1
+        c = (m.parent space home x).1
+
+        root : new.root ≡ old.root
+        root = ap (λ (v : Walk). v.root) m.same
+
+        there : Stands space home old.root d
+        there = subst (λ r. Stands space home r d) root (m.parent space home x).0.stands
 
         once : AreDistinct (rows_in space.labels)
         once = rows_once space home old.root old.dict st
@@ -240,49 +259,62 @@ module _ (old : Walk) (none : NoneBetween old.root old.dict old.at (length old.d
 
         same_column : p.column ≡ s
         same_column =
-            one_column space old.root home st.feasible_root once d.key (table_of d) (up space home x).0.feasible p.column s
+            one_column space old.root home st.feasible_root once d.key (table_of d) there.feasible p.column s
             old.dict.key (subst (λ k. IsChildAt space old.root k p.column old.dict.key) same_parent p.child) c
 
-    pub step_back : d.phase ≡ old.dict.phase → IsVisit old Back (moved_to old d at None)
-    step_back same_phase = record {
-      root = refl;
-      job = refl;
-      phase = same_phase;
-      walk = λ space home x. record { stands = (up space home x).0; kept = tt };
+    pub step_back : IsVisit old Back new
+    step_back = record {
+      root = ap (λ (v : Walk). v.root) m.same;
+      job = ap (λ (v : Walk). v.job) m.same;
+      phase = m.phase;
+      walk = λ space home x. (m.parent space home x).0;
       moves = back_at;
     }
 
--- what is kept is the parent
-pub up_kept : (old : Walk) (q : Parent) → old.parent ≡ Some q → (space : Space) (home : Table) → IsWalkIn space home old →
-    Stands space home old.root q.dict × IsChildAt space old.root q.dict.key q.column old.dict.key
-up_kept old q e space home x = subst (IsParentKept space home old.root old.dict) e x.kept
+-- the first that is kept is the parent
+pub up_kept : (old new : Walk) (s : ℕ) → IsBackAtParent old s new → IsMovedUp old s new
+up_kept old new s h = record {
+  same = h.same ∙ ap (λ ps. moved_to old new.dict (place_in new.dict.key s + 1) (drop 1 ps)) (sym h.parents);
+  phase = h.phase;
+  parent = λ space home x.
+      let k : AreParentsKept space home old.root old.dict (record { dict = new.dict; column = s } ∷ new.parents) =
+      subst (AreParentsKept space home old.root old.dict) h.parents x.kept in
+      (subst (IsWalkIn space home) (sym h.same) (record { stands = k.0; kept = k.2 }), k.1);
+}
 
--- a pivot leads to the parent
-pub up_pivot : (old : Walk) (d : Dictionary) (s r : ℕ) → LeadsToParent old.dict old.root s r → IsPivot old.dict r s d →
-    (space : Space) (home : Table) → IsWalkIn space home old →
-    Stands space home old.root d × IsChildAt space old.root d.key r old.dict.key
-up_pivot old d s r h p space home x = (
-  new_stands old.dict d old.root s r h.column h.leaves p space home x.stands,
-  parent_here old.dict d old.root s r h.column h.leaves p space home x.stands h,
-)
+-- a pivot leads to the parent, where none is kept
+pub up_pivot : (old : Walk) (d : Dictionary) (s r : ℕ) → old.parents ≡ [] → LeadsToParent old.dict old.root s r →
+    IsPivot old.dict r s d → IsMovedUp old r (moved_to old d (place_in d.key r + 1) [])
+up_pivot old d s r e h p = record {
+  same = ap (λ ps. moved_to old d (place_in d.key r + 1) (drop 1 ps)) (sym e);
+  phase = p.phase;
+  parent = λ space home x. (
+    record { stands = new_stands old.dict d old.root s r h.column h.leaves p space home x.stands; kept = tt },
+    parent_here old.dict d old.root s r h.column h.leaves p space home x.stands h,
+  );
+}
 
 -- ---- by what a walk has moved
 -- down
 pub down_of : (old new : Walk) (s r : ℕ) → LeadsToChild old.root old.dict s r → IsMovedDown old r s new → IsAtChild old s new
 down_of old new s r h m = record {
+  kept = m.kept;
   same = m.same;
   phase = m.pivot.phase;
   child = λ space home w.
       let st = new_stands old.dict new.dict old.root s r h.column h.leaves m.pivot space home w.stands in
       let c = child_here old.dict new.dict old.root s r h.column h.leaves m.pivot space home w.stands h in (
-        subst (IsWalkIn space home) (sym m.same) (record { stands = st; kept = (w.stands, c) }),
+        subst (IsWalkIn space home) (sym m.same) (record {
+          stands = st;
+          kept = (w.stands, c, some_kept space home old.root old.dict old.parents m.kept w.kept);
+        }),
         c,
       );
 }
 
 pub visit_new : (old new : Walk) (p : ChildPivot) → IsFirstChild old.root old.dict old.at p →
     IsMovedDown old p.row p.col new → IsVisit old New new
-visit_new old new p f m = subst (IsVisit old New) (sym m.same) (step_new old new.dict p f m.pivot)
+visit_new old new p f m = subst (IsVisit old New) (sym m.same) (step_new old new.dict p f m.pivot m.kept)
 
 -- a key is one or another
 end_or_none : (old : Walk) → NoneBetween old.root old.dict old.at (length old.dict.key) → NoneEnters old.dict old.root →
@@ -308,6 +340,4 @@ visit_up old next None none (e, at) =
     by_end : (old.dict.key ≡ old.job) ⊎ NoneEnters old.dict old.root → IsVisit old End old
     by_end (inl k) = step_end old none k
     by_end (inr n) = end_or_none old none n
-visit_up old next (Some s) none (below, m) =
-    subst (IsVisit old Back) (sym m.same)
-    (step_back old none below next.dict s m.parent (place_in next.dict.key s + 1) refl m.phase)
+visit_up old next (Some s) none (below, m) = step_back old none below next s m

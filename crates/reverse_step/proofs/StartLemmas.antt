@@ -1,5 +1,5 @@
 -- A walk that begins anew at a key, and one that does not since the key is none.
-use Rattle.std.proofs.Common.{ℕ, List, refl, None}
+use Rattle.std.proofs.Common.{ℕ, List, [], refl}
 use Rattle.poly_model.specs.Spaces.{Space}
 use Rattle.poly_model.specs.Dictionaries.{Table}
 use Rattle.dictionary.specs.Views.{Dictionary}
@@ -10,12 +10,12 @@ use Rattle.reverse_step.specs.Starts.{unparented, IsAtKey}
 use Rattle.reverse_step.proofs.WayLemmas.{reached_stands}
 
 pub at_key : (old : Walk) (now : Dictionary) (key : List ℕ) → StandsAtKey old.root old.dict key now →
-    IsAtKey old key (record { dict = now; root = old.root; job = key; at = 0; parent = None })
+    IsAtKey old key (record { dict = now; root = old.root; job = key; at = 0; parents = [] })
 at_key old now key h = record {
   root = refl;
   job = refl;
   start = record { key = h.there; at = refl };
-  parent = refl;
+  parents = refl;
   phase = h.way.phase;
   reached = h;
   walk = λ space home w. record {
@@ -24,7 +24,7 @@ at_key old now key h = record {
   };
 }
 
--- it is a walk still, and has come as far: that a parent is kept is no part of how far
+-- it is a walk still, and has come as far: which ancestors are kept is no part of how far
 pub still_a_walk : (space : Space) (home : Table) (walk : Walk) → IsWalkIn space home walk →
     IsWalkIn space home (unparented walk)
 still_a_walk space home walk w = record { stands = w.stands; kept = tt }

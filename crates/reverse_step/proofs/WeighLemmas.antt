@@ -3,7 +3,8 @@ use Rattle.std.proofs.Common.{Result, Ok, Err, ◌≡◌, inl, inr, ◌≤◌, �
 use Rattle.std.specs.Prelude.{IfOk, IfErr}
 use Rattle.std.specs.List.{Contains}
 use Rattle.linear_laws.proofs.Members.{Contains-first}
-use Rattle.poly_model.specs.declared.overflow.Overflow.{Overflow}
+use Rattle.dictionary.specs.Views.{overflow_of}
+use Rattle.dictionary.specs.declared.passing.PassingProducts.{PassingProducts}
 use Rattle.poly_model.specs.Spaces.{Space}
 use Rattle.poly_model.specs.Dictionaries.{Table}
 use Rattle.search_laws.specs.Shares.{IsFeasibleKey}
@@ -215,8 +216,9 @@ module _ (first walk new : Walk) (most left : ℕ) (found next : Option ℕ) (h 
 
 -- ---- it stops
 pub counting_stops : (first walk new : Walk) (most left : ℕ) (found : Option ℕ) → Counting first walk most left found →
-    new ≡ walk → (o : Overflow) → StopsWalk walk.dict walk.root o → StopsElsewhere first new o
-counting_stops first walk new most left found h e o x = subst (λ (w : Walk). StopsElsewhere first w o) (sym e) (record {
+    new ≡ walk → (p : PassingProducts) → StopsWalk walk.dict walk.root (overflow_of walk.dict p) →
+    StopsElsewhere first new (overflow_of new.dict p)
+counting_stops first walk new most left found h e p x = subst (λ (w : Walk). StopsElsewhere first w (overflow_of w.dict p)) (sym e) (record {
   root = h.root;
   phase = h.phase;
   walk = λ space home w. (h.each space home w).run.walk_in;
@@ -226,11 +228,11 @@ counting_stops first walk new most left found h e o x = subst (λ (w : Walk). St
 -- ---- a look ahead: the key where it stands is the root of a job of its own meanwhile
 module _ (first : Walk) (key : List ℕ) (same : key ≡ first.dict.key) (new : Walk) (most : ℕ) where
   abbrev alone : Walk
-  alone = record { dict = first.dict; root = first.root; job = key; at = 0; parent = first.parent }
+  alone = record { dict = first.dict; root = first.root; job = key; at = 0; parents = first.parents }
 
   -- the job and the columns as they were
   abbrev restored : Walk
-  restored = record { dict = new.dict; root = new.root; job = first.job; at = first.at; parent = new.parent }
+  restored = record { dict = new.dict; root = new.root; job = first.job; at = first.at; parents = new.parents }
 
   walks_alone : (space : Space) (home : Table) → IsWalkIn space home first → IsWalkIn space home alone
   walks_alone space home w = record { stands = w.stands; kept = w.kept }
@@ -238,7 +240,7 @@ module _ (first : Walk) (key : List ℕ) (same : key ≡ first.dict.key) (new : 
   walks_restored : (space : Space) (home : Table) → IsWalkIn space home new → IsWalkIn space home restored
   walks_restored space home w = record { stands = w.stands; kept = w.kept }
 
-  pub is_again : (r : Result (Option ℕ) Overflow) → IfOk r (HasWeighed alone new most) → IfOk r (λ _. IsAgain first restored)
+  pub is_again : (r : Result (Option ℕ) PassingProducts) → IfOk r (HasWeighed alone new most) → IfOk r (λ _. IsAgain first restored)
   is_again (Ok o) h = record {
     root = h.root;
     job = refl;
@@ -257,12 +259,12 @@ module _ (first : Walk) (key : List ℕ) (same : key ≡ first.dict.key) (new : 
     λ space home w. subst (λ k. IsWeight space first.root k n) same (c space home (walks_alone space home w)),
   )
 
-  pub is_weight : (r : Result (Option ℕ) Overflow) → IfOk r (HasWeighed alone new most) → IfOk r (WeighsWithin first most)
+  pub is_weight : (r : Result (Option ℕ) PassingProducts) → IfOk r (HasWeighed alone new most) → IfOk r (WeighsWithin first most)
   is_weight (Ok o) h = within o h.count
   is_weight (Err e) h = h
 
-  pub stops_restored : (r : Result (Option ℕ) Overflow) → IfErr r (StopsElsewhere alone new) →
-      IfErr r (StopsElsewhere first restored)
+  pub stops_restored : (r : Result (Option ℕ) PassingProducts) → IfErr r (λ p. StopsElsewhere alone new (overflow_of new.dict p)) →
+      IfErr r (λ p. StopsElsewhere first restored (overflow_of new.dict p))
   stops_restored (Ok o) h = h
   stops_restored (Err e) h = record {
     root = h.root;

@@ -1,5 +1,5 @@
 -- How a walk moves.
-use Rattle.std.specs.Prelude.{◌≡◌, ◌⊎◌, ℕ, zero, suc, ◌+◌, Bool, true, false, List, [], ◌∷◌, ◌++◌, length, Option, Some, None}
+use Rattle.std.specs.Prelude.{◌≡◌, ◌⊎◌, ℕ, zero, suc, ◌+◌, ◌<◌, Bool, true, false, List, [], ◌∷◌, ◌++◌, length, take, drop, Option, Some, None}
 use Rattle.poly_model.specs.Spaces.{Space}
 use Rattle.poly_model.specs.Dictionaries.{Table}
 use Rattle.dictionary_laws.specs.Keys.{place_in}
@@ -8,26 +8,33 @@ use Rattle.search_laws.specs.Shares.{ListsAll, IsChild}
 use Rattle.lex_pivot.specs.Above.{NoneEnters}
 use Rattle.reverse_step.specs.declared.walker.Visit.{Visit}
 use Rattle.reverse_step.specs.declared.walker.Visit.TheVariants.{New, Back, End}
-use Rattle.reverse_step.specs.Walks.{Parent, Walk, IsChildAt, Stands, IsWalkIn, Waits}
+use Rattle.reverse_step.specs.Walks.{Parent, Walk, IsChildAt, IsWalkIn, Waits}
 use Rattle.reverse_step.specs.Children.{HasNoChildAt}
 
 -- the same walk elsewhere
-abbrev pub moved_to : Walk → Dictionary → ℕ → Option Parent → Walk
-moved_to walk d at parent = record { dict = d; root = walk.root; job = walk.job; at = at; parent = parent }
+abbrev pub moved_to : Walk → Dictionary → ℕ → List Parent → Walk
+moved_to walk d at parents = record { dict = d; root = walk.root; job = walk.job; at = at; parents = parents }
 
 -- the same walk, with all columns tried
 abbrev pub past : Walk → Walk
-past walk = moved_to walk walk.dict (length walk.dict.key) walk.parent
+past walk = moved_to walk walk.dict (length walk.dict.key) walk.parents
 
 -- ---- one column
+-- the ancestors below: the dictionary from before, whose child is in the column of s, and before it as many as are still
+-- kept
+abbrev pub parents_below : Walk → ℕ → ℕ → List Parent
+parents_below old s kept = record { dict = old.dict; column = s } ∷ take kept old.parents
+
 -- row r has taken the place of s; no column is tried there, and the dictionary from before is kept
 pub record IsMovedDown (old : Walk) (r s : ℕ) (new : Walk) : Type 0 where
   pub pivot : IsPivot old.dict r s new.dict
-  pub same : new ≡ moved_to old new.dict 0 (Some (record { dict = old.dict; column = s }))
+  pub kept : ℕ
+  pub same : new ≡ moved_to old new.dict 0 (parents_below old s kept)
 
 -- at the child in the column of s, in each space in which this is a walk; no column is tried there
 pub record IsAtChild (old : Walk) (s : ℕ) (new : Walk) : Type 0 where
-  pub same : new ≡ moved_to old new.dict 0 (Some (record { dict = old.dict; column = s }))
+  pub kept : ℕ
+  pub same : new ≡ moved_to old new.dict 0 (parents_below old s kept)
   pub phase : new.dict.phase ≡ old.dict.phase
   pub child : (space : Space) (home : Table) → IsWalkIn space home old →
       IsWalkIn space home new × IsChildAt space old.root old.dict.key s new.dict.key
@@ -38,12 +45,22 @@ GoesDown old s true new = IsAtChild old s new
 GoesDown old s false new = (new ≡ old) × HasNoChildAt old.root old.dict s
 
 -- at the parent, whose child it was in the column of s, in each space in which this is a walk; the next column is that
--- behind s
+-- behind s, and the ancestors are kept that were kept before it
 pub record IsMovedUp (old : Walk) (s : ℕ) (new : Walk) : Type 0 where
-  pub same : new ≡ moved_to old new.dict (place_in new.dict.key s + 1) None
+  pub same : new ≡ moved_to old new.dict (place_in new.dict.key s + 1) (drop 1 old.parents)
   pub phase : new.dict.phase ≡ old.dict.phase
   pub parent : (space : Space) (home : Table) → IsWalkIn space home old →
-      Stands space home old.root new.dict × IsChildAt space old.root new.dict.key s old.dict.key
+      IsWalkIn space home new × IsChildAt space old.root new.dict.key s old.dict.key
+
+-- some ancestor is kept
+abbrev pub KnowsParent : Walk → Type 0
+KnowsParent walk = 0 < length walk.parents
+
+-- at the parent that was kept, whose child it was in the column of s
+pub record IsBackAtParent (old : Walk) (s : ℕ) (new : Walk) : Type 0 where
+  pub parents : old.parents ≡ record { dict = new.dict; column = s } ∷ new.parents
+  pub same : new ≡ moved_to old new.dict (place_in new.dict.key s + 1) new.parents
+  pub phase : new.dict.phase ≡ old.dict.phase
 
 -- None: at the job's root, or at a cobasis without a parent, and nothing has changed
 abbrev pub GoesUp : Walk → Option ℕ → Walk → Type 0

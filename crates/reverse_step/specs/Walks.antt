@@ -1,5 +1,5 @@
 -- Where a walk through the tree of cobases stands.
-use Rattle.std.specs.Prelude.{◌≡◌, ℕ, zero, List, length, Option, Some, None}
+use Rattle.std.specs.Prelude.{◌≡◌, ℕ, zero, List, [], ◌∷◌, length}
 use Rattle.poly_model.specs.Keys.{IsAscending}
 use Rattle.poly_model.specs.Spaces.{Space}
 use Rattle.poly_model.specs.Dictionaries.{Table}
@@ -9,30 +9,25 @@ use Rattle.dictionary.specs.Views.{Dictionary, table_of, IsDictionaryIn}
 use Rattle.search_laws.specs.Shares.{IsChild}
 use Rattle.reverse_step.specs.Waiting.{Wait}
 
--- a dictionary of which that where the walk stands is the child, in the column of a label
+-- a dictionary of which another one is the child, in the column of a label
 pub record Parent : Type 0 where
   pub dict : Dictionary
   pub column : ℕ
 
 -- the dictionary where it stands, the root of the order, the job's root, the place in the key of the next column; and the
--- parent, where it is kept
+-- ancestors that are kept: first the parent, then its parent, and so on
 pub record Walk : Type 0 where
   pub dict : Dictionary
   pub root : List ℕ
   pub job : List ℕ
   pub at : ℕ
-  pub parent : Option Parent
+  pub parents : List Parent
 
 -- both are of one phase, with as many rows and columns
 pub record AreAlike (here other : Dictionary) : Type 0 where
   pub phase : other.phase ≡ here.phase
   pub rows : length other.labels ≡ length here.labels
   pub columns : length other.columns ≡ length here.columns
-
--- the other dictionary is the parent's where there is a column
-abbrev pub kept_parent : Option ℕ → Dictionary → Option Parent
-kept_parent None d = None
-kept_parent (Some s) d = Some (record { dict = d; column = s })
 
 -- a child, which is the neighbour in the column of s
 pub record IsChildAt (space : Space) (root key : List ℕ) (s : ℕ) (one : List ℕ) : Type 0 where
@@ -48,16 +43,17 @@ pub record Stands (space : Space) (home : Table) (root : List ℕ) (d : Dictiona
   pub dictionary : IsDictionaryIn space d
   pub feasible : IsLexFeasible space root d.key (table_of d)
 
--- what is kept as the parent is it
-abbrev pub IsParentKept : Space → Table → List ℕ → Dictionary → Option Parent → Type 0
-IsParentKept space home root d None = Unit {0}
-IsParentKept space home root d (Some p) =
+-- each ancestor that is kept is the parent of the one before it, and the first that of this dictionary
+abbrev pub AreParentsKept : Space → Table → List ℕ → Dictionary → List Parent → Type 0
+AreParentsKept space home root d [] = Unit {0}
+AreParentsKept space home root d (p ∷ ps) =
     Stands space home root p.dict × IsChildAt space root p.dict.key p.column d.key
+    × AreParentsKept space home root p.dict ps
 
 -- in this space it is a walk
 pub record IsWalkIn (space : Space) (home : Table) (walk : Walk) : Type 0 where
   pub stands : Stands space home walk.root walk.dict
-  pub kept : IsParentKept space home walk.root walk.dict walk.parent
+  pub kept : AreParentsKept space home walk.root walk.dict walk.parents
 
 -- at this depth under the job's root these keys wait
 abbrev pub Waits : Space → Walk → ℕ → List (List ℕ) → Type 0

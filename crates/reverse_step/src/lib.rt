@@ -1,8 +1,10 @@
-//! The walk of a reverse search through the tree of cobases, with two dictionaries and no stack (Avis and Fukuda 1992).
+//! The walk of a reverse search through the tree of cobases (Avis and Fukuda 1992), with the dictionaries of the nearest
+//! ancestors and no stack.
 #![tactic(auto)]
 
 mod children;
-mod pivots;
+mod ring;
+mod slots;
 #[cfg(test)]
 mod tests;
 mod walker;

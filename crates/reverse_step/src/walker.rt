@@ -1,24 +1,25 @@
 //! The walk.
-ghost use Rattle.std.specs.Prelude.{◌≡◌, ◌≤◌, ◌<◌, ◌↔◌, ◌+◌, IsTrue, IfOk, IfErr, length, None};
+ghost use Rattle.std.specs.Prelude.{◌≡◌, ◌≤◌, ◌<◌, ◌↔◌, ◌+◌, IsTrue, IfOk, IfErr, length, [], Some};
 ghost use Rattle.dictionary_laws.specs.Keys.{place_in};
 ghost use Rattle.reverse_step.specs.Walks.{Walk};
 ghost use Rattle.std.specs.List.{Contains};
 ghost use Rattle.std.specs.Option.{MatchOption};
-ghost use Rattle.lex_pivot.specs.Above.{NoneEnters};
+ghost use Rattle.dictionary.specs.Views.{overflow_of};
+ghost use Rattle.lex_pivot.specs.Above.{NoneEnters, LeadsToParent};
 ghost use Rattle.lex_pivot.specs.Leads.{AreLeads};
 ghost use Rattle.reverse_step.specs.Children.{CountsChildren, LeadsToChild, StopsWalk};
 ghost use Rattle.reverse_step.specs.Ways.{StopsOnTheWay};
 ghost use Rattle.reverse_step.specs.declared.walker.Visit.TheVariants.{End};
 ghost use Rattle.reverse_step.specs.Again.{IsAgain, IsWalkSomewhere, WeighsWithin, StopsElsewhere};
 ghost use Rattle.reverse_step.specs.Starts.{unparented, Starts};
-ghost use Rattle.reverse_step.specs.Moves.{IsMovedDown, IsMovedUp, GoesDown, GoesUp, IsVisit, past};
+ghost use Rattle.reverse_step.specs.Moves.{IsMovedDown, IsMovedUp, IsBackAtParent, KnowsParent, GoesDown, GoesUp, IsVisit, past};
 
 use crate::children::{child_at, child_count, first_child};
-use crate::pivots::pivot_over;
-use crate::way::reach;
+use crate::ring::{one_more, place_after, place_before, slots_for};
+use crate::slots::{Slot, pivot_over, reach_over};
 use crate::weighing::weigh;
-use dictionary::{Dict, Steps};
-use lex_pivot::{Leads, Order, parent_along};
+use dictionary::{Dict, PassingProducts, Steps};
+use lex_pivot::{Leads, Order, Pivot, parent_along};
 use poly_model::{Key, Label, OutOfMemory, Overflow, Root};
 use std::alloc::Global;
 use std::marker::Model;
@@ -48,22 +49,25 @@ impl Visit {
     }
 }
 
-/// A walk through the cobases under one of them, the job's root, depth first.
+/// A walk through the cobases under one of them, the job's root, depth first. It keeps the dictionaries of the nearest
+/// ancestors in a ring, so that a step back is seldom a pivot (lrslib's cache of dictionaries: D. Avis, "lrs: a revised
+/// implementation of the reverse search vertex enumeration algorithm", 2000).
 pub struct Walker {
-    // behind boxes, so that the two change places without a copy
-    here: Box<Dict>,
-    // room for the next dictionary, or the parent's
-    other: Box<Dict>,
+    // where it stands; its column is of no account
+    here: Slot,
+    // Slots in a ring. Known are the parent's at `last`, that of its parent at the place before, and so on; the place behind
+    // `last` is written over next:
+    //
+    //     place      0      1      2      3      4      5
+    //              known  known   last   next   free  known
+    //                2      1      0                    3      parents up from the parent
+    slots: Vec<Slot>,
+    last: usize,
+    known: usize,
     order: Order,
-    // those of the dictionary where it stands, and, where the other one is the parent's, those of that one; each with the
-    // rows of the cobasis that are outside the root
-    leads: Leads,
-    kept: Leads,
     job: Key,
     // the place in the key of the next column to try
     at: usize,
-    // where the other dictionary is the parent's, the column in which this one is its child
-    back: Option<Label>,
 }
 
 // Written out, so that to let one go is one step in the proofs of those who hold it.
@@ -71,51 +75,48 @@ impl Drop for Walker {
     fn drop(self) {
         let Self {
             here: _,
-            other: _,
+            slots: _,
+            last: _,
+            known: _,
             order: _,
-            leads: _,
-            kept: _,
             job: _,
             at: _,
-            back: _,
         } = self;
     }
 }
 
 impl Model for Walker {
-    ghost use Rattle.reverse_step.specs.Walks.{Walk, kept_parent, AreAlike};
-    ghost use Rattle.reverse_step.specs.Kept.{AreLeadsKept};
+    ghost use Rattle.reverse_step.specs.Walks.{Walk};
+    ghost use Rattle.reverse_step.specs.Rings.{kept_parents, IsRing};
 
     ghost Value = { Walk };
 
-    ghost view = { λ w. record { dict = w.here.value; root = w.order; job = w.job; at = w.at; parent = kept_parent w.back w.other.value } };
+    ghost view = { λ w. record { dict = w.here.dict.value; root = w.order; job = w.job; at = w.at; parents = kept_parents w.slots.items w.last w.known } };
 
-    ghost invariant = { λ w. AreAlike w.here.value w.other.value × AreLeadsKept w.here.value w.other.value w.order w.back w.leads w.kept };
+    ghost invariant = { λ w. IsRing w.here w.slots.items w.last w.known w.order };
 }
 
 impl Walker {
     /// A walk under this root that begins at the dictionary, whose cobasis is the job's root. Takes memory for a second
     /// dictionary, for the order of rows, and for the leads of both dictionaries with the rows of the cobasis outside the
-    /// root. Where the cobasis is not lexicographically feasible under the root, it is no walk until a start at a key that is.
+    /// root; and for further dictionaries, up to 16 in all and a million cells, where there is memory for them. Where the
+    /// cobasis is not lexicographically feasible under the root, it is no walk until a start at a key that is.
     pub fn new(alloc: Global, dict: Dict, root: &Root) -> Result<Walker, OutOfMemory>
         ensures { IfOk result (λ walk.
-            walk ≡ record { dict = dict; root = root.now.key; job = dict.key; at = 0; parent = None }) }
+            walk ≡ record { dict = dict; root = root.now.key; job = dict.key; at = 0; parents = [] }) }
     {
         let order = Order::marked(alloc, root)?;
-        let leads = Leads::of(alloc, &dict, &order)?;
-        let kept = Leads::of(alloc, &dict, &order)?;
         let job = dict.key();
-        let other = Box::new(alloc, dict.copy()?)?;
-        let here = Box::new(alloc, dict)?;
+        let slots = slots_for(alloc, &dict, &order)?;
+        let here = Slot::of(alloc, dict, &order)?;
         Ok(Walker {
             here,
-            other,
+            slots,
+            last: 0,
+            known: 0,
             order,
-            leads,
-            kept,
             job,
             at: 0,
-            back: None,
         })
     }
 
@@ -123,7 +124,7 @@ impl Walker {
     pub fn dict(&self) -> &Dict
         ensures { result.now ≡ self.now.dict }
     {
-        &self.here
+        &self.here.dict
     }
 
     /// The order of rows relative to the root.
@@ -137,37 +138,42 @@ impl Walker {
     pub fn leads(&self) -> &Leads
         ensures { AreLeads self.now.dict self.now.root result.now }
     {
-        &self.leads
+        &self.here.leads
     }
 
     /// How many children the cobasis has where it stands, whatever columns are still to be tried.
     pub fn child_count(&self) -> usize
         ensures { CountsChildren self.now.root self.now.dict result }
     {
-        child_count(&self.here, &self.order, &self.leads)
+        child_count(&self.here.dict, &self.order, &self.here.leads)
     }
 
     /// Passes over the columns that are still to be tried: the next step leads to the parent.
     pub fn pass(&mut self)
         ensures { self.new ≡ past self.old }
     {
-        self.at = self.here.cobasis().len();
+        self.at = self.here.dict.cobasis().len();
     }
 
     /// Begins anew at this key, which is the job's root from then on: no column is tried there. At most one pivot for each
     /// of its labels. False where it is the key of no lexicographically feasible cobasis; then, and where a pivot overflows,
-    /// it stands where it stood, and the same columns are still to be tried. Which parent it came from is forgotten in each
-    /// case, so a later step back to it takes a pivot. Takes no memory.
+    /// it stands where it stood, and the same columns are still to be tried. Its ancestors are forgotten in each case, so a
+    /// later step back to one takes a pivot. Takes no memory.
     pub fn start<L: Ledger>(&mut self, key: &Key, steps: &mut Steps<L>) -> Result<bool, Overflow>
         ensures start { IfOk result (λ b. Starts self.old key.now b self.new) }
         ensures unchanged { IfErr result (λ _. self.new ≡ unparented self.old) }
         ensures stops { IfErr result (λ o. StopsOnTheWay self.old.dict key.now o) }
         ensures counted { steps.new ≤ steps.old + length key.now }
     {
-        self.back = None;
-        if reach(&self.here, &mut self.other, &self.order, key, steps)? {
-            swap(&mut self.here, &mut self.other);
-            self.leads.read(&self.here, &self.order);
+        self.known = 0;
+        let next = place_after(self.slots.len(), self.last);
+        if reach_over(
+            &mut self.here,
+            &mut self.slots[next],
+            &self.order,
+            key,
+            steps,
+        )? {
             self.job = *key;
             self.at = 0;
             Ok(true)
@@ -177,15 +183,20 @@ impl Walker {
     }
 
     /// To the child in the column of `col`, if there is one: then no column of it is tried. False where the neighbour there
-    /// is none, and nothing has changed. Where the pivot overflows, nothing has changed. Takes no memory.
-    pub fn down<L: Ledger>(&mut self, col: Label, steps: &mut Steps<L>) -> Result<bool, Overflow>
+    /// is none, and nothing has changed. Where the pivot is refused, the answer says which
+    /// products pass there (`Dict::overflow` makes an `Overflow` of them), and nothing has changed. Takes no memory.
+    pub fn down<L: Ledger>(
+        &mut self,
+        col: Label,
+        steps: &mut Steps<L>,
+    ) -> Result<bool, PassingProducts>
         requires { Contains self.old.dict.key col }
         ensures down { IfOk result (λ b. GoesDown self.old col b self.new) }
         ensures unchanged { IfErr result (λ _. self.new ≡ self.old) }
-        ensures stops { IfErr result (λ o. StopsWalk self.old.dict self.old.root o) }
+        ensures stops { IfErr result (λ p. StopsWalk self.old.dict self.old.root (overflow_of self.old.dict p)) }
         ensures counted { steps.new ≤ steps.old + 1 }
     {
-        match child_at(&self.here, &self.order, &self.leads, col) {
+        match child_at(&self.here.dict, &self.order, &self.here.leads, col) {
             Some(row) => {
                 self.descend(row, col, steps)?;
                 Ok(true)
@@ -197,10 +208,10 @@ impl Walker {
     /// To the parent, and the label that comes back into the cobasis: the columns behind it are still to be tried. None at
     /// the job's root, and at a cobasis without a parent; then nothing has changed. Where the pivot overflows, nothing has
     /// changed. Takes no memory.
-    pub fn up<L: Ledger>(&mut self, steps: &mut Steps<L>) -> Result<Option<Label>, Overflow>
+    pub fn up<L: Ledger>(&mut self, steps: &mut Steps<L>) -> Result<Option<Label>, PassingProducts>
         ensures up { IfOk result (λ o. GoesUp self.old o self.new) }
         ensures unchanged { IfErr result (λ _. self.new ≡ self.old) }
-        ensures stops { IfErr result (λ o. StopsWalk self.old.dict self.old.root o) }
+        ensures stops { IfErr result (λ p. StopsWalk self.old.dict self.old.root (overflow_of self.old.dict p)) }
         ensures counted { steps.new ≤ steps.old + 1 }
     {
         if self.is_at_job() {
@@ -211,14 +222,14 @@ impl Walker {
 
     /// One step: to the first child in the columns from the next one on, or else back to the parent. `End` comes where all
     /// under the job's root is visited; it stands there. Where a pivot overflows, nothing has changed. Takes no memory.
-    pub fn next<L: Ledger>(&mut self, steps: &mut Steps<L>) -> Result<Visit, Overflow>
+    pub fn next<L: Ledger>(&mut self, steps: &mut Steps<L>) -> Result<Visit, PassingProducts>
         ensures visit { IfOk result (λ v. IsVisit self.old v self.new) }
         ensures end { IfOk result (λ v. v ≡ End → self.new ≡ self.old) }
         ensures unchanged { IfErr result (λ _. self.new ≡ self.old) }
-        ensures stops { IfErr result (λ o. StopsWalk self.old.dict self.old.root o) }
+        ensures stops { IfErr result (λ p. StopsWalk self.old.dict self.old.root (overflow_of self.old.dict p)) }
         ensures counted { steps.new ≤ steps.old + 1 }
     {
-        if let Some(child) = first_child(&self.here, &self.order, &self.leads, self.at) {
+        if let Some(child) = first_child(&self.here.dict, &self.order, &self.here.leads, self.at) {
             self.descend(child.row, child.col, steps)?;
             return Ok(Visit::New);
         }
@@ -235,16 +246,16 @@ impl Walker {
         &mut self,
         most: u64,
         steps: &mut Steps<L>,
-    ) -> Result<Option<u64>, Overflow>
+    ) -> Result<Option<u64>, PassingProducts>
         requires walk { IsWalkSomewhere self.old }
         requires some { 0 < most }
         ensures again { IfOk result (λ _. IsAgain self.old self.new) }
         ensures weight { IfOk result (WeighsWithin self.old most) }
-        ensures stops { IfErr result (StopsElsewhere self.old self.new) }
+        ensures stops { IfErr result (λ p. StopsElsewhere self.old self.new (overflow_of self.new.dict p)) }
     {
         let job = self.job;
         let at = self.at;
-        self.job = self.here.key();
+        self.job = self.here.dict.key();
         self.at = 0;
         let found = weigh(self, most, steps);
         self.job = job;
@@ -256,7 +267,7 @@ impl Walker {
     fn is_at_job(&self) -> bool
         ensures { IsTrue result ↔ (self.now.dict.key ≡ self.now.job) }
     {
-        self.here.cobasis() == self.job.labels()
+        self.here.dict.cobasis() == self.job.labels()
     }
 
     // To a child.
@@ -265,47 +276,89 @@ impl Walker {
         row: Label,
         col: Label,
         steps: &mut Steps<L>,
-    ) -> Result<(), Overflow>
+    ) -> Result<(), PassingProducts>
         requires { LeadsToChild self.old.root self.old.dict col row }
         ensures down { IfOk result (λ _. IsMovedDown self.old row col self.new) }
         ensures unchanged { IfErr result (λ _. self.new ≡ self.old) }
-        ensures stops { IfErr result (λ o. StopsWalk self.old.dict self.old.root o) }
+        ensures stops { IfErr result (λ p. StopsWalk self.old.dict self.old.root (overflow_of self.old.dict p)) }
         ensures counted { steps.new ≤ steps.old + 1 }
     {
-        pivot_over(&mut self.here, &mut self.other, row, col, steps)?;
-        swap(&mut self.leads, &mut self.kept);
-        self.leads.read(&self.here, &self.order);
-        self.at = 0;
-        self.back = Some(col);
-        Ok(())
+        let next = place_after(self.slots.len(), self.last);
+        let pivot = Pivot { row, col };
+        match pivot_over(
+            &mut self.here,
+            &mut self.slots[next],
+            &self.order,
+            &pivot,
+            steps,
+        ) {
+            Ok(()) => {
+                self.last = next;
+                self.known = one_more(self.slots.len(), self.known);
+                self.at = 0;
+                Ok(())
+            }
+            Err(products) => Err(products),
+        }
     }
 
     // To the parent, and the label that comes back into the cobasis.
-    fn ascend<L: Ledger>(&mut self, steps: &mut Steps<L>) -> Result<Option<Label>, Overflow>
+    fn ascend<L: Ledger>(&mut self, steps: &mut Steps<L>) -> Result<Option<Label>, PassingProducts>
         ensures up { IfOk result (λ o. MatchOption o ((self.new ≡ self.old) × NoneEnters self.old.dict self.old.root)
             (λ s. IsMovedUp self.old s self.new)) }
         ensures unchanged { IfErr result (λ _. self.new ≡ self.old) }
-        ensures stops { IfErr result (λ o. StopsWalk self.old.dict self.old.root o) }
+        ensures stops { IfErr result (λ p. StopsWalk self.old.dict self.old.root (overflow_of self.old.dict p)) }
         ensures counted { steps.new ≤ steps.old + 1 }
     {
-        match self.back {
-            Some(col) => {
-                swap(&mut self.here, &mut self.other);
-                swap(&mut self.leads, &mut self.kept);
-                self.back = None;
-                self.at = place_of(self.here.cobasis(), col) + 1;
-                Ok(Some(col))
-            }
-            None => match parent_along(&self.here, &self.order, self.leads.before_root()) {
-                Some(pivot) => {
-                    self.here.pivot(pivot.row, pivot.col, steps)?;
-                    self.leads.read(&self.here, &self.order);
-                    self.at = place_of(self.here.cobasis(), pivot.row) + 1;
-                    Ok(Some(pivot.row))
-                }
-                None => Ok(None),
-            },
+        if self.known > 0 {
+            return Ok(Some(self.return_to_parent()));
         }
+        match parent_along(&self.here.dict, &self.order, self.here.leads.before_root()) {
+            Some(pivot) => self.pivot_to_parent(pivot, steps),
+            None => Ok(None),
+        }
+    }
+
+    // To the parent that this pivot leads to, where none is known.
+    fn pivot_to_parent<L: Ledger>(
+        &mut self,
+        pivot: Pivot,
+        steps: &mut Steps<L>,
+    ) -> Result<Option<Label>, PassingProducts>
+        requires none { self.old.parents ≡ [] }
+        requires leads { LeadsToParent self.old.dict self.old.root pivot.col pivot.row }
+        ensures up { IfOk result (λ o. (o ≡ Some pivot.row) × IsMovedUp self.old pivot.row self.new) }
+        ensures unchanged { IfErr result (λ _. self.new ≡ self.old) }
+        ensures stops { IfErr result (λ p. StopsWalk self.old.dict self.old.root (overflow_of self.old.dict p)) }
+        ensures counted { steps.new ≤ steps.old + 1 }
+    {
+        let next = place_after(self.slots.len(), self.last);
+        match pivot_over(
+            &mut self.here,
+            &mut self.slots[next],
+            &self.order,
+            &pivot,
+            steps,
+        ) {
+            Ok(()) => {
+                self.at = place_of(self.here.dict.cobasis(), pivot.row) + 1;
+                Ok(Some(pivot.row))
+            }
+            Err(products) => Err(products),
+        }
+    }
+
+    // To the parent that is known, and the column in which the dictionary from before is its child.
+    fn return_to_parent(&mut self) -> Label
+        requires { KnowsParent self.old }
+        ensures { IsBackAtParent self.old result self.new }
+    {
+        swap(&mut self.here, &mut self.slots[self.last]);
+        self.last = place_before(self.slots.len(), self.last);
+        self.known -= 1;
+        let col = self.here.column;
+        self.at = place_of(self.here.dict.cobasis(), col) + 1;
+        col
     }
 }
 

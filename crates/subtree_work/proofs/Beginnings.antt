@@ -17,7 +17,7 @@ use Rattle.tree_laws.proofs.PointTest.{constants_are_not_negative}
 use Rattle.tree_laws.proofs.Roots.{root_is_feasible}
 use Rattle.dictionary.specs.Views.{Dictionary, table_of}
 use Rattle.linearity.specs.Prepared.{IsPrepared}
-use Rattle.reverse_step.specs.Walks.{Walk, IsParentKept, Stands}
+use Rattle.reverse_step.specs.Walks.{Walk, AreParentsKept, Stands}
 use Rattle.reverse_step.specs.Ways.{StopsOnTheWay, IsNoFeasibleKey}
 use Rattle.reverse_step.specs.Starts.{unparented, IsAtKey, Starts}
 use Rattle.reverse_step.proofs.DueLemmas.{due_on_the_way}
@@ -82,7 +82,7 @@ module _ (p : Polyhedron) (lines : List Vector) (free : List ℕ) (d : Dictionar
       home = table_of new.dict;
       walk_in = record {
         stands = subst (λ r. Stands space (table_of new.dict) r new.dict) (sym h.root) stands;
-        kept = subst (IsParentKept space (table_of new.dict) new.root new.dict) (sym h.parent) tt;
+        kept = subst (AreParentsKept space (table_of new.dict) new.root new.dict) (sym h.parents) tt;
       };
       phase = h.phase ∙ x.phase;
     }

@@ -1,8 +1,9 @@
 -- At a new cobasis: the walk may have looked ahead, and what becomes of the cobasis is what may.
-use Rattle.std.proofs.Common.{◌≡◌, inl, inr, ℕ, ◌+◌, ◌≤◌, ◌<◌, List, length, Option, Result, Ok, Err, ap, ◌∙◌, arith}
-use Rattle.std.specs.Prelude.{IfOk}
+use Rattle.std.proofs.Common.{◌≡◌, inl, inr, ℕ, ◌+◌, ◌≤◌, ◌<◌, List, length, Option, Result, Ok, Err, refl, sym, ap, subst, ◌∙◌, arith}
+use Rattle.std.specs.Prelude.{IfOk, IfErr, OnErr, IsErrOf}
 use Rattle.poly_io.specs.Causes.{RisesAt}
 use Rattle.poly_num.specs.Vectors.{Vector}
+use Rattle.poly_model.specs.declared.overflow.Overflow.{Overflow as Passed}
 use Rattle.poly_model.specs.Spaces.{main_space}
 use Rattle.poly_model.specs.Systems.{System}
 use Rattle.reverse_step.specs.Walks.{Walk}
@@ -11,12 +12,12 @@ use Rattle.convert_core.specs.declared.rays.Rays.{Rays}
 use Rattle.convert_core.proofs.Searching.{elsewhere}
 use Rattle.work_core.specs.declared.budget.Budget.{Budget}
 use Rattle.work_core.specs.declared.stops.WorkStop.{WorkStop}
-use Rattle.work_core.specs.declared.stops.WorkStop.TheVariants.{WriteFault}
+use Rattle.work_core.specs.declared.stops.WorkStop.TheVariants.{Overflow, WriteFault}
 use Rattle.work_core.specs.Splits.{IsBudget, most_bases}
 use Rattle.subtree_work.specs.declared.choice.Choice.TheVariants.{Visited, GivenBack}
 use Rattle.subtree_work.specs.declared.progress.Progress.{Progress}
 use Rattle.subtree_work.specs.Made.{IsSearchOfEach}
-use Rattle.subtree_work.specs.Steps.{MayChoose, VisitsMet, GivesMetBack, MeetsHere}
+use Rattle.subtree_work.specs.Steps.{MayChoose, VisitsMet, GivesMetBack, MeetsHere, FailsAt, StopsMeeting}
 use Rattle.subtree_work.proofs.Stepping.{search_from}
 
 -- the walk that looked ahead is one of the same search
@@ -64,3 +65,15 @@ rises_too before now stop rises = record {
   failed = λ e. rises.failed cc;
   same = λ other. rises.same (λ f. other cc);
 }
+
+-- a write failed where the walk stands, which may have looked ahead
+pub stops_writing : (sys now : System) (there again after : Walk) (old new : Option (List ℕ))
+    (result : Result Progress WorkStop) → now ≡ sys → IsAgain there again → OnErr result (FailsAt now again old new) →
+    OnErr result (after ≡ again) → ((o : Passed) → IsErrOf result (Overflow o) → ⊥) →
+    IfErr result (StopsMeeting sys there after old new)
+stops_writing sys now there again after old new (Ok x) e a f s n = tt
+stops_writing sys now there again after old new (Err (Overflow o)) e a f s n = absurd (n o refl)
+stops_writing sys now there again after old new (Err WriteFault) e a f s n = (
+  subst (λ (w : Walk). IsAgain there w) (sym s) a,
+  subst (λ (w : Walk). FailsAt sys w old new) (sym s) (subst (λ (y : System). FailsAt y again old new) e f),
+)

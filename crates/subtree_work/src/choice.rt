@@ -1,13 +1,13 @@
 //! Where a run gives a key back in place of visiting it.
 ghost use Rattle.std.specs.Prelude.{◌≡◌, ◌<◌, IfOk, IfErr};
+ghost use Rattle.dictionary.specs.Views.{overflow_of};
 ghost use Rattle.reverse_step.specs.Again.{IsAgain, StopsElsewhere};
 ghost use Rattle.subtree_work.specs.Made.{IsSearchOfEach};
 ghost use Rattle.subtree_work.specs.Steps.{IsAtDepth, MayChoose};
 
 use crate::progress::{Progress, SMALL_PART, is_at_depth, is_kept};
 use crate::search::Search;
-use dictionary::Steps;
-use poly_model::Overflow;
+use dictionary::{PassingProducts, Steps};
 use std::sync::ledger::Ledger;
 use work_core::Budget;
 
@@ -27,11 +27,12 @@ pub(crate) fn choose<L: Ledger>(
     budget: Budget,
     met: Progress,
     steps: &mut Steps<L>,
-) -> Result<Choice, Overflow>
+) -> Result<Choice, PassingProducts>
     requires search { IsSearchOfEach search.old.sys.now search.old.rays search.old.walker search.old.vector.items }
     ensures chosen { IfOk result (MayChoose budget search.old.walker met) }
     ensures again { IfOk result (λ _. IsAgain search.old.walker search.new.walker) }
-    ensures stops { IfErr result (StopsElsewhere search.old.walker search.new.walker) }
+    ensures stops { IfErr result (λ p. StopsElsewhere search.old.walker search.new.walker
+        (overflow_of search.new.walker.dict p)) }
     ensures sys { search.new.sys.now ≡ search.old.sys.now }
     ensures rays { search.new.rays ≡ search.old.rays }
     ensures vector { search.new.vector.items ≡ search.old.vector.items }
@@ -59,14 +60,15 @@ fn choose_at_depth<L: Ledger>(
     budget: Budget,
     met: Progress,
     steps: &mut Steps<L>,
-) -> Result<Choice, Overflow>
+) -> Result<Choice, PassingProducts>
     requires search { IsSearchOfEach search.old.sys.now search.old.rays search.old.walker search.old.vector.items }
     requires left { met.count.bases < budget.bases }
     requires none { met.small_left ≡ 0 }
     requires depth { IsAtDepth budget met }
     ensures chosen { IfOk result (MayChoose budget search.old.walker met) }
     ensures again { IfOk result (λ _. IsAgain search.old.walker search.new.walker) }
-    ensures stops { IfErr result (StopsElsewhere search.old.walker search.new.walker) }
+    ensures stops { IfErr result (λ p. StopsElsewhere search.old.walker search.new.walker
+        (overflow_of search.new.walker.dict p)) }
     ensures sys { search.new.sys.now ≡ search.old.sys.now }
     ensures rays { search.new.rays ≡ search.old.rays }
     ensures vector { search.new.vector.items ≡ search.old.vector.items }
@@ -81,6 +83,6 @@ fn choose_at_depth<L: Ledger>(
             small_left: weight.saturating_sub(1),
         }),
         Ok(None) => Ok(Choice::GivenBack),
-        Err(overflow) => Err(overflow),
+        Err(products) => Err(products),
     }
 }

@@ -107,7 +107,7 @@ fn step<S: Sink, L: Ledger>(
         },
         Ok(Visit::Back) => Ok((Visit::Back, so_far.back())),
         Ok(Visit::End) => Ok((Visit::End, so_far)),
-        Err(overflow) => Err(WorkStop::Overflow(overflow)),
+        Err(products) => Err(WorkStop::Overflow(search.walker.dict().overflow(products))),
     }
 }
 
@@ -136,7 +136,7 @@ fn meet<S: Sink, L: Ledger>(
     match choose(search, budget, met, steps) {
         Ok(Choice::Visited { small_left }) => visit_met(search, budget, met, small_left, out),
         Ok(Choice::GivenBack) => give_met_back(search, met, out),
-        Err(overflow) => Err(WorkStop::Overflow(overflow)),
+        Err(products) => Err(WorkStop::Overflow(search.walker.dict().overflow(products))),
     }
 }
 

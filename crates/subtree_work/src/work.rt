@@ -26,8 +26,8 @@ use std::sync::ledger::{Blank, Ledger};
 use work_core::{Budget, Work, WorkStop};
 
 /// A listing that is parted by subtrees of the reverse search from a root: the keys are the lexicographically feasible
-/// cobases, and one lies under another where parents lead from it there. It keeps two dictionaries, and takes no memory
-/// once it is made.
+/// cobases, and one lies under another where parents lead from it there. It keeps a fixed number of dictionaries, and
+/// takes no memory once it is made.
 #[derive(Drop)]
 pub struct SubtreeWork<'a> {
     root: Key,

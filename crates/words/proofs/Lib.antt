@@ -1,2 +1,4 @@
 pub mod BitLemmas
-pub mod HalfCrossLemmas
+pub mod CrossLemmas
+pub mod PlaceLemmas
+pub mod SmallLemmas

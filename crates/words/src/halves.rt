@@ -27,13 +27,16 @@ pub struct HalfCross {
 }
 
 impl Model for HalfCross {
-    ghost use Rattle.words.specs.Crosses.{Cross, IsInverted};
+    ghost use Rattle.std.specs.Int.{w64};
+    ghost use Rattle.std.specs.Prelude.{◌≡◌, ◌-◌, ◌^◌};
+    ghost use Rattle.words.specs.Crosses.{Cross, IsInverted, AreHalves};
 
     ghost Value = { Cross };
 
-    ghost view = { λ h. record { p = h.p; b = h.b; divisor = h.divisor } };
+    ghost view = { λ h. record { p = h.p; b = h.b; divisor = h.divisor; twos = h.twos } };
 
-    ghost invariant = { λ h. IsInverted h.p h.b h.divisor h.odd h.twos h.mask h.times_p h.times_b };
+    ghost invariant = { λ h. IsInverted w64 h.p h.b h.divisor h.odd h.twos h.times_p h.times_b
+        × AreHalves h.p h.b h.divisor × (h.mask ≡ 2 ^ h.twos - 1) };
 }
 
 impl HalfCross {
@@ -107,7 +110,7 @@ impl WordDivisor {
         ensures { IfSome result (λ h. IsCrossOf h p b self.now) }
     {
         let twos = self.twos;
-        if twos >= 32 {
+        if twos >= 31 {
             return None;
         }
         let odd = self.value >> twos;

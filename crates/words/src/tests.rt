@@ -27,6 +27,20 @@ fn half_quotient(divisor: &WordDivisor, a: Word, p: Word, c: Word, b: Word) -> O
     }
 }
 
+// The quotient of a column of one cell.
+fn small_quotient(divisor: &WordDivisor, a: Word, p: Word, c: Word, b: Word) -> Option<i128> {
+    if !a.is_small() || !c.is_small() {
+        return None;
+    }
+    let cross = divisor.small_cross(p, b)?;
+    let mut new = [Word::ZERO];
+    if cross.write(&[a], &[c], &mut new, 0) {
+        value_of(Some(new[0]))
+    } else {
+        None
+    }
+}
+
 fn value_of(a: Option<Word>) -> Option<i128> {
     Some(a?.wide().get())
 }
@@ -90,6 +104,40 @@ fn exact_quotients_of_halves(rt: HostRuntime) {
             half_quotient(&divisor, word(a), word(p), word(c), word(b)),
             want,
             "over {d}"
+        );
+    }
+}
+
+#[test]
+fn exact_quotients_of_small_words(rt: HostRuntime) {
+    let most = (1 << 14) - 1;
+    let table = [
+        (5, 6, 2, 3, 12, Some(2)),
+        (5, 6, 2, 3, 1, Some(24)),
+        // 24 has neither a divisor 5 nor 16
+        (5, 6, 2, 3, 5, None),
+        (5, 6, 2, 3, 16, None),
+        // -most^2 - most^2 + most over most is too large, and the half of it is not
+        (-most, most, most, most - 1, most, None),
+        (-most, 8191, most, 8190, most, Some(-16381)),
+        // at the limit, and a quotient just too large
+        (most, 2, 1, most, 1, Some(most)),
+        (most, 2, 1, most - 1, 1, None),
+        (-most, 2, -1, most - 1, 1, None),
+        (128, 128, 0, 0, 2, Some(1 << 13)),
+        (128, 128, 0, 0, 1, None),
+        // a cell, a factor and a divisor that are just too large
+        (most + 1, 0, 0, 0, 1, None),
+        (0, most + 1, 0, 0, 1, None),
+        (0, 0, 0, most + 1, 1, None),
+        (0, 0, 0, 0, most + 1, None),
+    ];
+    for (a, p, c, b, d, want) in table {
+        let divisor = WordDivisor::new(positive(d));
+        assert_eq!(rt;
+            small_quotient(&divisor, word(a), word(p), word(c), word(b)),
+            want,
+            "{a} * {p} - {c} * {b} over {d}"
         );
     }
 }

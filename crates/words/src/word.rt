@@ -3,6 +3,7 @@ ghost use Rattle.std.specs.Option.{IfSome, SomeIff};
 ghost use Rattle.std.specs.Prelude.{◌≡◌, ◌*ℤ◌, ◌-ℤ◌, ◌↔◌, neg_ℤ, IsTrue};
 ghost use Rattle.poly_num.specs.Halves.{IsHalf};
 ghost use Rattle.poly_num.specs.Numbers.{IsNum, IsWord};
+ghost use Rattle.words.specs.Small.{IsSmall};
 
 use poly_num::{Num, is_half, is_word};
 use std::marker::Model;
@@ -65,6 +66,14 @@ impl Word {
         ensures { result ≡ neg_ℤ self }
     {
         Word { value: -self.value }
+    }
+
+    /// Whether the word is small: its size is at most `2^14 - 1`.
+    #[inline(always)]
+    pub fn is_small(self) -> bool
+        ensures { IsTrue result ↔ IsSmall self }
+    {
+        self.value.unsigned_abs() < 1 << 14
     }
 
     /// Whether the word fits half a machine word.

@@ -1,7 +1,6 @@
 use Rattle.std.proofs.Common.{refl, rules, arith, ◌<◌, ◌+◌, ◌*◌, length, sym, subst}
-use Rattle.poly_num.specs.Halves.{IsHalf}
-use Rattle.columns.proofs.ColumnLemmas.{written_more, kept_more, stays_is}
-use Rattle.columns.proofs.HalfCellLemmas.{halves_more}
+use Rattle.columns.specs.Sizes.{IsOf}
+use Rattle.columns.proofs.ColumnLemmas.{column_more, written_more, kept_more, stays_is}
 use Rattle.columns.proofs.column.copy_column.Goals as goal
 
 pub cells-preserved : goal.cells-preserved
@@ -21,8 +20,8 @@ cells-preserved c =
           c.at_place-e.ensures)
           c.cells.invariant.written;
       kept = kept_more _ c.args.new.now c.cells.new _ e (omega arith) c.cells.invariant.kept;
-      halves = λ small first.
-          halves_more (j * x.height) c.cells.i c.cells.new e lt
-          (subst IsHalf (sym c.at_place-e.ensures) ((c.requires.parts.small small).0 _ there))
-          (c.cells.invariant.halves small first);
+      size =
+          column_more x j (λ _ z. IsOf parts.size z) c.cells.i c.cells.new e lt
+          (subst (IsOf parts.size) (sym c.at_place-e.ensures) (c.requires.parts.cells_size _ there))
+          c.cells.invariant.size;
     }

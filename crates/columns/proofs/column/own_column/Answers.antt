@@ -1,9 +1,7 @@
 use Rattle.std.proofs.Common.{refl, rules, arith, ◌<◌, ◌+◌, ◌*◌, length, ◌∙◌, ap, ℤ, ◌*ℤ◌, ◌≡◌, subst, ℕ}
 use Rattle.poly_num.proofs.Ring.{mul_assoc}
-use Rattle.columns.specs.HalfCells.{AreHalvesTo}
 use Rattle.columns.specs.Steps.{IsColumnWritten}
 use Rattle.columns.proofs.ColumnLemmas.{written_more, kept_more, own_is}
-use Rattle.columns.proofs.HalfCellLemmas.{halves_more}
 use Rattle.columns.proofs.column.own_column.Goals as goal
 
 pub cells-preserved : goal.cells-preserved
@@ -23,20 +21,11 @@ cells-preserved c =
           (own_is cells parts j refl c.cells.i own _ c.own_number.ensures.other c.own_number.ensures.here refl)
           (c.cells.invariant.written cells g e);
       kept = kept_more _ c.args.new.now c.cells.new _ q (omega arith) c.cells.invariant.kept;
-      halves = λ small first.
-          let both = c.stay_halves-halves.ensures small in
-          halves_more (j * x.height) c.cells.i c.cells.new q lt (both.1) (c.cells.invariant.halves (both.0) first);
     }
 
 pub returns-clause-written : goal.returns-clause-written
-returns-clause-written c cells g e =
+returns-clause-written c _ cells g e =
     let parts = c.args.parts.now in
     let l : c.cells.i ≡ parts.x.now.height = omega arith in
     subst (λ (n : ℕ). IsColumnWritten cells parts parts.x.now.column n g c.cells.new) l
     (c.cells.invariant.written cells g e)
-
-pub returns-clause-halves : goal.returns-clause-halves
-returns-clause-halves c small first =
-    let x = c.args.parts.now.x.now in
-    let l : c.cells.i ≡ x.height = omega arith in
-    subst (λ (n : ℕ). AreHalvesTo (x.column * x.height + n) c.cells.new) l (c.cells.invariant.halves small first)

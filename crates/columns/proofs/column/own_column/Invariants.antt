@@ -1,6 +1,4 @@
-use Rattle.std.proofs.Common.{◌≡◌, ℤ, List, ◌+◌, ◌*ℤ◌, ◌*◌}
-use Rattle.std.specs.Prelude.{IsTrue}
-use Rattle.columns.specs.HalfCells.{AreHalvesTo}
+use Rattle.std.proofs.Common.{◌≡◌, ℤ, List, ◌*ℤ◌, ◌*◌}
 use Rattle.columns.specs.Steps.{IsColumnWritten, AreKept}
 use Rattle.columns.proofs.column.own_column.Given as goal
 
@@ -9,6 +7,4 @@ invariant-cells l = record {
   written : (cells : List ℤ) (g : ℤ) → l.factor *ℤ g ≡ l.parts.x.now.denominator →
       IsColumnWritten cells l.parts l.parts.x.now.column l.i g l.new;
   kept : AreKept (l.parts.x.now.column * l.parts.x.now.height) l.fn.new l.new;
-  halves : IsTrue l.halves → AreHalvesTo (l.parts.x.now.column * l.parts.x.now.height) l.fn.new →
-      AreHalvesTo (l.parts.x.now.column * l.parts.x.now.height + l.i) l.new;
 }

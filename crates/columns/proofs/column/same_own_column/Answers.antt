@@ -1,8 +1,7 @@
 use Rattle.std.proofs.Common.{refl, rules, arith, ◌<◌, ◌+◌, ◌*◌, length, ◌≡◌, ◌≢◌, ⊎_elim, subst, sym}
 use Rattle.std.proofs.lemmas.Bool.{cases_eq}
-use Rattle.poly_num.specs.Halves.{IsHalf}
-use Rattle.columns.proofs.ColumnLemmas.{written_more, kept_more, own_is}
-use Rattle.columns.proofs.HalfCellLemmas.{halves_more}
+use Rattle.columns.specs.Sizes.{IsOf}
+use Rattle.columns.proofs.ColumnLemmas.{column_more, written_more, kept_more, own_is}
 use Rattle.columns.proofs.column.same_own_column.Goals as goal
 
 pub cells-preserved : goal.cells-preserved
@@ -14,17 +13,19 @@ cells-preserved c =
     let lt : j * x.height + i < length c.cells.new = search rules in
     let here : i < x.height = search rules in
     let own = c.own_number-c.result in
+    let s = c.common_size-size.result in
     let is = c.own_number-c.ensures in
     record {
       written = λ cells.
           written_more cells parts j x.denominator i c.cells.new own _ lt refl
           (own_is cells parts j refl i own _ is.other is.here refl) (c.cells.invariant.written cells);
       kept = kept_more _ c.args.new.now c.cells.new _ own (omega arith) c.cells.invariant.kept;
-      halves = λ u small first.
-          let half : IsHalf own =
+      size =
+          let one : IsOf s own =
           ⊎_elim
-          (λ (e : i ≡ x.row). subst IsHalf (sym (is.here e)) u)
-          (λ (n : i ≢ x.row). subst IsHalf (sym (is.other n)) (small i here))
+          (λ (e : i ≡ x.row). subst (IsOf s) (sym (is.here e)) (c.common_size-size.ensures.second parts.u c.size_of.ensures))
+          (λ (n : i ≢ x.row).
+          subst (IsOf s) (sym (is.other n)) (c.common_size-size.ensures.first _ (c.requires.size i here)))
           (cases_eq i x.row) in
-          halves_more (j * x.height) i c.cells.new own lt half (c.cells.invariant.halves u small first);
+          column_more x j (λ _ z. IsOf s z) i c.cells.new own lt one c.cells.invariant.size;
     }

@@ -1,4 +1,5 @@
 use Rattle.columns.proofs.ColumnLemmas.{shrunk_start, shrunk_more, shrunk_done}
+use Rattle.columns.proofs.SizeLemmas.{sizes_more}
 use Rattle.columns.proofs.into.exchange_column.Goals as goal
 
 pub tries-init : goal.tries-init
@@ -7,7 +8,7 @@ tries-init c = record {
       shrunk_start c.args.cells.now c.args.parts.now c.args.column c.args.scale.now.divisor c.args.new.now
       c.requires.scale.positive;
   scale = c.requires.scale;
-  halves = λ h. (h, λ first. first);
+  size = λ first. first;
 }
 
 pub returns-in-Some-clause-done : goal.returns-in-Some-clause-done
@@ -16,11 +17,12 @@ returns-in-Some-clause-done c _ =
     c.args.new.now c.tries.new c.write_column.new.new c.tries.invariant.shrunk c.write_column.ensures.kept
     c.in-Some.ensures.written
 
-pub returns-in-Some-clause-halves : goal.returns-in-Some-clause-halves
-returns-in-Some-clause-halves c _ h =
-    let both = c.both-scale.ensures h in
-    let before = c.tries.invariant.halves both.0 in
-    (before.0, λ first. c.in-Some.ensures.halves both.1 (before.1 first))
+pub returns-in-Some-clause-size : goal.returns-in-Some-clause-size
+returns-in-Some-clause-size c _ first =
+    let all = c.common_size-scale.ensures in
+    sizes_more c.tries.scale.size c.in-Some.size c.common_size-scale.result c.args.parts.now.x.now.height c.args.column
+    c.tries.new c.write_column.new.new all.first all.second (c.tries.invariant.size first) c.write_column.ensures.kept
+    c.in-Some.ensures.size
 
 pub tries-preserved : goal.tries-preserved
 tries-preserved c =
@@ -32,6 +34,5 @@ tries-preserved c =
           c.shrink_scale.new.shrinking.divisor c.args.new.now c.tries.new c.write_column.new.new c.shrink_scale.new.new
           c.tries.invariant.shrunk c.write_column.ensures.kept (shrunk.shrunk done);
       scale = shrunk.scale done;
-      halves = λ h.
-          let e = shrunk.halves done h in ((c.tries.invariant.halves e.0).0, λ _. e.1);
+      size = λ _ k l. shrunk.size done _;
     }

@@ -1,7 +1,7 @@
 use Rattle.std.proofs.Common.{◌≡◌, ◌+ℤ◌, subst, sym, ℤ, ℕ, ◌∙◌, arith, mul_comm}
 use Rattle.poly_num.proofs.Ring.{one_mul}
 use Rattle.columns.specs.Cells.{IsTableAfter}
-use Rattle.columns.specs.HalfCells.{AreHalvesTo}
+use Rattle.columns.specs.Sizes.{AreOf}
 use Rattle.columns.specs.Steps.{IsOver, factor_of}
 use Rattle.columns.proofs.OverLemmas.{over_start, over_column}
 use Rattle.columns.proofs.LeastCells.{table_after}
@@ -19,7 +19,7 @@ columns-init c =
           subst (λ (g : ℤ). IsOver x old (factor_of parts) 0 g c.args.new.now) (sym same)
           (over_start x old (factor_of parts) c.args.new.now (c.requires.room ∙ sym can.size) can.denominator);
       scale = record { positive = rw same can.denominator; whole = rw same (one_mul x.denominator) };
-      halves = λ _ k l. absurd (omega arith);
+      size = λ k l. absurd (omega arith);
     }
 
 pub columns-preserved : goal.columns-preserved
@@ -33,10 +33,9 @@ columns-preserved c =
           c.columns.scale.divisor c.exchange_column.new.scale.divisor c.columns.new c.exchange_column.new.new
           (c.exchange_column.ensures.done t) u.over;
       scale = c.exchange_column.ensures.scale t;
-      halves = λ h.
-          let e = c.exchange_column.ensures.halves t h in
-          subst (λ (n : ℕ). AreHalvesTo n c.exchange_column.new.new) (omega (arith, mul_comm parts.x.now.height (c.columns.j)))
-          (e.1 (u.halves e.0));
+      size =
+          subst (λ (n : ℕ). AreOf c.exchange_column.new.scale.size n c.exchange_column.new.new)
+          (omega (arith, mul_comm parts.x.now.height (c.columns.j))) (c.exchange_column.ensures.size t u.size);
     }
 
 pub returns-clause-written : goal.returns-clause-written

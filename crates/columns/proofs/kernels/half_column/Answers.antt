@@ -1,6 +1,6 @@
-use Rattle.std.proofs.Common.{refl, rules, arith, ◌<◌, ◌*◌}
-use Rattle.columns.proofs.ColumnLemmas.{place_there, written_more, kept_more, inside_is}
-use Rattle.columns.proofs.HalfCellLemmas.{halves_more}
+use Rattle.std.proofs.Common.{refl, rules, arith, ◌<◌}
+use Rattle.poly_num.specs.Halves.{IsHalf}
+use Rattle.columns.proofs.ColumnLemmas.{column_more, place_there, written_more, kept_more, inside_is}
 use Rattle.columns.proofs.kernels.half_column.Goals as goal
 
 pub halves-preserved : goal.halves-preserved
@@ -14,9 +14,9 @@ halves-preserved c =
     place_there parts.x.now j c.halves.i c.args.new.now c.halves.new c.requires.inside c.halves.invariant.kept here in
     record {
       kept = kept_more _ c.args.new.now c.halves.new _ q (omega arith) c.halves.invariant.kept;
-      halves = λ first.
-          halves_more (j * parts.x.now.height) c.halves.i c.halves.new q lt c.in-Some-exact.ensures.1
-          (c.halves.invariant.halves first);
+      halves =
+          column_more parts.x.now j (λ _ z. IsHalf z) c.halves.i c.halves.new q lt c.in-Some-exact.ensures.1
+          c.halves.invariant.halves;
       written =
           written_more c.args.cells.now parts j c.args.half_divisor.now c.halves.i c.halves.new q _ lt
           (rw (← is.0, ← is.1, ← is.2) c.in-Some-exact.ensures.0)

@@ -2,11 +2,11 @@ use Rattle.std.proofs.Common.{◌≡◌, ◌∙◌, ap, ℤ, ◌*ℤ◌, ◌*◌
 use Rattle.poly_num.proofs.Ring.{mul_assoc}
 use Rattle.columns.proofs.ColumnLemmas.{rescaled}
 use Rattle.columns.proofs.DivisorLemmas.{quotient_exact}
-use Rattle.columns.proofs.rescale.shrink_scale.Goals.{After-both}
+use Rattle.columns.proofs.rescale.shrink_scale.Goals.{Else-not-scale_words}
 use Rattle.columns.proofs.rescale.shrink_scale.Goals as goal
 
 -- the factor between the two divisors
-times : (c : After-both) → c.in-Some-of.k *ℤ c.in-Some.less ≡ c.args.shrinking.now.divisor
+times : (c : Else-not-scale_words) → c.in-Some-of.k *ℤ c.in-Some.less ≡ c.args.shrinking.now.divisor
 times c =
     let u = c.in-Some.ensures in
     rw (
@@ -36,5 +36,5 @@ returns-clause-shrunk c _ =
       left = c.in-Some.ensures;
       rescaled =
           rescaled place c.args.shrinking.now.divisor c.in-Some.less c.in-Some-of.k (times c) c.args.new.now
-          c.scale_words.new.new c.in-Some-scale_words.ensures.scaled;
+          c.scale_words.new.new (c.scale_words.ensures.scaled c.if-not-scale_words.false);
     }

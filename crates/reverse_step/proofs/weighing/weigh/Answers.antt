@@ -1,6 +1,7 @@
 use Rattle.std.proofs.Common.{Err, sym, ap, subst, ◌∙◌}
 use Rattle.std.specs.Prelude.{IfErr}
 use Rattle.std.proofs.lemmas.Result.{err_from_is_err_and}
+use Rattle.dictionary.specs.Views.{overflow_of}
 use Rattle.reverse_step.specs.Again.{StopsElsewhere}
 use Rattle.reverse_step.proofs.RunLemmas.{some_left}
 use Rattle.reverse_step.proofs.WeighLemmas.{Counting, counting_starts, counting_on, counting_ends, counting_stops}
@@ -19,7 +20,8 @@ lower-requires g c =
 pub returns-in_err-visit-clause-stops : goal.returns-in_err-visit-clause-stops
 returns-in_err-visit-clause-stops g c =
     let q = err_from_is_err_and c.from_residual.result c.from_residual.ensures.1 in
-    subst (λ r. IfErr r (StopsElsewhere c.args.walker.now c.count_step.new.walker)) (sym (q.1 ∙ ap (λ v. Err v) q.2))
+    subst (λ r. IfErr r (λ p. StopsElsewhere c.args.walker.now c.count_step.new.walker
+    (overflow_of c.count_step.new.walker.dict p))) (sym (q.1 ∙ ap (λ v. Err v) q.2))
     (counting_stops c.args.walker.now c.steps.walker c.count_step.new.walker c.args.most c.steps.left c.steps.found
     c.steps.invariant c.in_err-visit.ensures.unchanged c.in_err-visit.field-0.0 c.in_err-visit.ensures.stops)
 

@@ -3,7 +3,7 @@ use Rattle.std.specs.Prelude.{IfOk}
 use Rattle.poly_model.specs.Systems.{System}
 use Rattle.subtree_work.specs.declared.choice.Choice.{Choice}
 use Rattle.subtree_work.specs.Steps.{MayChoose, VisitsMet}
-use Rattle.subtree_work.proofs.Meeting.{search_at_again, few_bases, meets_visited, meets_given}
+use Rattle.subtree_work.proofs.Meeting.{search_at_again, few_bases, meets_visited, meets_given, stops_writing}
 use Rattle.subtree_work.proofs.walk.meet.Goals as goal
 
 pub visit_met-requires-clause-search : goal.visit_met-requires-clause-search
@@ -49,3 +49,21 @@ returns-in-Ok-GivenBack-clause-meets g c =
     (g.S.Sink.written c.args.out.now) (g.S.Sink.written c.give_met_back.new.out) e.again
     (subst (λ (x : Choice). MayChoose c.args.budget s.walker c.args.met x) c.in-Ok-GivenBack.field-0-is e.chosen)
     c.give_met_back.result c.give_met_back.ensures.gives
+
+pub returns-in-Ok-Visited-clause-stops : goal.returns-in-Ok-Visited-clause-stops
+returns-in-Ok-Visited-clause-stops g c =
+    let s = c.args.search.now in
+    let t = c.choose.new.search in
+    let e = c.visit_met.ensures in
+    stops_writing s.sys.now t.sys.now s.walker t.walker c.visit_met.new.search.walker (g.S.Sink.written c.args.out.now)
+    (g.S.Sink.written c.visit_met.new.out) c.visit_met.result c.in-Ok-Visited.ensures.sys c.in-Ok-Visited.ensures.again e.fails
+    e.unmoved e.no_overflow
+
+pub returns-in-Ok-GivenBack-clause-stops : goal.returns-in-Ok-GivenBack-clause-stops
+returns-in-Ok-GivenBack-clause-stops g c =
+    let s = c.args.search.now in
+    let t = c.choose.new.search in
+    let e = c.give_met_back.ensures in
+    stops_writing s.sys.now t.sys.now s.walker t.walker c.give_met_back.new.search.walker (g.S.Sink.written c.args.out.now)
+    (g.S.Sink.written c.give_met_back.new.out) c.give_met_back.result c.in-Ok-GivenBack.ensures.sys
+    c.in-Ok-GivenBack.ensures.again e.fails e.unmoved e.no_overflow

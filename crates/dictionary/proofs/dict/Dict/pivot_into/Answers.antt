@@ -4,7 +4,7 @@ use Rattle.poly_model.specs.Keys.{with_label}
 use Rattle.dictionary_laws.specs.Keys.{place_in}
 use Rattle.columns.specs.declared.exchange.Exchange.{Exchange}
 use Rattle.columns.specs.Cells.{AllowsExchange}
-use Rattle.dictionary.specs.Views.{Dictionary, IsPivot, IsWhole}
+use Rattle.dictionary.specs.Views.{Dictionary, IsPivot, IsWhole, overflow_of}
 use Rattle.dictionary.proofs.CarriedOut.{allows_exchange, column_bound, row_bound, carried_out}
 use Rattle.dictionary.proofs.Counts.{same_rows, same_cells}
 use Rattle.std.proofs.lemmas.List.{with_items_is}
@@ -125,3 +125,6 @@ invariant_of-to g c =
 
 pub returns-in-Ok-clause-pivoted : goal.returns-in-Ok-clause-pivoted
 returns-in-Ok-clause-pivoted g c = (pivoted g (goal.at.returns-in-Ok-clause-pivoted g c).After-index_mut-in-Ok).0
+
+pub returns-in-Err-clause-complete : goal.returns-in-Err-clause-complete
+returns-in-Err-clause-complete g c none = absurd (none (overflow_of c.args.self.now c.products_at.result) c.products_at.ensures)

@@ -1,31 +1,27 @@
-use Rattle.std.proofs.Common.{Bool, true, false, sym, ap, subst, None}
-use Rattle.dictionary.specs.Views.{Dictionary}
-use Rattle.reverse_step.specs.Walks.{Walk, kept_parent}
-use Rattle.reverse_step.specs.Ways.{IsNoFeasibleKey, Reaches}
-use Rattle.reverse_step.specs.Starts.{unparented, IsAtKey}
+use Rattle.std.proofs.Common.{Bool, [], subst, arith}
+use Rattle.reverse_step.specs.Walks.{Walk}
+use Rattle.reverse_step.specs.Rings.{kept_parents}
+use Rattle.reverse_step.specs.Ways.{Reaches}
+use Rattle.reverse_step.specs.Starts.{IsAtKey}
+use Rattle.reverse_step.proofs.RingLemmas.{ring_set}
 use Rattle.reverse_step.proofs.StartLemmas.{at_key}
 use Rattle.reverse_step.proofs.walker.Walker.start.Goals as goal
 
+pub invariant_of-self : goal.invariant_of-self
+invariant_of-self g c =
+    let a = c.self.inside in
+    let e = c.reach_over.ensures in
+    ring_set a.here c.reach_over.new.here a.slots.items a.last a.known a.order c.self.invariant c.place_after-next.result
+    c.reach_over.new.next a.last 0 e.alike e.leads e.next c.self.invariant.within (omega arith)
+
 pub returns-then-branch-clause-start : goal.returns-then-branch-clause-start
 returns-then-branch-clause-start g c =
-    let here = c.self.inside in
-    let walk : Walk = record { dict = here.here.value; root = here.order; job = here.job; at = here.at; parent = kept_parent here.back here.other.value } in
+    let a = c.self.inside in
     let key = c.args.key.now in
-    subst (λ (w : Walk). IsAtKey w key (record { dict = c.swap.new.x.value; root = here.order; job = key; at = 0; parent = None }))
+    let now = c.reach_over.new.here.dict.value in
+    let walk : Walk = record { dict = a.here.dict.value; root = a.order; job = a.job; at = a.at; parents = kept_parents a.slots.items a.last a.known } in
+    subst (λ (w : Walk). IsAtKey w key (record { dict = now; root = a.order; job = key; at = 0; parents = [] }))
     c.self.view_is
-    (subst (λ (d : Dictionary). IsAtKey walk key (record { dict = d; root = here.order; job = key; at = 0; parent = None }))
-    (sym (ap (λ b. b.value) c.swap.ensures.x_after))
-    (at_key walk c.reach.new.other key
-    (subst (λ (d : Dictionary). Reaches here.order d key true c.reach.new.other) c.deref.ensures
-    (subst (λ (b : Bool). Reaches here.order c.deref.result.now key b c.reach.new.other) c.if-branch.true
-    c.in_ok-reach.ensures.reached))))
-
-pub returns-else-branch-clause-start : goal.returns-else-branch-clause-start
-returns-else-branch-clause-start g c =
-    let here = c.self.inside in (
-      ap unparented c.self.view_is,
-      subst (λ (w : Walk). IsNoFeasibleKey w.root w.dict c.args.key.now) c.self.view_is
-          (subst (λ (d : Dictionary). Reaches here.order d c.args.key.now false c.reach.new.other) c.deref.ensures
-          (subst (λ (b : Bool). Reaches here.order c.deref.result.now c.args.key.now b c.reach.new.other) c.if-branch.false
-          c.in_ok-reach.ensures.reached)),
-    )
+    (at_key walk now key
+    (subst (λ (b : Bool). Reaches a.order a.here.dict.value key b now) c.if-branch.true
+    c.in_ok-reach_over.ensures.reached))
