@@ -3,6 +3,7 @@ use Rattle.std.proofs.Common.{◌≡◌, ◌≢◌, ℕ, ℤ, ◌+◌, ◌*◌, 
 use Rattle.std.specs.Prelude.{unsigned_abs}
 use Rattle.std.proofs.lemmas.Bool.{cases_eq, cases_lt}
 use Rattle.std.proofs.lemmas.Nat.{mul-add-lt}
+use Rattle.words.specs.Limits.{AreUpTo}
 use Rattle.columns.proofs.DivisorLemmas.{quotient_size, turned_size}
 use Rattle.columns.specs.declared.exchange.Exchange.{Exchange}
 use Rattle.columns.specs.declared.parts.Factors.{Factors}
@@ -10,7 +11,7 @@ use Rattle.columns.specs.declared.parts.Parts.{Parts}
 use Rattle.columns.specs.declared.size.Size.{Size}
 use Rattle.columns.specs.declared.size.Size.TheVariants.{Words, Halves, Small}
 use Rattle.columns.specs.Cells.{cell_at, place, AllowsExchange}
-use Rattle.columns.specs.Sizes.{IsOf, AreOf, IsColumnOf}
+use Rattle.columns.specs.Sizes.{IsOf, AreOf, IsColumnOfSize}
 use Rattle.columns.specs.Steps.{AreFactors, IsOwnColumn, AreWordParts, AreKept}
 
 -- a number that is no larger has the size too
@@ -22,7 +23,7 @@ size_of_less Small y z le h = omega (arith, h)
 -- the columns before a column are kept, and it is written behind them
 pub sizes_more : (before now all : Size) (height j : ℕ) (old new : List ℤ) → ((z : ℤ) → IsOf before z → IsOf all z) →
     ((z : ℤ) → IsOf now z → IsOf all z) → AreOf before (j * height) old → AreKept (j * height) old new →
-    IsColumnOf now height j height new → AreOf all (j * height + height) new
+    IsColumnOfSize now height j height new → AreOf all (j * height + height) new
 sizes_more before now all height j old new wider other first kept column k l =
     ⊎_elim
     (λ (lt : k < j * height).
@@ -56,8 +57,9 @@ pub word_parts : (cells : List ℤ) (parts : Parts ℤ) → AllowsExchange parts
     IsOwnColumn parts.x.now cells parts.factors.now (parts.factors.now.p +ℤ parts.factors.now.u) parts.own.now →
     parts.p ≡ parts.factors.now.p → parts.u ≡ parts.factors.now.u →
     AreOf parts.size (parts.x.now.width * parts.x.now.height) cells →
-    IsOf parts.size (get_or parts.own.now parts.x.now.row (pos 0)) → AreWordParts cells parts
-word_parts cells parts can are own ep eu sizes here = record {
+    IsOf parts.size (get_or parts.own.now parts.x.now.row (pos 0)) →
+    AreUpTo parts.own_limit 0 parts.x.now.height parts.own.now → AreWordParts cells parts
+word_parts cells parts can are own ep eu sizes here limit = record {
   are = record {
     can = can;
     factors = are;
@@ -69,4 +71,5 @@ word_parts cells parts can are own ep eu sizes here = record {
   own_size =
       own_size parts.size parts.x.now cells parts.factors.now (parts.factors.now.p +ℤ parts.factors.now.u) parts.own.now
       can are own sizes (subst (IsOf parts.size) own.leaving here);
+  own_limit = limit;
 }

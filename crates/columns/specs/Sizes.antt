@@ -18,5 +18,5 @@ abbrev pub AreOf : Size → ℕ → List ℤ → Type 0
 AreOf size n numbers = (k : ℕ) → k < n → IsOf size (slice_index_or numbers k (pos 0))
 
 -- the first n cells of column j are
-abbrev pub IsColumnOf : Size → ℕ → ℕ → ℕ → List ℤ → Type 0
-IsColumnOf size height j n cells = (i : ℕ) → i < n → IsOf size (cell_at height cells i j)
+abbrev pub IsColumnOfSize : Size → ℕ → ℕ → ℕ → List ℤ → Type 0
+IsColumnOfSize size height j n cells = (i : ℕ) → i < n → IsOf size (cell_at height cells i j)

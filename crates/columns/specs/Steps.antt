@@ -2,8 +2,8 @@
 use Rattle.std.specs.Prelude.{◌≡◌, ◌≢◌, ℕ, ℤ, ◌<◌, ◌≤◌, ◌*◌, ◌*ℤ◌, ◌+ℤ◌, ◌-ℤ◌, ◌<ℤ◌, neg_ℤ, pos, List, length, unsigned_abs}
 use Rattle.std.specs.List.{slice_index_or}
 use Prim.Native.Nat.{◌∣◌}
-use Rattle.poly_num.specs.Halves.{IsHalf}
 use Rattle.poly_num.specs.Numbers.{IsNum}
+use Rattle.words.specs.Limits.{AreUpTo}
 use Rattle.columns.specs.declared.exchange.Exchange.{Exchange}
 use Rattle.columns.specs.declared.parts.Factors.{Factors}
 use Rattle.columns.specs.declared.parts.Parts.{Parts}
@@ -61,11 +61,12 @@ pub record AreParts (cells : List ℤ) (parts : Parts ℤ) (z : ℤ) : Type 0 wh
   pub u : parts.u ≡ parts.factors.now.u
 
 -- the parts of an exchange in words, so that its row needs no case: e p - (p + u) e is - u e. All cells and the
--- exchange's column have the size
+-- exchange's column have the size, and no number of that column passes the limit
 pub record AreWordParts (cells : List ℤ) (parts : Parts ℤ) : Type 0 where
   pub are : AreParts cells parts (parts.p +ℤ parts.u)
   pub cells_size : AreOf parts.size (parts.x.now.width * parts.x.now.height) cells
   pub own_size : AreOf parts.size parts.x.now.height parts.own.now
+  pub own_limit : AreUpTo parts.own_limit 0 parts.x.now.height parts.own.now
 
 -- the parts of an exchange in wide numbers
 abbrev pub AreWideParts : List ℤ → Parts ℤ → Type 0
@@ -80,12 +81,6 @@ pub record IsOtherColumn (x : Exchange) (j : ℕ) (new : List ℤ) : Type 0 wher
   pub room : length new ≡ x.width * x.height
   pub within : j < x.width
   pub other : j ≢ x.column
-
--- what a column and a divisor bring are halves
-pub record AreHalfFactors (p b g : ℤ) : Type 0 where
-  pub of_cells : IsHalf p
-  pub of_own : IsHalf b
-  pub divisor : IsHalf g
 
 -- the divisor is positive, and with the factor it is the denominator
 pub record IsScale (x : Exchange) (divisor factor : ℤ) : Type 0 where

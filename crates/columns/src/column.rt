@@ -3,15 +3,14 @@ ghost use Rattle.std.specs.Option.{IfSome};
 ghost use Rattle.std.specs.Prelude.{◌≡◌, ◌≢◌, ◌<◌, ◌*◌, ◌*ℤ◌, ℤ, List, IsTrue, pos, length};
 ghost use Rattle.std.specs.List.{slice_index_or};
 ghost use Rattle.columns.specs.Cells.{cell_at};
-ghost use Rattle.poly_num.specs.Halves.{IsHalf};
-ghost use Rattle.columns.specs.Sizes.{IsOf, AreOf, IsColumnOf};
-ghost use Rattle.columns.specs.declared.size.Size.TheVariants.{Halves, Small};
-ghost use Rattle.columns.specs.Steps.{AreWordParts, IsOtherColumn, IsScale, AreHalfFactors, IsColumnWritten, AreKept};
+ghost use Rattle.columns.specs.Sizes.{AreOf, IsColumnOfSize};
+ghost use Rattle.columns.specs.declared.size.Size.TheVariants.{Small};
+ghost use Rattle.columns.specs.Steps.{AreWordParts, IsOtherColumn, IsScale, IsColumnWritten, AreKept};
 
 use crate::exchange::{at_place, word_at};
-use crate::kernels::{half_column, inside_column, small_column};
+use crate::kernels::{inside_column, small_column, word_column};
 use crate::parts::{Parts, Scale};
-use crate::size::{Size, common_size, is_half, is_small, size_of};
+use crate::size::{Size, common_size, is_small, size_of};
 use words::{Word, WordDivisor, product};
 
 // What the exchange's column takes for row i: in the exchange's row it is u.
@@ -66,7 +65,7 @@ fn same_own_column(parts: &Parts<Word>, new: &mut [Word]) -> Size
         IsColumnWritten cells parts.now parts.now.x.now.column parts.now.x.now.height parts.now.x.now.denominator
         new.new }
     ensures kept { AreKept (parts.now.x.now.column * parts.now.x.now.height) new.old new.new }
-    ensures size { IsColumnOf result parts.now.x.now.height parts.now.x.now.column parts.now.x.now.height new.new }
+    ensures size { IsColumnOfSize result parts.now.x.now.height parts.now.x.now.column parts.now.x.now.height new.new }
 {
     let size = common_size(parts.size, size_of(parts.u));
     let height = parts.x.height;
@@ -93,7 +92,7 @@ fn copy_column(
     requires same { parts.now.p ≡ divisor.now }
     ensures written { IsColumnWritten cells.now parts.now column parts.now.x.now.height divisor.now new.new }
     ensures kept { AreKept (column * parts.now.x.now.height) new.old new.new }
-    ensures size { IsColumnOf parts.now.size parts.now.x.now.height column parts.now.x.now.height new.new }
+    ensures size { IsColumnOfSize parts.now.size parts.now.x.now.height column parts.now.x.now.height new.new }
 {
     let height = parts.x.height;
     let base = column * height;
@@ -111,14 +110,6 @@ fn stays(p: Word, b: Word, divisor: &WordDivisor) -> bool
     b == Word::ZERO && p == divisor.word()
 }
 
-// Whether all that the new cells of a column take is known to fit half a machine word.
-fn fits_halves(parts: &Parts<Word>, b: Word, divisor: &WordDivisor) -> bool
-    ensures halves { IsTrue result → (z : ℤ) → IsOf parts.now.size z → IsHalf z }
-    ensures factors { IsTrue result → AreHalfFactors parts.now.p b divisor.now }
-{
-    is_half(parts.size) && parts.p.is_half() && b.is_half() && divisor.word().is_half()
-}
-
 // Whether the column is written over the divisor, and all that it takes and gives is small.
 fn is_written_small(
     cells: &[Word],
@@ -132,34 +123,12 @@ fn is_written_small(
     ensures written { IsTrue result →
         IsColumnWritten cells.now parts.now column parts.now.x.now.height divisor.now new.new }
     ensures kept { AreKept (column * parts.now.x.now.height) new.old new.new }
-    ensures size { IsTrue result → IsColumnOf Small parts.now.x.now.height column parts.now.x.now.height new.new }
+    ensures size { IsTrue result → IsColumnOfSize Small parts.now.x.now.height column parts.now.x.now.height new.new }
 {
     if !is_small(parts.size) {
         return false;
     }
     small_column(cells, parts, new, column, divisor)
-}
-
-// Whether the column is written over the divisor in halves.
-fn is_written_in_halves(
-    cells: &[Word],
-    parts: &Parts<Word>,
-    new: &mut [Word],
-    column: usize,
-    divisor: &WordDivisor,
-) -> bool
-    requires parts { AreWordParts cells.now parts.now }
-    requires inside { IsOtherColumn parts.now.x.now column new.old }
-    ensures written { IsTrue result →
-        IsColumnWritten cells.now parts.now column parts.now.x.now.height divisor.now new.new }
-    ensures kept { AreKept (column * parts.now.x.now.height) new.old new.new }
-    ensures size { IsTrue result → IsColumnOf Halves parts.now.x.now.height column parts.now.x.now.height new.new }
-{
-    let b = word_at(cells, parts.x, parts.x.row, column);
-    if !fits_halves(parts, b, divisor) {
-        return false;
-    }
-    half_column(cells, parts, new, column, divisor) == parts.x.height
 }
 
 // The new cells of another column than the exchange's: the size that they are known to have; `None` where the divisor
@@ -177,7 +146,7 @@ fn other_column(
         IsColumnWritten cells.now parts.now column parts.now.x.now.height divisor.now new.new) }
     ensures kept { AreKept (column * parts.now.x.now.height) new.old new.new }
     ensures size { IfSome result (λ s.
-        IsColumnOf s parts.now.x.now.height column parts.now.x.now.height new.new) }
+        IsColumnOfSize s parts.now.x.now.height column parts.now.x.now.height new.new) }
 {
     let b = word_at(cells, parts.x, parts.x.row, column);
     if stays(parts.p, b, divisor) {
@@ -187,8 +156,8 @@ fn other_column(
     if is_written_small(cells, parts, new, column, divisor) {
         return Some(Size::Small);
     }
-    if is_written_in_halves(cells, parts, new, column, divisor) {
-        return Some(Size::Halves);
+    if let Some(size) = word_column(cells, parts, new, column, divisor) {
+        return Some(size);
     }
     if inside_column(cells, parts, new, column, divisor) == parts.x.height {
         Some(Size::Words)
@@ -214,7 +183,7 @@ pub(crate) fn write_column(
         IsColumnWritten cells.now parts.now column parts.now.x.now.height scale.now.divisor new.new) }
     ensures kept { AreKept (column * parts.now.x.now.height) new.old new.new }
     ensures size { IfSome result (λ s.
-        IsColumnOf s parts.now.x.now.height column parts.now.x.now.height new.new) }
+        IsColumnOfSize s parts.now.x.now.height column parts.now.x.now.height new.new) }
 {
     if column != parts.x.column {
         return other_column(cells, parts, new, column, &scale.divisor);

@@ -1,15 +1,15 @@
 //! The inner loops: the new cells of one column, over one divisor.
+ghost use Rattle.std.specs.Option.{IfSome};
 ghost use Rattle.std.specs.Prelude.{◌≤◌, ◌*◌, ℤ, IsTrue};
-ghost use Rattle.poly_num.specs.Halves.{IsHalf};
 ghost use Rattle.words.specs.Small.{IsSmall};
-ghost use Rattle.columns.specs.Cells.{cell_at};
-ghost use Rattle.columns.specs.Sizes.{IsOf, IsColumnOf};
-ghost use Rattle.columns.specs.declared.size.Size.TheVariants.{Halves, Small};
-ghost use Rattle.columns.specs.Steps.{AreWordParts, IsOtherColumn, AreHalfFactors, IsColumnWritten, AreKept};
+ghost use Rattle.columns.specs.Sizes.{IsOf, IsColumnOfSize};
+ghost use Rattle.columns.specs.declared.size.Size.TheVariants.{Small};
+ghost use Rattle.columns.specs.Steps.{AreWordParts, IsOtherColumn, IsColumnWritten, AreKept};
 
 use crate::exchange::{at_place, word_at};
 use crate::parts::Parts;
-use words::{Word, WordDivisor};
+use crate::size::{Size, limit_within, size_up_to};
+use words::{Limits, Word, WordDivisor};
 
 // The new cells of a column from the top, as long as the divisor divides; how many are written.
 #[inline(never)]
@@ -42,40 +42,37 @@ pub(crate) fn inside_column(
     height
 }
 
-// The same where all that it takes fits half a machine word, as long as the new cells do.
-#[inline(never)]
-pub(crate) fn half_column(
+// The new cells of a column where products and their differences fit a machine word: the size that they are known to
+// have; `None` where one does not fit, or the divisor does not divide all.
+pub(crate) fn word_column(
     cells: &[Word],
     parts: &Parts<Word>,
     new: &mut [Word],
     column: usize,
-    half_divisor: &WordDivisor,
-) -> usize
+    divisor: &WordDivisor,
+) -> Option<Size>
     requires parts { AreWordParts cells.now parts.now }
     requires inside { IsOtherColumn parts.now.x.now column new.old }
-    requires halves { (z : ℤ) → IsOf parts.now.size z → IsHalf z }
-    requires factors { AreHalfFactors parts.now.p
-        (cell_at parts.now.x.now.height cells.now parts.now.x.now.row column) half_divisor.now }
-    ensures count { result ≤ parts.now.x.now.height }
-    ensures written { IsColumnWritten cells.now parts.now column result half_divisor.now new.new }
+    ensures written { IfSome result (λ s.
+        IsColumnWritten cells.now parts.now column parts.now.x.now.height divisor.now new.new) }
     ensures kept { AreKept (column * parts.now.x.now.height) new.old new.new }
-    ensures halves { IsColumnOf Halves parts.now.x.now.height column result new.new }
+    ensures size { IfSome result (λ s.
+        IsColumnOfSize s parts.now.x.now.height column parts.now.x.now.height new.new) }
 {
-    let own = parts.own;
     let b = word_at(cells, parts.x, parts.x.row, column);
-    let Some(cross) = half_divisor.half_cross(parts.p, b) else {
-        return 0;
-    };
     let height = parts.x.height;
     let base = column * height;
-    // new(i) = (cells(i) p - own(i) b) / half_divisor
-    'halves: for i in 0..height {
-        match cross.exact(at_place(cells, base + i), at_place(own, i)) {
-            Some(q) => new[base + i] = q,
-            None => return i,
-        }
+    let limits = Limits {
+        a: limit_within(parts.size, cells, base, height),
+        c: parts.own_limit,
+    };
+    let Some(cross) = divisor.word_cross(parts.p, b, limits) else {
+        return None;
+    };
+    match cross.write(cells, parts.own, new, base) {
+        Some(limit) => Some(size_up_to(limit)),
+        None => None,
     }
-    height
 }
 
 // The new cells of a column where all that it takes is small; whether they are written and are small too.
@@ -92,7 +89,7 @@ pub(crate) fn small_column(
     ensures written { IsTrue result →
         IsColumnWritten cells.now parts.now column parts.now.x.now.height divisor.now new.new }
     ensures kept { AreKept (column * parts.now.x.now.height) new.old new.new }
-    ensures small { IsTrue result → IsColumnOf Small parts.now.x.now.height column parts.now.x.now.height new.new }
+    ensures small { IsTrue result → IsColumnOfSize Small parts.now.x.now.height column parts.now.x.now.height new.new }
 {
     let b = word_at(cells, parts.x, parts.x.row, column);
     let base = column * parts.x.height;

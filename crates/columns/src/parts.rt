@@ -16,8 +16,8 @@ pub struct Factors {
 }
 
 /// What the new cells are made of, beside the cells of the table: the factors of the exchange, two of them as the type
-/// that the cells have; its column over the common factor with the sign; and the size that the cells and that column
-/// are known to have.
+/// that the cells have; its column over the common factor with the sign; the size that the cells and that column are
+/// known to have; and a limit that no size in that column passes, which says nothing of wide numbers.
 #[derive(Clone, Copy)]
 pub struct Parts<'a, T> {
     pub x: &'a Exchange,
@@ -26,6 +26,7 @@ pub struct Parts<'a, T> {
     pub p: T,
     pub u: T,
     pub size: Size,
+    pub own_limit: u64,
 }
 
 /// What the new words are over: the divisor, which with the factor is the denominator; and the size that the words

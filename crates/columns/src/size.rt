@@ -1,11 +1,13 @@
 //! How large cells are known to be.
-ghost use Rattle.std.specs.Prelude.{ℤ, IsTrue, length};
+ghost use Rattle.std.specs.Prelude.{◌≤◌, ◌<◌, ◌+◌, ℕ, ℤ, IsTrue, pos, length, unsigned_abs};
+ghost use Rattle.std.specs.List.{slice_index_or};
 ghost use Rattle.poly_num.specs.Halves.{IsHalf};
+ghost use Rattle.words.specs.Limits.{AreUpTo};
 ghost use Rattle.words.specs.Small.{IsSmall};
 ghost use Rattle.columns.specs.Sizes.{IsOf, AreOf};
 
 use crate::exchange::at_place;
-use words::Word;
+use words::{Word, limit_of};
 
 /// What is known of the sizes of cells: nothing but that they are words, or that all of them fit half a machine word, or
 /// that all are small (`Word::is_small`).
@@ -117,4 +119,31 @@ pub(crate) fn size_of_all(known: Size, words: &[Word]) -> Size
         return Size::Halves;
     }
     known
+}
+
+/// The least size of numbers up to this limit.
+pub(crate) fn size_up_to(limit: u64) -> Size
+    ensures { (z : ℤ) → unsigned_abs z ≤ limit → IsOf result z }
+{
+    if limit < 1 << 14 {
+        Size::Small
+    } else if limit < 1 << 31 {
+        Size::Halves
+    } else {
+        Size::Words
+    }
+}
+
+/// A limit that no size of `count` words from place `base` on passes, where their size is known; they are looked at only
+/// where that is none.
+pub(crate) fn limit_within(known: Size, words: &[Word], base: usize, count: usize) -> u64
+    requires within { base + count ≤ length words.now }
+    requires known { (k : ℕ) → k < count → IsOf known (slice_index_or words.now (base + k) (pos 0)) }
+    ensures { AreUpTo result base count words.now }
+{
+    match known {
+        Size::Small => (1 << 14) - 1,
+        Size::Halves => (1 << 31) - 1,
+        Size::Words => limit_of(words, base, count),
+    }
 }

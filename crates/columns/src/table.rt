@@ -12,7 +12,7 @@ use crate::parts::{Factors, Parts};
 use crate::size::{Size, common_size, size_of, size_of_all};
 use crate::wide::wide_into;
 use poly_num::Num;
-use words::Word;
+use words::{Word, limit_of};
 
 /// Writes the table after the exchange into `new`, by way of `own`, which has room for a column, and answers the new
 /// denominator; where something passes, the place of that, and `new` says nothing.
@@ -66,14 +66,16 @@ impl Cells {
         }
         let p = Word::of(factors.p)?;
         let u = Word::of(factors.u)?;
-        let size = common_size(self.size, size_of(at_place(&own.words, x.row)));
+        let own: &[Word] = &own.words;
+        let size = common_size(self.size, size_of(at_place(own, x.row)));
         let parts = Parts {
             x,
             factors,
-            own: &own.words,
+            own,
             p,
             u,
             size,
+            own_limit: limit_of(own, 0, x.height),
         };
         new.write_words(&self.words, &parts)
     }
@@ -123,6 +125,7 @@ impl Cells {
             p: factors.p,
             u: factors.u,
             size: Size::Words,
+            own_limit: 0,
         };
         wide_into(self, &parts, &mut new.wide)
     }

@@ -1,4 +1,5 @@
 pub mod BitLemmas
 pub mod CrossLemmas
+pub mod LimitLemmas
 pub mod PlaceLemmas
 pub mod SmallLemmas

@@ -1,7 +1,6 @@
 -- Numbers whose products take half a machine word, and quotients of many of them that are tested together.
-use Rattle.std.specs.Prelude.{◌≡◌, ℕ, ℤ, ◌<◌, ◌+◌, ◌*ℤ◌, ◌-ℤ◌, ◌^◌, ◌%◌, unsigned_abs, pos, List}
+use Rattle.std.specs.Prelude.{◌≡◌, ℕ, ℤ, ◌<◌, ◌+◌, ◌^◌, ◌%◌, unsigned_abs, pos, List}
 use Rattle.std.specs.List.{slice_index_or}
-use Rattle.words.specs.Crosses.{Cross}
 
 -- the size is at most 2 ^ 14 - 1: products of two, and their differences, fit half a machine word
 abbrev pub IsSmall : ℤ → Type 0
@@ -14,14 +13,6 @@ AreSmallTo n numbers = (k : ℕ) → k < n → IsSmall (slice_index_or numbers k
 -- the numbers at n places from `base` on are small
 abbrev pub AreSmallFrom : ℕ → ℕ → List ℤ → Type 0
 AreSmallFrom base n numbers = (k : ℕ) → k < n → IsSmall (slice_index_or numbers (base + k) (pos 0))
-
--- the numbers of `new` at n places from `base` on are small, and times the divisor they are a p - c b, where a is at the
--- same place of `cells` and c is that of `own`
-abbrev pub AreSmallQuotients : Cross → List ℤ → List ℤ → ℕ → ℕ → List ℤ → Type 0
-AreSmallQuotients h cells own base n new = (k : ℕ) → k < n →
-    (slice_index_or new (base + k) (pos 0) *ℤ h.divisor
-    ≡ slice_index_or cells (base + k) (pos 0) *ℤ h.p -ℤ slice_index_or own k (pos 0) *ℤ h.b)
-    × IsSmall (slice_index_or new (base + k) (pos 0))
 
 -- what the bits of all numbers together show: the sizes are small, and so many twos are in each
 abbrev pub AreGood : ℕ → ℕ → ℕ → Type 0

@@ -115,7 +115,7 @@ fn full_product(a: i64, b: i64) -> i128
 
 // The word of this value, where it is one.
 #[inline(always)]
-fn word(value: i64) -> Option<Word>
+pub(crate) fn word(value: i64) -> Option<Word>
     ensures { IfSome result (λ w. w ≡ value) }
 {
     if value == i64::MIN {

@@ -2,13 +2,15 @@
 #![tactic(auto)]
 
 mod divisor;
-mod halves;
+mod limits;
 mod small;
 #[cfg(test)]
 mod tests;
 mod word;
+mod word_cross;
 
 pub use divisor::WordDivisor;
-pub use halves::HalfCross;
+pub use limits::limit_of;
 pub use small::SmallCross;
 pub use word::{Word, product, wide_cross};
+pub use word_cross::{Limits, WordCross};

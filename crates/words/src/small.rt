@@ -4,15 +4,15 @@ ghost use Rattle.std.specs.Int.{w32, int_wrap, cast_unsigned};
 ghost use Rattle.std.specs.List.{slice_index_or};
 ghost use Rattle.std.specs.Option.{IfSome};
 ghost use Rattle.std.specs.Prelude.{◌≡◌, ℕ, ◌<◌, ◌≤◌, ◌+◌, ◌-◌, ◌^◌, ◌%◌, ◌*ℤ◌, ◌-ℤ◌, pos, IsTrue, length, unsigned_abs};
-ghost use Rattle.words.specs.Crosses.{IsCrossOf};
-ghost use Rattle.words.specs.Small.{IsSmall, AreSmallTo, AreSmallFrom, AreSmallQuotients, AreGood};
+ghost use Rattle.words.specs.Crosses.{IsCrossOf, IsQuotient, AreQuotients};
+ghost use Rattle.words.specs.Small.{IsSmall, AreSmallTo, AreSmallFrom, AreGood};
 
 use crate::divisor::WordDivisor;
 use crate::word::Word;
 use std::marker::Model;
 
-/// `a p - c b` over a divisor for many `a` and `c`, where all of it is small. As in halves two products give the
-/// quotient times the divisor's twos, here modulo 2^32. What would stop a loop is gathered by `or` and looked at behind
+/// `a p - c b` over a divisor for many `a` and `c`, where all of it is small. As in words (`WordCross`) two products give
+/// the quotient times the divisor's twos, here modulo 2^32. What would stop a loop is gathered by `or` and looked at behind
 /// it, so that a compiler makes vectors of it (H. S. Warren, "Hacker's Delight", 2012, has such tests without branches).
 #[derive(Drop)]
 pub struct SmallCross {
@@ -55,7 +55,8 @@ impl SmallCross {
         requires room { base + length own.now ≤ length new.old }
         requires small_cells { AreSmallFrom base (length own.now) cells.now }
         requires small_own { AreSmallTo (length own.now) own.now }
-        ensures written { IsTrue result → AreSmallQuotients self.now cells.now own.now base (length own.now) new.new }
+        ensures written { IsTrue result → AreQuotients self.now cells.now own.now base (length own.now) new.new }
+        ensures small { IsTrue result → AreSmallFrom base (length own.now) new.new }
         ensures same_length { length new.new ≡ length new.old }
         ensures kept { (k : ℕ) → k < base → slice_index_or new.new k (pos 0) ≡ slice_index_or new.old k (pos 0) }
     {
@@ -94,7 +95,7 @@ impl SmallCross {
         requires a { IsSmall a }
         requires c { IsSmall c }
         ensures { cast_unsigned w32 result.multiple % 2 ^ self.now.twos ≡ 0 → IsSmall result.quotient →
-            result.quotient *ℤ self.now.divisor ≡ a *ℤ self.now.p -ℤ c *ℤ self.now.b }
+            IsQuotient self.now a c result.quotient }
     {
         let multiple = low_difference(low_product(a, self.times_p), low_product(c, self.times_b));
         Taken {

@@ -1,7 +1,7 @@
 //! Each public function once, with values worked out by hand.
 ghost use Rattle.std.specs.Prelude.{◌<ℤ◌, pos};
 
-use crate::{Word, WordDivisor, product, wide_cross};
+use crate::{Limits, Word, WordDivisor, limit_of, product, wide_cross};
 use poly_num::Num;
 
 fn word(value: i128) -> Word {
@@ -19,15 +19,24 @@ fn positive(value: i128) -> Word
     }
 }
 
-fn half_quotient(divisor: &WordDivisor, a: Word, p: Word, c: Word, b: Word) -> Option<i128> {
-    if divisor.word().is_half() && a.is_half() && p.is_half() && c.is_half() && b.is_half() {
-        value_of(divisor.half_cross(p, b)?.exact(a, c))
+// The quotient of a column of one cell whose limits are the sizes of `a` and `c`.
+fn quotient_in_words(divisor: &WordDivisor, a: Word, p: Word, c: Word, b: Word) -> Option<i128> {
+    let limits = Limits {
+        a: limit_of(&[a], 0, 1),
+        c: limit_of(&[c], 0, 1),
+    };
+    let cross = divisor.word_cross(p, b, limits)?;
+    let mut new = [Word::ZERO];
+    let limit = cross.write(&[a], &[c], &mut new, 0)?;
+    let found = new[0].wide().get();
+    if limit as u128 == found.unsigned_abs() {
+        Some(found)
     } else {
         None
     }
 }
 
-// The quotient of a column of one cell.
+// The same where all is small.
 fn small_quotient(divisor: &WordDivisor, a: Word, p: Word, c: Word, b: Word) -> Option<i128> {
     if !a.is_small() || !c.is_small() {
         return None;
@@ -91,19 +100,46 @@ fn exact_quotients_of_words(rt: HostRuntime) {
 }
 
 #[test]
-fn exact_quotients_of_halves(rt: HostRuntime) {
+fn exact_quotients_of_columns_in_words(rt: HostRuntime) {
+    let most = (1 << 63) - 1;
     let table = [
         (5, 6, 2, 3, 12, Some(2)),
+        (5, 6, 2, 3, 1, Some(24)),
+        (-5, 6, 2, 3, 12, Some(-3)),
+        // 24 has neither a divisor 5 nor 16
         (5, 6, 2, 3, 5, None),
-        // 2^40 is no half
-        (1 << 20, 1 << 21, 0, 0, 2, None),
+        (5, 6, 2, 3, 16, None),
+        // one side at the limit, and the sum of both just beyond it
+        (most, 1, 0, 1, 1, Some(most)),
+        (-most, 1, 0, 1, most, Some(-1)),
+        (most, 1, 1, 1, 1, None),
+        (1 << 31, 1 << 31, (1 << 62) - 1, 1, 1, Some(1)),
+        (1 << 31, 1 << 31, -(1 << 62), 1, 1, None),
+        // a product whose low word alone looks right
+        (1 << 40, 1 << 41, 0, 0, 2, None),
+        // a divisor with more twos than are taken
+        (1 << 40, 1, 0, 0, 1 << 31, None),
+        (1 << 40, 1, 0, 0, 1 << 30, Some(1 << 10)),
     ];
     for (a, p, c, b, d, want) in table {
         let divisor = WordDivisor::new(positive(d));
         assert_eq!(rt;
-            half_quotient(&divisor, word(a), word(p), word(c), word(b)),
+            quotient_in_words(&divisor, word(a), word(p), word(c), word(b)),
             want,
-            "over {d}"
+            "{a} * {p} - {c} * {b} over {d}"
+        );
+    }
+}
+
+#[test]
+fn limits(rt: HostRuntime) {
+    let words = [word(-9), word(4), word(-3), word(0)];
+    let table = [(0, 4, 15), (1, 2, 7), (3, 1, 0), (4, 0, 0)];
+    for (base, count, want) in table {
+        assert_eq!(rt;
+            limit_of(&words, base, count),
+            want,
+            "{count} from {base} on"
         );
     }
 }

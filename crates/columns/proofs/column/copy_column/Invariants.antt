@@ -1,5 +1,5 @@
 use Rattle.std.proofs.Common.{◌*◌}
-use Rattle.columns.specs.Sizes.{IsColumnOf}
+use Rattle.columns.specs.Sizes.{IsColumnOfSize}
 use Rattle.columns.specs.Steps.{IsColumnWritten, AreKept}
 use Rattle.columns.proofs.column.copy_column.Given as goal
 
@@ -7,5 +7,5 @@ abbrev pub invariant-cells : goal.invariant-cells
 invariant-cells l = record {
   written : IsColumnWritten l.cells l.fn.parts l.fn.column l.i l.fn.divisor l.new;
   kept : AreKept (l.fn.column * l.fn.parts.x.now.height) l.fn.new l.new;
-  size : IsColumnOf l.fn.parts.size l.fn.parts.x.now.height l.fn.column l.i l.new;
+  size : IsColumnOfSize l.fn.parts.size l.fn.parts.x.now.height l.fn.column l.i l.new;
 }

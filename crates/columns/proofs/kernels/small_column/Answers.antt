@@ -9,4 +9,4 @@ returns-in-Some-clause-written c t i lt =
     let same = sym c.requires.parts.are.own.height in
     inside_is c.args.cells.now parts c.args.column c.requires.parts.are.own.leaving c.requires.inside.other i _ _ _ _
     refl refl c.word_at-b.ensures
-    (rw (← is.0, ← is.1, ← is.2) (c.write.ensures.written t i (subst (λ (n : ℕ). i < n) same lt)).0)
+    (rw (← is.0, ← is.1, ← is.2) (c.write.ensures.written t i (subst (λ (n : ℕ). i < n) same lt)))
