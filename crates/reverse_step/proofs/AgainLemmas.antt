@@ -6,7 +6,8 @@ use Rattle.poly_model.specs.Dictionaries.{Table}
 use Rattle.search_laws.specs.Shares.{ListsAll, IsChild}
 use Rattle.reverse_step.specs.declared.walker.Visit.TheVariants.{New}
 use Rattle.reverse_step.specs.Waiting.{Wait}
-use Rattle.reverse_step.specs.Walks.{Walk, IsChildAt, IsWalkIn}
+use Rattle.reverse_step.specs.Walks.{Walk, IsWalkIn}
+use Rattle.search_laws.specs.Shares.{IsChildAt}
 use Rattle.reverse_step.specs.Moves.{IsAtNew, IsVisit}
 use Rattle.reverse_step.specs.Children.{StopsWalk}
 use Rattle.reverse_step.specs.Again.{IsAgain, StopsElsewhere}

@@ -16,7 +16,7 @@ use Rattle.tree_laws.proofs.AnyTable.{neighbour_too}
 use Rattle.search_laws.specs.Shares.{ListsAll, IsChild}
 use Rattle.search_laws.proofs.Children.{child_column, child_or_none}
 use Rattle.reverse_step.specs.Waiting.{AreAlong}
-use Rattle.reverse_step.specs.Walks.{IsChildAt}
+use Rattle.search_laws.specs.Shares.{IsChildAt}
 
 module _ (space : Space) (root : List ℕ) (home : Table) (h : IsFeasibleRoot space root home)
     (distinct : AreDistinct (rows_in space.labels)) (key : List ℕ) (t : Table) (f : IsLexFeasible space root key t) where

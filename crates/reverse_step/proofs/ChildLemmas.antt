@@ -14,7 +14,8 @@ use Rattle.search_laws.proofs.ChildTest.{child_by_test}
 use Rattle.dictionary.specs.Views.{Dictionary, table_of}
 use Rattle.lex_pivot.specs.Ratios.{NoneLeaves}
 use Rattle.lex_pivot.specs.Children.{DecidesChild}
-use Rattle.reverse_step.specs.Walks.{IsChildAt, Stands}
+use Rattle.reverse_step.specs.Walks.{Stands}
+use Rattle.search_laws.specs.Shares.{IsChildAt}
 use Rattle.reverse_step.specs.Children.{HasNoChildAt, LeadsToChild, NoneBetween}
 use Rattle.reverse_step.proofs.Along.{neighbour_here}
 

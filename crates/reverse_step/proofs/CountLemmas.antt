@@ -11,7 +11,8 @@ use Rattle.dictionary_laws.proofs.KeyExchange.{ascending_distinct}
 use Rattle.dictionary.specs.Views.{Dictionary, table_of}
 use Rattle.search_laws.proofs.OnceLists.{one_count}
 use Rattle.reverse_step.specs.Waiting.{AreAlong}
-use Rattle.reverse_step.specs.Walks.{IsChildAt, Stands}
+use Rattle.reverse_step.specs.Walks.{Stands}
+use Rattle.search_laws.specs.Shares.{IsChildAt}
 use Rattle.reverse_step.specs.Children.{CountsChildren, HasNoChildAt, LeadsToChild}
 use Rattle.reverse_step.proofs.Along.{lists_children}
 

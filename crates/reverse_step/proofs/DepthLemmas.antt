@@ -12,7 +12,8 @@ use Rattle.search_laws.specs.Shares.{ListsAll, IsChild}
 use Rattle.search_laws.proofs.OnceLists.{no_longer}
 use Rattle.search_laws.proofs.StepBounds.{few_rows}
 use Rattle.reverse_step.specs.Waiting.{AreAlong, Wait}
-use Rattle.reverse_step.specs.Walks.{Walk, IsChildAt}
+use Rattle.reverse_step.specs.Walks.{Walk}
+use Rattle.search_laws.specs.Shares.{IsChildAt}
 use Rattle.reverse_step.specs.Runs.{HasRun}
 use Rattle.reverse_step.proofs.Along.{some_along, lists_children}
 

@@ -21,7 +21,8 @@ use Rattle.reverse_step.specs.declared.children.ChildPivot.{ChildPivot}
 use Rattle.reverse_step.specs.declared.walker.Visit.{Visit}
 use Rattle.reverse_step.specs.declared.walker.Visit.TheVariants.{New, Back, End}
 use Rattle.reverse_step.specs.Waiting.{AreAlong, Wait}
-use Rattle.reverse_step.specs.Walks.{Parent, Walk, IsChildAt, Stands, AreParentsKept, IsWalkIn, Waits}
+use Rattle.reverse_step.specs.Walks.{Parent, Walk, Stands, AreParentsKept, IsWalkIn, Waits}
+use Rattle.search_laws.specs.Shares.{IsChildAt}
 use Rattle.reverse_step.specs.Children.{LeadsToChild, NoneBetween, IsFirstChild}
 use Rattle.reverse_step.specs.Moves.{moved_to, parents_below, Moves, IsMovedDown, IsMovedUp, IsBackAtParent, IsAtChild, GoesUp, IsVisit}
 use Rattle.reverse_step.proofs.Along.{one_child, one_column, some_along, lists_children}

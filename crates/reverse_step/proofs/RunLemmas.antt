@@ -18,7 +18,8 @@ use Rattle.search_laws.proofs.Visits.{are_split}
 use Rattle.countdown.specs.Digits.{enough}
 use Rattle.reverse_step.specs.declared.walker.Visit.TheVariants.{New, Back, End}
 use Rattle.reverse_step.specs.Waiting.{AreAlong}
-use Rattle.reverse_step.specs.Walks.{Walk, IsChildAt, IsWalkIn, Waits, IsAtStart}
+use Rattle.reverse_step.specs.Walks.{Walk, IsWalkIn, Waits, IsAtStart}
+use Rattle.search_laws.specs.Shares.{IsChildAt}
 use Rattle.reverse_step.specs.Moves.{past, Moves, IsAtNew, IsVisit}
 use Rattle.reverse_step.specs.Runs.{HasRun}
 use Rattle.reverse_step.proofs.Along.{some_along, lists_children}

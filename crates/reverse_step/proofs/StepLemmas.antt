@@ -13,7 +13,8 @@ use Rattle.tree_laws.proofs.Back.{child_is_neighbour}
 use Rattle.search_laws.specs.Shares.{IsChild}
 use Rattle.lex_pivot.specs.Above.{LeadsToParent}
 use Rattle.lex_pivot.proofs.PivotLemmas.{same_exchange}
-use Rattle.reverse_step.specs.Walks.{IsChildAt, Stands}
+use Rattle.reverse_step.specs.Walks.{Stands}
+use Rattle.search_laws.specs.Shares.{IsChildAt}
 use Rattle.reverse_step.specs.Children.{LeadsToChild}
 
 -- the pivot in the column of s, where row r leaves

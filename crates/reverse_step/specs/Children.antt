@@ -8,7 +8,8 @@ use Rattle.poly_model.specs.Tree.{Leaves, exchanged_key}
 use Rattle.dictionary.specs.Views.{Dictionary, table_of, IsOverflow}
 use Rattle.search_laws.specs.Shares.{ListsAll, IsChild}
 use Rattle.reverse_step.specs.declared.children.ChildPivot.{ChildPivot}
-use Rattle.reverse_step.specs.Walks.{IsChildAt, Stands}
+use Rattle.reverse_step.specs.Walks.{Stands}
+use Rattle.search_laws.specs.Shares.{IsChildAt}
 
 -- no child is the neighbour in the column of s
 abbrev pub HasNoChildAt : List ℕ → Dictionary → ℕ → Type 0

@@ -8,7 +8,8 @@ use Rattle.search_laws.specs.Shares.{ListsAll, IsChild}
 use Rattle.lex_pivot.specs.Above.{NoneEnters}
 use Rattle.reverse_step.specs.declared.walker.Visit.{Visit}
 use Rattle.reverse_step.specs.declared.walker.Visit.TheVariants.{New, Back, End}
-use Rattle.reverse_step.specs.Walks.{Parent, Walk, IsChildAt, IsWalkIn, Waits}
+use Rattle.reverse_step.specs.Walks.{Parent, Walk, IsWalkIn, Waits}
+use Rattle.search_laws.specs.Shares.{IsChildAt}
 use Rattle.reverse_step.specs.Children.{HasNoChildAt}
 
 -- the same walk elsewhere

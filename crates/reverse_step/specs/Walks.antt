@@ -4,9 +4,9 @@ use Rattle.poly_model.specs.Keys.{IsAscending}
 use Rattle.poly_model.specs.Spaces.{Space}
 use Rattle.poly_model.specs.Dictionaries.{Table}
 use Rattle.poly_model.specs.LexOrder.{rows_in}
-use Rattle.poly_model.specs.Tree.{IsRowDictionary, IsFeasibleRoot, IsLexFeasible, IsNeighbour}
+use Rattle.poly_model.specs.Tree.{IsFeasibleRoot, IsLexFeasible}
 use Rattle.dictionary.specs.Views.{Dictionary, table_of, IsDictionaryIn}
-use Rattle.search_laws.specs.Shares.{IsChild}
+use Rattle.search_laws.specs.Shares.{IsChildAt}
 use Rattle.reverse_step.specs.Waiting.{Wait}
 
 -- a dictionary of which another one is the child, in the column of a label
@@ -28,13 +28,6 @@ pub record AreAlike (here other : Dictionary) : Type 0 where
   pub phase : other.phase ≡ here.phase
   pub rows : length other.labels ≡ length here.labels
   pub columns : length other.columns ≡ length here.columns
-
--- a child, which is the neighbour in the column of s
-pub record IsChildAt (space : Space) (root key : List ℕ) (s : ℕ) (one : List ℕ) : Type 0 where
-  pub child : IsChild space root key one
-  pub table : Table
-  pub dictionary : IsRowDictionary space key table
-  pub neighbour : IsNeighbour space.labels root key table s one
 
 -- the root is feasible, and the dictionary that of a lexicographically feasible cobasis
 pub record Stands (space : Space) (home : Table) (root : List ℕ) (d : Dictionary) : Type 0 where

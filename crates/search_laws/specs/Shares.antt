@@ -23,6 +23,13 @@ module _ (space : Space) (root : List ℕ) where
   abbrev pub IsChild : List ℕ → List ℕ → Type 0
   IsChild key child = (t : Table) × IsLexFeasible space root child t × IsParent space.labels root child t key
 
+  -- a child, which is the neighbour in the column of s
+  pub record IsChildAt (key : List ℕ) (s : ℕ) (one : List ℕ) : Type 0 where
+    pub child : IsChild key one
+    pub table : Table
+    pub dictionary : IsRowDictionary space key table
+    pub neighbour : IsNeighbour space.labels root key table s one
+
   -- a lexicographically feasible cobasis under the key
   abbrev pub IsFeasibleUnder : List ℕ → List ℕ → Type 0
   IsFeasibleUnder key one = IsFeasibleKey one × IsUnder space root one key

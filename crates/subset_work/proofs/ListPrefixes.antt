@@ -27,7 +27,7 @@ use Rattle.plain_enum.proofs.Standings.{stands_dictionary}
 use Rattle.work_core.specs.Meanings.{IsKeyBelow}
 use Rattle.work_core.specs.Subsets.{IsListOf}
 use Rattle.work_core.specs.Searches.{by_subsets}
-use Rattle.work_core.specs.Shown.{IsShownAtList}
+use Rattle.work_core.specs.Subsets.{IsShownAtList}
 use Rattle.work_core.proofs.SubsetLists.{HasMarks, has_marks, same_list}
 use Rattle.work_core.proofs.SubsetShares.{has_one_list}
 use Rattle.subset_work.specs.Standing.{HasRoom, IsLive, IsDead}

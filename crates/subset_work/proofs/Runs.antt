@@ -20,7 +20,7 @@ use Rattle.work_core.specs.Splits.{most_depth}
 use Rattle.work_core.specs.Subsets.{plain_labels, IsSubsetKey, IsSubsetDepth, IsReducedDimension}
 use Rattle.work_core.specs.Searches.{Search, by_subsets, meaning_of}
 use Rattle.work_core.specs.ReplyLines.{keys_in_lines, rows_in_lines, IsWholeRun, IsCutRun, IsTornRun}
-use Rattle.work_core.specs.Shown.{IsShownAtList}
+use Rattle.work_core.specs.Subsets.{IsShownAtList}
 use Rattle.work_core.specs.Walked.{HasWalked}
 use Rattle.work_core.proofs.WalkLemmas.{under_itself}
 use Rattle.work_core.proofs.SubsetShares.{has_shares, is_key, subset_walks_split}

@@ -19,7 +19,7 @@ use Rattle.work_core.specs.Meanings.{Meaning, IsKeyBelow}
 use Rattle.work_core.specs.Subsets.{IsSubsetKey}
 use Rattle.work_core.specs.Searches.{by_subsets}
 use Rattle.work_core.specs.ReplyLines.{row_line, WritesLines, WritesPartOfLines, IsCutRun, IsTornRun}
-use Rattle.work_core.specs.Shown.{IsShownAtList}
+use Rattle.work_core.specs.Subsets.{IsShownAtList}
 use Rattle.work_core.specs.Walked.{HasWalked}
 use Rattle.work_core.proofs.WalkLemmas.{under_itself}
 use Rattle.work_core.proofs.SubsetShares.{has_shares, shows_at}

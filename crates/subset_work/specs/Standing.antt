@@ -11,7 +11,7 @@ use Rattle.plain_enum.specs.Listed.{IsAt}
 use Rattle.work_core.specs.Meanings.{IsKeyBelow}
 use Rattle.work_core.specs.Subsets.{IsSubsetKey, IsReducedDimension}
 use Rattle.work_core.specs.Searches.{by_subsets}
-use Rattle.work_core.specs.Shown.{IsShownAtList}
+use Rattle.work_core.specs.Subsets.{IsShownAtList}
 
 -- the least label above those of the key
 pub record IsNext (key : List ℕ) (from : ℕ) : Type 0 where

@@ -11,7 +11,7 @@ use Rattle.work_core.specs.Meanings.{IsKeyBelow}
 use Rattle.work_core.specs.Searches.{by_subsets}
 use Rattle.work_core.specs.ReplyLines.{job_line_text, IsCutRun, IsTornRun}
 use Rattle.work_core.specs.Walked.{Bound, HasWalked}
-use Rattle.work_core.specs.Shown.{IsShownAtList}
+use Rattle.work_core.specs.Subsets.{IsShownAtList}
 use Rattle.subset_work.specs.Standing.{IsBefore}
 
 -- lists of so many labels are given back, and no longer ones

@@ -21,7 +21,8 @@ use Rattle.work_core.specs.Subsets.{plain_labels, IsReducedDimension, IsSubsetKe
 use Rattle.work_core.specs.Searches.{by_subsets}
 use Rattle.work_core.specs.Laws.{HasShares}
 use Rattle.work_core.specs.Walks.{ShowsAt}
-use Rattle.work_core.specs.Shown.{IsShownAtList, HasOneList, HaveOneList, HasOneDimension, SubsetsShow, SubsetWalksSplit}
+use Rattle.work_core.specs.Subsets.{IsShownAtList}
+use Rattle.work_core.specs.Shown.{HasOneList, HaveOneList, HasOneDimension, SubsetsShow, SubsetWalksSplit}
 use Rattle.work_core.proofs.Dimensions.{HasBase, has_base, dimension_fills, one_dimension, some_dimension}
 use Rattle.work_core.proofs.SubsetLists.{HasMarks, has_marks, same_list, label_is_plain}
 use Rattle.work_core.proofs.WalkLemmas.{walk_leaves}

@@ -11,7 +11,8 @@ use Rattle.work_core.specs.Meanings.{IsKeyBelow}
 use Rattle.work_core.specs.Searches.{by_subtrees, meaning_by, IsRootBy}
 use Rattle.work_core.specs.Laws.{HasShares, SharesHold}
 use Rattle.work_core.specs.Walks.{ShowsAt}
-use Rattle.work_core.specs.Shown.{IsShownAtCobasis, SubtreesShow, SubtreeWalksSplit}
+use Rattle.work_core.specs.Shown.{SubtreesShow, SubtreeWalksSplit}
+use Rattle.work_core.specs.Subtrees.{IsShownAtCobasis}
 use Rattle.work_core.proofs.WalkLemmas.{walk_leaves}
 use Rattle.work_core.proofs.SubsetShares.{has_shares}
 

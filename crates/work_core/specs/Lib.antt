@@ -1,7 +1,10 @@
 pub mod Meanings
 pub mod Subsets
+pub mod Subtrees
 pub mod Searches
 pub mod Splits
+pub mod Orders
+pub mod Outcomes
 pub mod ReplyLines
 pub mod Calls
 pub mod Laws

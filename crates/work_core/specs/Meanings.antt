@@ -1,4 +1,5 @@
--- What a work means: which lists of labels are its keys, how deep one lies under another, and what is in the share of one.
+-- What a work means: which lists of labels are its keys, how deep one lies under another, its children, what is shown at
+-- one, and what is in its share.
 -- Weights, splits and honest replies are defined once over it, for each work.
 use Rattle.std.specs.Prelude.{◌≡◌, ◌+◌, ℕ, List, [], ◌∷◌, length}
 use Rattle.poly_num.specs.Vectors.{Vector}
@@ -10,6 +11,10 @@ pub record Meaning : Type 1 where
   pub is_key : List ℕ → Type 0
   -- the first lies so deep under the second
   pub is_depth : List ℕ → List ℕ → ℕ → Type 0
+  -- at this label the first has the second as a child
+  pub is_child_at : List ℕ → ℕ → List ℕ → Type 0
+  -- the vector is shown at the key
+  pub shows : List ℕ → Vector → Type 0
   -- the vector is in the share of the key
   pub in_share : List ℕ → Vector → Type 0
 

@@ -5,7 +5,8 @@ use Rattle.poly_model.specs.declared.kind.WorkKind.TheVariants.{Subsets, Subtree
 use Rattle.poly_model.specs.Systems.{Polyhedron}
 use Rattle.poly_model.specs.Subtrees.{IsSubtreeRoot, IsSubtreeKey, IsSubtreeDepth, InSubtree}
 use Rattle.work_core.specs.Meanings.{Meaning}
-use Rattle.work_core.specs.Subsets.{IsSubsetKey, IsSubsetDepth, InSubset}
+use Rattle.work_core.specs.Subsets.{IsSubsetKey, IsSubsetDepth, IsSubsetChildAt, IsShownAtList, InSubset}
+use Rattle.work_core.specs.Subtrees.{IsSubtreeChildAt, IsShownAtCobasis}
 
 -- by prefixes of subsets of rows
 abbrev pub by_subsets : Polyhedron → Meaning
@@ -13,6 +14,8 @@ by_subsets p = record {
   first_key = [];
   is_key = IsSubsetKey p;
   is_depth = IsSubsetDepth;
+  is_child_at = IsSubsetChildAt p;
+  shows = IsShownAtList p;
   in_share = InSubset p;
 }
 
@@ -22,6 +25,8 @@ by_subtrees p root = record {
   first_key = root;
   is_key = IsSubtreeKey p root;
   is_depth = IsSubtreeDepth p root;
+  is_child_at = IsSubtreeChildAt p root;
+  shows = IsShownAtCobasis p root;
   in_share = InSubtree p root;
 }
 

@@ -1,19 +1,16 @@
 -- At which key a vector is shown, for each work.
-use Rattle.std.specs.Prelude.{◌≡◌, ℕ, ◌+◌, ◌≤◌, List, ◌++◌, length, Option}
+use Rattle.std.specs.Prelude.{◌≡◌, ℕ, ◌+◌, ◌≤◌, List, ◌++◌, length}
 use Rattle.poly_num.specs.Vectors.{Vector}
 use Rattle.poly_model.specs.Limits.{most_labels}
 use Rattle.poly_model.specs.Systems.{Polyhedron, cone_of}
 use Rattle.poly_model.specs.Extreme.{IsExtreme}
-use Rattle.poly_model.specs.Subtrees.{IsSubtreeRoot, IsShownAtKey}
-use Rattle.work_core.specs.Subsets.{IsReducedDimension, IsSubsetKey, IsListOf}
+use Rattle.poly_model.specs.Subtrees.{IsSubtreeRoot}
+use Rattle.work_core.specs.Subsets.{IsReducedDimension, IsSubsetKey, IsListOf, IsShownAtList}
+use Rattle.work_core.specs.Subtrees.{IsShownAtCobasis}
 use Rattle.work_core.specs.Searches.{by_subsets, by_subtrees}
 use Rattle.work_core.specs.Walks.{ShowsAt, WalksSplit}
 
 -- ---- subsets
--- a vector is shown at its list
-abbrev pub IsShownAtList : Polyhedron → List ℕ → Vector → Type 0
-IsShownAtList p key y = IsExtreme (cone_of p) y × IsListOf p y key
-
 -- there is one reduced dimension
 abbrev pub HasOneDimension : Type 0
 HasOneDimension =
@@ -38,10 +35,6 @@ abbrev pub SubsetWalksSplit : Type 0
 SubsetWalksSplit = (p : Polyhedron) → p.n ≤ most_labels → WalksSplit (by_subsets p) (IsShownAtList p)
 
 -- ---- subtrees
--- a vector is shown at a lexicographically feasible cobasis
-abbrev pub IsShownAtCobasis : Polyhedron → List ℕ → List ℕ → Vector → Type 0
-IsShownAtCobasis p root key y = (place : Option ℕ) × IsShownAtKey p root key place y
-
 abbrev pub SubtreesShow : Type 0
 SubtreesShow =
     (p : Polyhedron) (root : List ℕ) → IsSubtreeRoot p root → ShowsAt (by_subtrees p root) (IsShownAtCobasis p root)

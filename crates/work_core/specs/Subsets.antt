@@ -1,6 +1,6 @@
 -- The keys of the work by prefixes of subsets of rows, and what is in the share of one: the extreme vectors whose list of
 -- tight rows begins with it.
-use Rattle.std.specs.Prelude.{◌≡◌, ℕ, ◌-◌, ◌≤◌, Bool, not, pos, List, ◌++◌, map, length}
+use Rattle.std.specs.Prelude.{◌≡◌, ℕ, ◌-◌, ◌≤◌, Bool, not, pos, List, [], ◌∷◌, ◌++◌, map, length}
 use Rattle.std.specs.List.{All, Contains, filter, range_with_len}
 use Rattle.std.specs.Ordering.{int_eq}
 use Rattle.poly_num.specs.Vectors.{Vector, ◌·◌}
@@ -48,6 +48,11 @@ pub record IsSubsetDepth (one key : List ℕ) (depth : ℕ) : Type 0 where
   pub begins : one ≡ key ++ more
   pub count : length more ≡ depth
 
+-- a child has one label more, behind the others
+pub record IsSubsetChildAt (p : Polyhedron) (key : List ℕ) (s : ℕ) (child : List ℕ) : Type 0 where
+  pub longer : child ≡ key ++ s ∷ []
+  pub is_key : IsSubsetKey p child
+
 -- ---- vectors
 -- those of the rows that are tight at y, ascending
 abbrev pub tight_labels : Polyhedron → Vector → List ℕ
@@ -66,3 +71,7 @@ pub record InSubset (p : Polyhedron) (key : List ℕ) (y : Vector) : Type 0 wher
   pub extreme : IsExtreme (cone_of p) y
   pub rest : List ℕ
   pub list : IsListOf p y (key ++ rest)
+
+-- a vector is shown at its list
+abbrev pub IsShownAtList : Polyhedron → List ℕ → Vector → Type 0
+IsShownAtList p key y = IsExtreme (cone_of p) y × IsListOf p y key
