@@ -1,20 +1,16 @@
 -- The children of a cobasis along its columns: they exist, and along all columns they are all children, each once.
-use Rattle.std.proofs.Common.{◌≡◌, ◌≢◌, inl, inr, ⊎_elim, ℕ, List, [], ◌∷◌, refl, sym, subst}
+use Rattle.std.proofs.Common.{◌≡◌, inl, inr, ⊎_elim, ℕ, List, [], ◌∷◌, refl, sym, subst}
 use Rattle.std.specs.List.{Contains}
-use Rattle.std.proofs.lemmas.Bool.{cases_eq}
 use Rattle.poly_model.specs.Spaces.{Space}
 use Rattle.poly_model.specs.Dictionaries.{Table}
 use Rattle.poly_model.specs.LexOrder.{rows_in}
 use Rattle.poly_model.specs.Tree.{IsFeasibleRoot, IsLexFeasible, IsNeighbour}
 use Rattle.linear_laws.specs.Distinct.{AreDistinct}
 use Rattle.linear_laws.proofs.Members.{Contains-nil, Contains-first, Contains-later, Contains-cons_cases}
-use Rattle.dictionary_laws.specs.Keys.{Exchanges}
 use Rattle.dictionary_laws.proofs.KeyExchange.{ascending_distinct}
-use Rattle.tree_laws.proofs.ExchangedKeys.{leaving_outside}
-use Rattle.tree_laws.proofs.Neighbours.{neighbour_exchanges, one_neighbour}
-use Rattle.tree_laws.proofs.AnyTable.{neighbour_too}
 use Rattle.search_laws.specs.Shares.{ListsAll, IsChild}
 use Rattle.search_laws.proofs.Children.{child_column, child_or_none}
+use Rattle.search_laws.proofs.ChildrenAt.{neighbour_here, one_child, one_column}
 use Rattle.reverse_step.specs.Waiting.{AreAlong}
 use Rattle.search_laws.specs.Shares.{IsChildAt}
 
@@ -22,32 +18,6 @@ module _ (space : Space) (root : List ℕ) (home : Table) (h : IsFeasibleRoot sp
     (distinct : AreDistinct (rows_in space.labels)) (key : List ℕ) (t : Table) (f : IsLexFeasible space root key t) where
   abbrev At : ℕ → List ℕ → Type 0
   At s one = IsChildAt space root key s one
-
-  pub neighbour_here : (s : ℕ) (one : List ℕ) → At s one → IsNeighbour space.labels root key t s one
-  neighbour_here s one c = neighbour_too space root key c.table t c.dictionary f.dictionary s one c.neighbour
-
-  pub one_child : (s : ℕ) (a b : List ℕ) → At s a → At s b → a ≡ b
-  one_child s a b c d =
-      one_neighbour space root key t home h.dictionary f.dictionary s a b (neighbour_here s a c) (neighbour_here s b d)
-
-  pub one_column : (s r : ℕ) (one : List ℕ) → At s one → At r one → s ≡ r
-  one_column s r one c d =
-      ⊎_elim
-      (λ (e : s ≡ r). e)
-      (λ (n : s ≢ r). absurd (leaving_outside key one a.r s x a.column a.leaves.row.outside (y.kept s a.column n)))
-      (cases_eq s r)
-    where
-      a : IsNeighbour space.labels root key t s one
-      a = neighbour_here s one c
-
-      b : IsNeighbour space.labels root key t r one
-      b = neighbour_here r one d
-
-      x : Exchanges key one a.r s
-      x = neighbour_exchanges space root key t s one f.dictionary a
-
-      y : Exchanges key one b.r r
-      y = neighbour_exchanges space root key t r one f.dictionary b
 
   abbrev Along : List ℕ → List (List ℕ) → Type 0
   Along ss cs = AreAlong (IsChildAt space root) key ss cs
@@ -68,7 +38,7 @@ module _ (space : Space) (root : List ℕ) (home : Table) (h : IsFeasibleRoot sp
         ),
       ))
       (λ (n : (child : List ℕ) → IsChild space root key child → IsNeighbour space.labels root key t s child → ⊥).
-      (rest.0, inl (λ child c. n child c.child (neighbour_here s child c), rest.1)))
+      (rest.0, inl (λ child c. n child c.child (neighbour_here space root home h distinct key t f s child c), rest.1)))
       (child_or_none space root home h distinct key t f s (all s (Contains-first s ss)))
 
   along_only : (ss : List ℕ) (cs : List (List ℕ)) → Along ss cs → (one : List ℕ) → Contains cs one →
@@ -93,7 +63,8 @@ module _ (space : Space) (root : List ℕ) (home : Table) (h : IsFeasibleRoot sp
       subst (λ ks. Contains ks one) (sym e) (
       ⊎_elim
       (λ (q : r ≡ s). subst (λ k. Contains (child ∷ rest) k)
-      (one_child s child one (subst (λ k. At k child) q b) d) (Contains-first child rest))
+      (one_child space root home h distinct key t f s child one (subst (λ k. At k child) q b) d)
+      (Contains-first child rest))
       (λ (m : Contains ss s). Contains-later one child rest (along_each ss rest a s m one d))
       (Contains-cons_cases s r ss c))
 
@@ -103,7 +74,7 @@ module _ (space : Space) (root : List ℕ) (home : Table) (h : IsFeasibleRoot sp
   along_once (s ∷ ss) cs d (inr (child, rest, b, a, e)) =
       subst (λ ks. AreDistinct ks) (sym e) (
         λ c. let w = along_only ss rest a child c in
-            d.0 (subst (λ k. Contains ss k) (sym (one_column s w.0 child b w.2)) w.1),
+            d.0 (subst (λ k. Contains ss k) (sym (one_column space root home h distinct key t f s w.0 child b w.2)) w.1),
         along_once ss rest d.1 a,
       )
 

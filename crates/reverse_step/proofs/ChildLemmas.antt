@@ -11,13 +11,13 @@ use Rattle.tree_laws.proofs.Neighbours.{one_neighbour}
 use Rattle.search_laws.specs.ChildTest.{LeadsUp}
 use Rattle.search_laws.specs.Shares.{IsChild}
 use Rattle.search_laws.proofs.ChildTest.{child_by_test}
+use Rattle.search_laws.proofs.ChildrenAt.{neighbour_here}
 use Rattle.dictionary.specs.Views.{Dictionary, table_of}
 use Rattle.lex_pivot.specs.Ratios.{NoneLeaves}
 use Rattle.lex_pivot.specs.Children.{DecidesChild}
 use Rattle.reverse_step.specs.Walks.{Stands}
 use Rattle.search_laws.specs.Shares.{IsChildAt}
 use Rattle.reverse_step.specs.Children.{HasNoChildAt, LeadsToChild, NoneBetween}
-use Rattle.reverse_step.proofs.Along.{neighbour_here}
 
 module _ (d : Dictionary) (root : List ℕ) (s : ℕ) where
   here : (space : Space) (home : Table) → Stands space home root d → (child : List ℕ) →

@@ -13,6 +13,7 @@ use Rattle.dictionary.proofs.PlaceLemmas.{place_at}
 use Rattle.tree_laws.proofs.AnyTable.{parent_too}
 use Rattle.tree_laws.proofs.Parents.{one_parent}
 use Rattle.search_laws.specs.Shares.{IsChild}
+use Rattle.search_laws.proofs.ChildrenAt.{one_child, one_column}
 use Rattle.search_laws.proofs.Depths.{not_under_child}
 use Rattle.search_laws.proofs.OnceLists.{one_key_or_not}
 use Rattle.search_laws.proofs.ShareParts.{under_twice, child_under, under_itself}
@@ -25,7 +26,7 @@ use Rattle.reverse_step.specs.Walks.{Parent, Walk, Stands, AreParentsKept, IsWal
 use Rattle.search_laws.specs.Shares.{IsChildAt}
 use Rattle.reverse_step.specs.Children.{LeadsToChild, NoneBetween, IsFirstChild}
 use Rattle.reverse_step.specs.Moves.{moved_to, parents_below, Moves, IsMovedDown, IsMovedUp, IsBackAtParent, IsAtChild, GoesUp, IsVisit}
-use Rattle.reverse_step.proofs.Along.{one_child, one_column, some_along, lists_children}
+use Rattle.reverse_step.proofs.Along.{some_along, lists_children}
 use Rattle.reverse_step.proofs.StepLemmas.{new_stands, child_here, parent_here}
 use Rattle.reverse_step.proofs.WaitLemmas.{wait_skip, wait_child, wait_end, wait_parent, WaitsAtChild, WaitsAtParent}
 

@@ -14,6 +14,7 @@ pub mod Depths
 pub mod OnceLists
 pub mod LineCounts
 pub mod Children
+pub mod ChildrenAt
 pub mod ShareParts
 pub mod Gathered
 pub mod Weights

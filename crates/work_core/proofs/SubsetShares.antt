@@ -51,6 +51,14 @@ extends_or_not (x ∷ key) (y ∷ one) = by (cases_eq y x) (extends_or_not key o
     by (inl e) (inr n) = inr (λ j f. n j (same_others y x one (key ++ j) f))
     by (inl e) (inl (j, f)) = inl (j, cc)
 
+pub ascending_front : (front rest : List ℕ) → IsAscending (front ++ rest) → IsAscending front
+ascending_front [] rest a = tt
+ascending_front (k ∷ front) rest a = (front_all k front rest a.0, ascending_front front rest a.1)
+  where
+    front_all : (k : ℕ) (front rest : List ℕ) → AllByRecursion (λ y. k < y) (front ++ rest) → AllByRecursion (λ y. k < y) front
+    front_all k [] rest h = tt
+    front_all k (j ∷ front) rest h = (h.0, front_all k front rest h.1)
+
 -- ---- keys are decided
 all_or_not : (P : ℕ → Type 0) → ((k : ℕ) → P k ⊎ (P k → ⊥)) → (ks : List ℕ) → AllByRecursion P ks ⊎ (AllByRecursion P ks → ⊥)
 all_or_not P d [] = inl tt
@@ -221,14 +229,6 @@ module _ (p : Polyhedron) where
               keys = λ front rest e. is_front front rest e (some_dimension p);
             }
               where
-                ascending_front : (front rest : List ℕ) → IsAscending (front ++ rest) → IsAscending front
-                ascending_front [] rest a = tt
-                ascending_front (k ∷ front) rest a = (front_all k front rest a.0, ascending_front front rest a.1)
-                  where
-                    front_all : (k : ℕ) (front rest : List ℕ) → AllByRecursion (λ y. k < y) (front ++ rest) → AllByRecursion (λ y. k < y) front
-                    front_all k [] rest h = tt
-                    front_all k (j ∷ front) rest h = (h.0, front_all k front rest h.1)
-
                 is_front : (front rest : List ℕ) → marked_labels m.marks ≡ front ++ rest → (r : ℕ) × IsReducedDimension p r →
                     IsSubsetKey p front
                 is_front front rest e (r, d) =
