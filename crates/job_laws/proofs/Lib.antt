@@ -1,0 +1,14 @@
+pub mod MetLists
+pub mod OneRun
+pub mod LeadLemmas
+pub mod PartLemmas
+pub mod SubsetBranches
+pub mod SubtreeBranches
+pub mod Branches
+pub mod OneOutcome
+pub mod RunsInSpaces
+pub mod RunWalks
+pub mod RunCounts
+pub mod RunDepths
+pub mod WithinBudget
+pub mod SplitOutcomes

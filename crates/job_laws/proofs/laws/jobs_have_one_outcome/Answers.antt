@@ -1,0 +1,5 @@
+use Rattle.job_laws.proofs.OneOutcome.{jobs_have_one_outcome}
+use Rattle.job_laws.proofs.laws.jobs_have_one_outcome.Goals as goal
+
+pub returns : goal.returns
+returns c = jobs_have_one_outcome
