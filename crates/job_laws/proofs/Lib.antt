@@ -12,3 +12,4 @@ pub mod RunCounts
 pub mod RunDepths
 pub mod WithinBudget
 pub mod SplitOutcomes
+pub mod KnownRuns
