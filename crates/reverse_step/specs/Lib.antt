@@ -6,3 +6,5 @@ pub mod Moves
 pub mod Runs
 pub mod Ways
 pub mod Starts
+pub mod Again
+pub mod Weighing

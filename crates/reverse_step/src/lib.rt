@@ -9,5 +9,6 @@ mod slots;
 mod tests;
 mod walker;
 mod way;
+mod weighing;
 
 pub use walker::{Visit, Walker};

@@ -4,6 +4,8 @@
 #![tactic(auto)]
 
 mod begin;
+mod choice;
+mod leaves;
 mod progress;
 mod rows;
 mod search;
