@@ -3,12 +3,9 @@ pub mod Along
 pub mod WaitLemmas
 pub mod StepLemmas
 pub mod ChildLemmas
-pub mod CountLemmas
 pub mod NextLemmas
 pub mod Bounds
 pub mod RunLemmas
-pub mod WeighLemmas
-pub mod AgainLemmas
 pub mod DueLemmas
 pub mod WayLemmas
 pub mod StartLemmas

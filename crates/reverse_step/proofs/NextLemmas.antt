@@ -83,6 +83,7 @@ module _ (old : Walk) (d : Dictionary) (p : ChildPivot) (f : IsFirstChild old.ro
           rest = x.rest;
           first = x.first;
           cs = cs.0;
+          along = cs.1;
           children = lists_children space old.root home st.feasible_root (rows_once space home old.root old.dict st) d.key
               (table_of d) stands.feasible cs.0 cs.1;
           waits = x.waits;

@@ -90,9 +90,6 @@ alike_on one two three a b = record {
   columns = b.columns ∙ a.columns;
 }
 
-pub pivot_alike : (old new : Dictionary) (r s : ℕ) → IsPivot old r s new → AreAlike old new
-pivot_alike old new r s p = record { phase = p.phase; rows = ap (λ ls. length ls) p.labels; columns = p.width }
-
 slots_on : (one two : Dictionary) (root : List ℕ) (slots : List Slot) → AreAlike one two → All (IsSlotOf one root) slots →
     All (IsSlotOf two root) slots
 slots_on one two root slots a =
@@ -110,16 +107,6 @@ ring_set here now slots last known root h next slot at m alike leads is inside m
       (slots_on here.dict.value now.dict.value root slots alike h.each);
   within = let l = length-set slots next slot in omega (arith, l, inside);
   few = let l = length-set slots next slot in omega (arith, l, most);
-}
-
--- the same with all slots as they were
-pub ring_kept : (here now : Slot) (slots : List Slot) (last known : ℕ) (root : List ℕ) → IsRing here slots last known root →
-    AreAlike here.dict.value now.dict.value → AreLeads now.dict.value root now.leads → IsRing now slots last known root
-ring_kept here now slots last known root h alike leads = record {
-  leads = leads;
-  each = slots_on here.dict.value now.dict.value root slots alike h.each;
-  within = h.within;
-  few = h.few;
 }
 
 -- the parent's slot, where one is known

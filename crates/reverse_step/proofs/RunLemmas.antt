@@ -28,7 +28,7 @@ use Rattle.reverse_step.proofs.Bounds.{few_keys}
 rows_once : (space : Space) (home : Table) (walk : Walk) → IsWalkIn space home walk → AreDistinct (rows_in space.labels)
 rows_once space home walk w = ascending_distinct (rows_in space.labels) w.stands.ascending
 
-pub laws_of : (space : Space) (home : Table) (walk : Walk) → IsWalkIn space home walk → AreSplit space walk.root
+laws_of : (space : Space) (home : Table) (walk : Walk) → IsWalkIn space home walk → AreSplit space walk.root
 laws_of space home walk w = are_split space walk.root home w.stands.feasible_root (rows_once space home walk w)
 
 -- a key that is one has itself under it
@@ -82,17 +82,24 @@ run_starts space home first left start e w = record {
     all : (w : ℕ) × IsTotal space first.root cs.0 w
     all = laws.total cs.0 (λ k c. (split.waits k (Contains-append_left cs.0 [] k c)).0)
 
+-- what waits then are the children of the root of the job, in the order of their columns
+pub starts_along : (space : Space) (home : Table) (first : Walk) (left : ℕ) (start : IsAtStart first) (e : enough ≤ left)
+    (w : IsWalkIn space home first) →
+    AreAlong (IsChildAt space first.root) first.dict.key first.dict.key
+    (HasRun.waiting (run_starts space home first left start e w))
+unfolding run_starts
+starts_along space home first left start e w =
+    subst (λ n. AreAlong (IsChildAt space first.root) first.dict.key (drop n first.dict.key)
+    (HasRun.waiting (run_starts space home first left start e w))) start.at
+    (HasRun.waits (run_starts space home first left start e w)).1
+
 pub starts_waiting : (space : Space) (home : Table) (first : Walk) (left : ℕ) (start : IsAtStart first) (e : enough ≤ left)
     (w : IsWalkIn space home first) →
     ListsAll (IsChild space first.root first.dict.key) (HasRun.waiting (run_starts space home first left start e w))
-unfolding run_starts
 starts_waiting space home first left start e w =
     lists_children space first.root home w.stands.feasible_root (rows_once space home first w) first.dict.key
-    (table_of first.dict) w.stands.feasible
-    (HasRun.waiting (run_starts space home first left start e w))
-    (subst (λ n. AreAlong (IsChildAt space first.root) first.dict.key (drop n first.dict.key)
-    (HasRun.waiting (run_starts space home first left start e w))) start.at
-    (HasRun.waits (run_starts space home first left start e w)).1)
+    (table_of first.dict) w.stands.feasible (HasRun.waiting (run_starts space home first left start e w))
+    (starts_along space home first left start e w)
 
 pub starts_depth : (space : Space) (home : Table) (first : Walk) (left : ℕ) (start : IsAtStart first) (e : enough ≤ left)
     (w : IsWalkIn space home first) → HasRun.depth (run_starts space home first left start e w) ≡ zero

@@ -180,9 +180,6 @@ module _ (root : List ℕ) (from : Dictionary) (to : List ℕ) where
       n (λ k c. subst (λ ls. Contains (rows_in ls) k) (sym is.labels)
       (All-contains (Contains (rows_in space.labels)) to k f.1.dictionary.rows c))
 
-  pub not_cobasis : IsNoCobasis from to → IsNoFeasibleKey root from to
-  not_cobasis n space points is f = n space points is f.1.dictionary.dictionary.cobasis
-
   module _ (now : Dictionary) (w : LiesBetween from to now) (all : (k : ℕ) → Contains to k → Contains now.key k) where
     -- the labels are in the cobasis, and it has others
     pub not_there : IsAscending now.key → (now.key ≡ to → ⊥) → IsNoFeasibleKey root from to

@@ -6,10 +6,9 @@ use Rattle.poly_model.specs.Spaces.{Space}
 use Rattle.poly_model.specs.Dictionaries.{Table}
 use Rattle.poly_model.specs.Tree.{Leaves, exchanged_key}
 use Rattle.dictionary.specs.Views.{Dictionary, table_of, IsOverflow}
-use Rattle.search_laws.specs.Shares.{ListsAll, IsChild}
+use Rattle.search_laws.specs.Shares.{IsChild, IsChildAt}
 use Rattle.reverse_step.specs.declared.children.ChildPivot.{ChildPivot}
 use Rattle.reverse_step.specs.Walks.{Stands}
-use Rattle.search_laws.specs.Shares.{IsChildAt}
 
 -- no child is the neighbour in the column of s
 abbrev pub HasNoChildAt : List ℕ → Dictionary → ℕ → Type 0
@@ -35,12 +34,6 @@ pub record IsFirstChild (root : List ℕ) (d : Dictionary) (a : ℕ) (p : ChildP
   pub before : NoneBetween root d a p.place
   pub column : p.col ≡ slice_index_or d.key p.place 0
   pub leads : LeadsToChild root d p.col p.row
-
--- it has so many children
-abbrev pub CountsChildren : List ℕ → Dictionary → ℕ → Type 0
-CountsChildren root d n =
-    (space : Space) (home : Table) → Stands space home root d → (cs : List (List ℕ)) →
-    ListsAll (IsChild space root d.key) cs → n ≡ length cs
 
 -- a number passes in the pivot of a column of the cobasis and the row that leaves there
 pub record StopsWalk (d : Dictionary) (root : List ℕ) (o : Overflow) : Type 0 where

@@ -6,5 +6,3 @@ pub mod Moves
 pub mod Runs
 pub mod Ways
 pub mod Starts
-pub mod Again
-pub mod Weighing

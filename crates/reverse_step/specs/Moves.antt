@@ -8,6 +8,7 @@ use Rattle.search_laws.specs.Shares.{ListsAll, IsChild}
 use Rattle.lex_pivot.specs.Above.{NoneEnters}
 use Rattle.reverse_step.specs.declared.walker.Visit.{Visit}
 use Rattle.reverse_step.specs.declared.walker.Visit.TheVariants.{New, Back, End}
+use Rattle.reverse_step.specs.Waiting.{AreAlong}
 use Rattle.reverse_step.specs.Walks.{Parent, Walk, IsWalkIn, Waits}
 use Rattle.search_laws.specs.Shares.{IsChildAt}
 use Rattle.reverse_step.specs.Children.{HasNoChildAt}
@@ -69,11 +70,13 @@ GoesUp old None new = (new ≡ old) × ((old.dict.key ≡ old.job) ⊎ NoneEnter
 GoesUp old (Some s) new = (old.dict.key ≡ old.job → ⊥) × IsMovedUp old s new
 
 -- ---- one step
--- it stands at the first key that waited. Its children wait in its place, and not if its columns are passed over
+-- it stands at the first key that waited. Its children wait in its place, in the order of their columns, and not if its columns
+-- are passed over
 pub record IsAtNew (space : Space) (walk : Walk) (depth : ℕ) (waiting : List (List ℕ)) : Type 0 where
   pub rest : List (List ℕ)
   pub first : waiting ≡ walk.dict.key ∷ rest
   pub cs : List (List ℕ)
+  pub along : AreAlong (IsChildAt space walk.root) walk.dict.key walk.dict.key cs
   pub children : ListsAll (IsChild space walk.root walk.dict.key) cs
   pub waits : Waits space walk (suc depth) (cs ++ rest)
   pub passed : Waits space (past walk) (suc depth) rest

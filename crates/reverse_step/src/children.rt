@@ -1,9 +1,9 @@
-//! The children in the columns of a cobasis, read off its dictionary: the first, and how many there are.
-ghost use Rattle.std.specs.Prelude.{◌≡◌, ℕ, IsTrue, IsFalse, length};
+//! The children in the columns of a cobasis, read off its dictionary.
+ghost use Rattle.std.specs.Prelude.{length};
 ghost use Rattle.std.specs.List.{Contains};
 ghost use Rattle.std.specs.Option.{MatchOption};
 ghost use Rattle.lex_pivot.specs.Leads.{AreLeads};
-ghost use Rattle.reverse_step.specs.Children.{CountsChildren, HasNoChildAt, LeadsToChild, NoneBetween, IsFirstChild};
+ghost use Rattle.reverse_step.specs.Children.{HasNoChildAt, LeadsToChild, NoneBetween, IsFirstChild};
 
 use dictionary::Dict;
 use lex_pivot::{Leads, Order, is_child, leads_up, leaving_along};
@@ -37,34 +37,6 @@ pub(crate) fn first_child(
         }
     }
     None
-}
-
-/// How many children the cobasis has: the columns are tried from the last on. The leads are those of the dictionary.
-pub(crate) fn child_count(dict: &Dict, order: &Order, leads: &Leads) -> usize
-    requires { AreLeads dict.now order.now leads.now }
-    ensures { CountsChildren order.now dict.now result }
-{
-    let labels = dict.cobasis();
-    let mut place = labels.len();
-    let mut count = 0;
-    'columns: while place > 0 {
-        place -= 1;
-        count += usize::from(has_child_at(dict, order, leads, labels[place]));
-    }
-    count
-}
-
-// Whether the neighbour in a column is a child.
-fn has_child_at(dict: &Dict, order: &Order, leads: &Leads, col: Label) -> bool
-    requires leads { AreLeads dict.now order.now leads.now }
-    requires column { Contains dict.now.key col }
-    ensures yes { IsTrue result → (r : ℕ) × LeadsToChild order.now dict.now col r }
-    ensures no { IsFalse result → HasNoChildAt order.now dict.now col }
-{
-    match child_at(dict, order, leads, col) {
-        Some(_) => true,
-        None => false,
-    }
 }
 
 /// The row that leaves in a column, if the neighbour there is a child. About half of the columns need no ratio test for it.

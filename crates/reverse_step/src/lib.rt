@@ -9,6 +9,5 @@ mod slots;
 mod tests;
 mod walker;
 mod way;
-mod weighing;
 
 pub use walker::{Visit, Walker};

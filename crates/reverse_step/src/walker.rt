@@ -1,5 +1,5 @@
 //! The walk.
-ghost use Rattle.std.specs.Prelude.{◌≡◌, ◌≤◌, ◌<◌, ◌↔◌, ◌+◌, IsTrue, IfOk, IfErr, length, [], Some};
+ghost use Rattle.std.specs.Prelude.{◌≡◌, ◌≤◌, ◌↔◌, ◌+◌, IsTrue, IfOk, IfErr, length, [], Some};
 ghost use Rattle.dictionary_laws.specs.Keys.{place_in};
 ghost use Rattle.reverse_step.specs.Walks.{Walk};
 ghost use Rattle.std.specs.List.{Contains};
@@ -7,17 +7,15 @@ ghost use Rattle.std.specs.Option.{MatchOption};
 ghost use Rattle.dictionary.specs.Views.{overflow_of};
 ghost use Rattle.lex_pivot.specs.Above.{NoneEnters, LeadsToParent};
 ghost use Rattle.lex_pivot.specs.Leads.{AreLeads};
-ghost use Rattle.reverse_step.specs.Children.{CountsChildren, LeadsToChild, StopsWalk};
+ghost use Rattle.reverse_step.specs.Children.{LeadsToChild, StopsWalk};
 ghost use Rattle.reverse_step.specs.Ways.{StopsOnTheWay};
 ghost use Rattle.reverse_step.specs.declared.walker.Visit.TheVariants.{End};
-ghost use Rattle.reverse_step.specs.Again.{IsAgain, IsWalkSomewhere, WeighsWithin, StopsElsewhere};
 ghost use Rattle.reverse_step.specs.Starts.{unparented, Starts};
 ghost use Rattle.reverse_step.specs.Moves.{IsMovedDown, IsMovedUp, IsBackAtParent, KnowsParent, GoesDown, GoesUp, IsVisit, past};
 
-use crate::children::{child_at, child_count, first_child};
+use crate::children::{child_at, first_child};
 use crate::ring::{one_more, place_after, place_before, slots_for};
 use crate::slots::{Slot, pivot_over, reach_over};
-use crate::weighing::weigh;
 use dictionary::{Dict, PassingProducts, Steps};
 use lex_pivot::{Leads, Order, Pivot, parent_along};
 use poly_model::{Key, Label, OutOfMemory, Overflow, Root};
@@ -141,13 +139,6 @@ impl Walker {
         &self.here.leads
     }
 
-    /// How many children the cobasis has where it stands, whatever columns are still to be tried.
-    pub fn child_count(&self) -> usize
-        ensures { CountsChildren self.now.root self.now.dict result }
-    {
-        child_count(&self.here.dict, &self.order, &self.here.leads)
-    }
-
     /// Passes over the columns that are still to be tried: the next step leads to the parent.
     pub fn pass(&mut self)
         ensures { self.new ≡ past self.old }
@@ -237,30 +228,6 @@ impl Walker {
             Some(_) => Ok(Visit::Back),
             None => Ok(Visit::End),
         }
-    }
-
-    /// How many cobases are under that where it stands, itself among them, if they are at most so many; none where they are more.
-    /// It goes through them as far as it has to, and then stands there again with the same columns still to be tried.
-    /// Where a pivot overflows it stands elsewhere, where it came to. Takes no memory.
-    pub fn weight_within<L: Ledger>(
-        &mut self,
-        most: u64,
-        steps: &mut Steps<L>,
-    ) -> Result<Option<u64>, PassingProducts>
-        requires walk { IsWalkSomewhere self.old }
-        requires some { 0 < most }
-        ensures again { IfOk result (λ _. IsAgain self.old self.new) }
-        ensures weight { IfOk result (WeighsWithin self.old most) }
-        ensures stops { IfErr result (λ p. StopsElsewhere self.old self.new (overflow_of self.new.dict p)) }
-    {
-        let job = self.job;
-        let at = self.at;
-        self.job = self.here.dict.key();
-        self.at = 0;
-        let found = weigh(self, most, steps);
-        self.job = job;
-        self.at = at;
-        found
     }
 
     // Whether it stands at the job's root.

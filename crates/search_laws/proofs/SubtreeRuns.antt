@@ -42,7 +42,8 @@ module _ (space : Space) (root : List ℕ) where
       (Contains-cons_cases c key keys n))
       (Contains-cons_cases b key keys m)
 
-  apart_once : (keys : List (List ℕ)) → IsAntichain space root keys → AreDistinct keys
+  -- so they are distinct
+  pub apart_once : (keys : List (List ℕ)) → IsAntichain space root keys → AreDistinct keys
   apart_once [] a = tt
   apart_once (key ∷ keys) a = (λ c. (a.0 key c).above (under_itself space root key), apart_once keys a.1)
 

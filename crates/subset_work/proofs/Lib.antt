@@ -1,7 +1,11 @@
 pub mod ListTree
 pub mod ListPrefixes
+pub mod Children
+pub mod Walks
 pub mod Trails
 pub mod Visits
 pub mod Descents
+pub mod Depths
+pub mod Outcomes
 pub mod Runs
 pub mod Sums

@@ -1,34 +1,30 @@
 -- From what a walk under the key of a job has written to a run of the work.
-use Rattle.std.proofs.Common.{◌≡◌, ◌↔◌, ◌⊎◌, inl, inr, ⊎_elim, ap₂, ℕ, ◌+◌, ◌≤◌, ◌<◌, List, [], ◌∷◌, length, length-append, Option, Some, None, Result, Ok, Err, ok_or, refl, sym, ap, subst, ◌∙◌, arith}
+use Rattle.std.proofs.Common.{◌≡◌, ◌↔◌, ap₂, ℕ, ◌+◌, ◌≤◌, ◌<◌, List, [], length, Option, Some, None, Result, Ok, Err, ok_or, sym, ap, subst, ◌∙◌, arith}
 use Rattle.std.specs.List.{Contains}
 use Rattle.std.specs.Prelude.{IfOk, IfSome, OnErr, IsErrOf}
-use Rattle.std.proofs.lemmas.Bool.{cases_lt}
 use Rattle.std.proofs.lemmas.List.Elements.{All-contains}
 use Rattle.poly_model.specs.declared.kind.WorkKind.TheVariants.{Subsets}
 use Rattle.poly_model.specs.declared.listed.Count.{Count}
 use Rattle.poly_model.specs.Keys.{IsKey}
 use Rattle.poly_model.specs.Limits.{most_labels}
 use Rattle.poly_model.specs.Systems.{System, Polyhedron, row_of}
-use Rattle.linear_laws.proofs.Members.{Contains-first}
 use Rattle.work_core.specs.declared.budget.Budget.{Budget}
 use Rattle.work_core.specs.declared.stops.WorkStop.{WorkStop}
 use Rattle.poly_model.specs.declared.overflow.Overflow.{Overflow}
 use Rattle.subset_work.specs.declared.stop.SubsetStop.{SubsetStop}
 use Rattle.subset_work.specs.declared.stop.SubsetStop.TheVariants.{Overflow as Passes}
-use Rattle.work_core.specs.Meanings.{Meaning, StandsUnder, IsKeyBelow}
-use Rattle.work_core.specs.Splits.{most_depth}
-use Rattle.work_core.specs.Subsets.{plain_labels, IsSubsetKey, IsSubsetDepth, IsReducedDimension}
+use Rattle.work_core.specs.Meanings.{Meaning}
+use Rattle.work_core.specs.Splits.{most_depth, IsBudget}
+use Rattle.work_core.specs.Subsets.{plain_labels, IsSubsetKey, IsReducedDimension}
 use Rattle.work_core.specs.Searches.{Search, by_subsets, meaning_of}
-use Rattle.work_core.specs.ReplyLines.{keys_in_lines, rows_in_lines, IsWholeRun, IsCutRun, IsTornRun}
-use Rattle.work_core.specs.Subsets.{IsShownAtList}
-use Rattle.work_core.specs.Walked.{HasWalked}
-use Rattle.work_core.proofs.WalkLemmas.{under_itself}
-use Rattle.work_core.proofs.SubsetShares.{has_shares, is_key, subset_walks_split}
+use Rattle.work_core.specs.ReplyLines.{IsWholeRun, IsCutRun, IsTornRun}
+use Rattle.work_core.proofs.SubsetShares.{is_key}
 use Rattle.work_core.proofs.Dimensions.{some_dimension}
 use Rattle.subset_work.specs.Made.{BySubsets, IsBySubsets}
 use Rattle.subset_work.specs.Counts.{CountsOn}
 use Rattle.subset_work.specs.Standing.{IsPlainRow}
-use Rattle.subset_work.specs.Walked.{bound_of, WalksUnder}
+use Rattle.subset_work.specs.Walked.{WalksUnder}
+use Rattle.subset_work.proofs.Outcomes.{subset_search, whole_run}
 use Rattle.subset_work.proofs.ListTree.{is_plain, plain_label}
 use Rattle.subset_work.proofs.Descents.{left_is_dimension}
 
@@ -50,78 +46,21 @@ pub counts_from : (most : ℕ) (c : Count) (x : Option Count) (stop : WorkStop) 
 counts_from most c x stop result is h =
     subst (λ (r : Result Count WorkStop). IfOk r (CountsOn most c)) (sym is) (counts most c x stop h)
 
--- the search by subsets of its polyhedron
-abbrev pub subset_search : Polyhedron → Search
-subset_search p = record { work = Subsets; polyhedron = p; root = [] }
-
 pub same_search : (s : Search) → s.work ≡ Subsets → s.root ≡ [] → s ≡ subset_search s.polyhedron
 same_search s e f = ap₂ (λ w r. record { work = w; polyhedron = s.polyhedron; root = r }) e f
 
-module _ (p : Polyhedron) (narrow : p.n ≤ most_labels) (key : List ℕ) (is : IsSubsetKey p key) (budget : Budget) (most longest : ℕ)
-    (same : most ≡ budget.bases) (far : 0 < budget.depth → longest ≡ length key + budget.depth) (near : budget.depth ≡ 0 → most_depth < longest)
-    (old new : Option (List ℕ)) (c d : Count) (w : HasWalked (by_subsets p) (IsShownAtList p) (bound_of most longest) (IsKeyBelow (by_subsets p) key) old new c d)
-    (some : c.bases < d.bases) (within : d.bases ≤ most) (rows : c.rows ≡ 0) (jobs : c.jobs ≡ 0) (bases : c.bases ≡ 0) where
-  abbrev s : Meaning
-  s = by_subsets p
-
-  visited_key : Contains w.visited key
-  visited_key = ⊎_elim (λ v. v) (λ u. absurd (by w.visited refl u)) (w.walk.each key (is, under_itself s (has_shares p) key))
-    where
-      by : (vs : List (List ℕ)) → w.visited ≡ vs → (k : List ℕ) × Contains (keys_in_lines w.lines) k × StandsUnder s key k → ⊥
-      by [] e u = let l = ap length e in omega (arith, l, w.bases, some)
-      by (v ∷ vs) e (k, m, u) =
-          let here : Contains w.visited v = subst (λ t. Contains t v) (sym e) (Contains-first v vs) in
-          let under = w.walk.only v here in
-          w.walk.not_both v here (k, m, (has_shares p).through v key k under.0 under.1 u)
-
-  key_of : (k : List ℕ) → Contains (keys_in_lines w.lines) k → IsKeyBelow s key k
-  key_of k m = w.walk.given_within k k m (w.walk.given_keys k m, under_itself s (has_shares p) k)
-
-  long_as : (k : List ℕ) (depth : ℕ) → IsSubsetDepth k key depth → length k ≡ length key + depth
-  long_as k depth e = let f = ap length e.begins in omega (arith, f, length-append key e.more, e.count)
-
-  at_depth : (k : List ℕ) → Contains (keys_in_lines w.lines) k → length k ≡ longest → (0 < budget.depth) × IsSubsetDepth k key budget.depth
-  at_depth k m l = by (cases_lt 0 budget.depth)
-    where
-      by : (0 < budget.depth) ⊎ (budget.depth ≤ 0) → (0 < budget.depth) × IsSubsetDepth k key budget.depth
-      by (inl h) =
-          let u = key_of k m in let f = far h in let e = long_as k u.1.0 u.1.1 in
-          let z : u.1.0 ≡ budget.depth = omega (arith, l, f, e) in
-          (h, subst (λ n. IsSubsetDepth k key n) z u.1.1)
-      by (inr h) = let f = near (omega (arith, h)) in let r = (key_of k m).0.ascending.room in absurd (omega (arith, l, f, r))
-
-  is_run : IsWholeRun s key budget old new d
-  is_run =
-      let both = subset_walks_split p narrow key is w.visited (keys_in_lines w.lines) (rows_in_lines w.lines) w.walk visited_key in
-      record {
-        lines = w.lines;
-        written = w.written;
-        splits = both.splits;
-        budgeted = record {
-          whole = both.whole;
-          left = both.left;
-          weighs = both.weighs;
-          weigh = both.weigh;
-          visited = let e = both.visits in omega (arith, e, w.bases, bases);
-          some = omega (arith, some);
-          most = omega (arith, within, same);
-          given = λ k m. ⊎_elim (λ (e : d.bases ≡ most). inl (e ∙ same)) (λ (l : length k ≡ longest). inr (at_depth k m l)) (w.back k m);
-          no_deeper = λ h k depth m e. let f = far h in let l = long_as k depth e in let q = w.no_deeper k m in omega (arith, f, l, q);
-        };
-        rows = omega (arith, w.rows, rows);
-        jobs = omega (arith, w.jobs, jobs);
-      }
-
 -- for each search of which the work is
-pub run_is : (w : BySubsets) (s : Search) → IsBySubsets w s → w.sys.n ≤ most_labels → (key : List ℕ) (budget : Budget) (most longest : ℕ) →
-    most ≡ budget.bases → (0 < budget.depth → longest ≡ length key + budget.depth) → (budget.depth ≡ 0 → most_depth < longest) →
-    (old new : Option (List ℕ)) (c d : Count) → c.bases < d.bases → d.bases ≤ most → c.rows ≡ 0 → c.jobs ≡ 0 → c.bases ≡ 0 →
-    Meaning.is_key (meaning_of s) key → WalksUnder s.polyhedron key most longest old new c (Ok d) → IsWholeRun (meaning_of s) key budget old new d
-run_is w s made narrow key budget most longest same far near old new c d some within rows jobs bases is v =
+pub run_is : (w : BySubsets) (s : Search) → IsBySubsets w s → w.sys.n ≤ most_labels → (key : List ℕ) (budget : Budget) →
+    IsBudget budget → (most longest : ℕ) → most ≡ budget.bases → (0 < budget.depth → longest ≡ length key + budget.depth) →
+    (budget.depth ≡ 0 → most_depth < longest) → (old new : Option (List ℕ)) (c d : Count) → c.rows ≡ 0 → c.jobs ≡ 0 →
+    c.bases ≡ 0 → Meaning.is_key (meaning_of s) key → WalksUnder s.polyhedron key most longest old new c (Ok d) →
+    IsWholeRun (meaning_of s) key budget old new d
+run_is w s made narrow key budget range most longest same far near old new c d rows jobs bases is v =
     let e = same_search s made.work made.root in
     subst (λ t. IsWholeRun (meaning_of t) key budget old new d) (sym e)
-    (is_run s.polyhedron (subst (λ (t : System). t.n ≤ most_labels) made.file narrow) key (subst (λ t. Meaning.is_key (meaning_of t) key) e is) budget most longest same far near old new c d v.whole
-    some within rows jobs bases)
+    (whole_run s.polyhedron (subst (λ (t : System). t.n ≤ most_labels) made.file narrow) key
+    (subst (λ t. Meaning.is_key (meaning_of t) key) e is) budget range most longest same far near old new c d v.whole rows
+    jobs bases)
 
 pub cut_is : (s : Search) → s.work ≡ Subsets → s.root ≡ [] → (key : List ℕ) (old new : Option (List ℕ)) →
     IsCutRun (by_subsets s.polyhedron) key old new → IsCutRun (meaning_of s) key old new
@@ -167,13 +106,15 @@ key_no_plain w s made key is j c =
     }
 
 -- ---- whatever it answers
-module _ (w : BySubsets) (s : Search) (made : IsBySubsets w s) (narrow : w.sys.n ≤ most_labels) (key : List ℕ) (is : Meaning.is_key (meaning_of s) key) (budget : Budget) (most longest : ℕ)
-    (same : most ≡ budget.bases) (far : 0 < budget.depth → longest ≡ length key + budget.depth) (near : budget.depth ≡ 0 → most_depth < longest)
-    (old new : Option (List ℕ)) (c : Count) (rows : c.rows ≡ 0) (jobs : c.jobs ≡ 0) (bases : c.bases ≡ 0) where
-  pub ok_run : (result : Result Count WorkStop) → IfOk result (CountsOn most c) →
-      WalksUnder s.polyhedron key most longest old new c result → IfOk result (IsWholeRun (meaning_of s) key budget old new)
-  ok_run (Ok d) on v = run_is w s made narrow key budget most longest same far near old new c d on.some on.within rows jobs bases is v
-  ok_run (Err x) on v = tt
+module _ (w : BySubsets) (s : Search) (made : IsBySubsets w s) (narrow : w.sys.n ≤ most_labels) (key : List ℕ)
+    (is : Meaning.is_key (meaning_of s) key) (budget : Budget) (range : IsBudget budget) (most longest : ℕ)
+    (same : most ≡ budget.bases) (far : 0 < budget.depth → longest ≡ length key + budget.depth)
+    (near : budget.depth ≡ 0 → most_depth < longest) (old new : Option (List ℕ)) (c : Count) (rows : c.rows ≡ 0)
+    (jobs : c.jobs ≡ 0) (bases : c.bases ≡ 0) where
+  pub ok_run : (result : Result Count WorkStop) → WalksUnder s.polyhedron key most longest old new c result →
+      IfOk result (IsWholeRun (meaning_of s) key budget old new)
+  ok_run (Ok d) v = run_is w s made narrow key budget range most longest same far near old new c d rows jobs bases is v
+  ok_run (Err x) v = tt
 
 pub torn_run : (s : Search) → s.work ≡ Subsets → s.root ≡ [] → (key : List ℕ) (most longest : ℕ) (old new : Option (List ℕ)) (c : Count) (result : Result Count WorkStop) →
     WalksUnder s.polyhedron key most longest old new c result → OnErr result (IsTornRun (meaning_of s) key old new)

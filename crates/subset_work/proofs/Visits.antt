@@ -16,29 +16,29 @@ use Rattle.linear_laws.proofs.Members.{Contains-first}
 use Rattle.work_core.specs.declared.stops.WorkStop.{WorkStop}
 use Rattle.poly_model.specs.Limits.{most_labels}
 use Rattle.work_core.specs.Meanings.{Meaning, IsKeyBelow}
-use Rattle.work_core.specs.Subsets.{IsSubsetKey}
+use Rattle.work_core.specs.Subsets.{IsSubsetKey, InSubset}
 use Rattle.work_core.specs.Searches.{by_subsets}
 use Rattle.work_core.specs.ReplyLines.{row_line, WritesLines, WritesPartOfLines, IsCutRun, IsTornRun}
 use Rattle.work_core.specs.Subsets.{IsShownAtList}
-use Rattle.work_core.specs.Walked.{HasWalked}
 use Rattle.work_core.proofs.WalkLemmas.{under_itself}
 use Rattle.work_core.proofs.SubsetShares.{has_shares, shows_at}
-use Rattle.work_core.proofs.WalkedLemmas.{writes_given, part_given, walked_of, walked_visit, walked_show, walked_give, walked_then, cut_here, cut_under, torn_under, cut_is_torn, torn_job, torn_row}
+use Rattle.work_core.proofs.WalkedLemmas.{writes_given, part_given, cut_is_torn, torn_job, torn_row}
 use Rattle.subset_work.specs.declared.progress.Progress.{Progress}
-use Rattle.subset_work.specs.Counts.{IsOneBase, MayCome}
-use Rattle.subset_work.specs.Walked.{bound_of, HasWalkedTo, WalksUnder, GivesBack}
-use Rattle.subset_work.specs.Standing.{IsNext, HasRoom, MayTake, IsLive, IsDead, IsBefore}
-use Rattle.subset_work.proofs.ListTree.{plain_label, is_plain, child_under, before_none, before_under, before_apart, before_skip, before_child, before_all, key_alone, child_room, child_next}
+use Rattle.subset_work.specs.Counts.{IsOneBase}
+use Rattle.subset_work.specs.Walked.{HasWalked, HasWalkedTo, WalksUnder, GivesBack}
+use Rattle.subset_work.specs.Standing.{IsNext, HasRoom, MayTake, IsLive, IsDead}
+use Rattle.subset_work.proofs.ListTree.{plain_label, is_plain, child_under, child_room, child_next}
+use Rattle.subset_work.proofs.Children.{children_none, no_children, children_past, children_with, children_all}
+use Rattle.subset_work.proofs.Walks.{cut_then, cut_above, torn_then, torn_above, walked_none, walked_then, walked_give, walked_visit, walked_show, walked_cut, walked_above}
 use Rattle.subset_work.proofs.ListPrefixes.{dead_shows_none, shown_none, shown_one}
 
 -- the list with row i, where the loop under a list has come to row i: what it is, and what a visit of it, or giving it
 -- back, makes of the walk
-pub record NextStep (p : Polyhedron) (key : List ℕ) (left from most longest i : ℕ) (old now : Option (List ℕ))
+pub record NextStep (p : Polyhedron) (key : List ℕ) (left most longest i : ℕ) (old now : Option (List ℕ))
     (c d : Count) : Type 0 where
   pub may : MayTake p key i (left - 1)
-  pub goes_on : (new : Option (List ℕ)) (e : Count) → e.bases ≤ most →
-      WalksUnder p (key ++ i ∷ []) most longest now new d (Ok e) →
-      HasWalkedTo p key from (i + 1) most longest old new c e
+  pub goes_on : (new : Option (List ℕ)) (e : Count) → WalksUnder p (key ++ i ∷ []) most longest now new d (Ok e) →
+      HasWalkedTo p key (i + 1) most longest old new c e
   pub breaks : (new : Option (List ℕ)) (x : WorkStop) →
       WalksUnder p (key ++ i ∷ []) most longest now new d (Err x) →
       WalksUnder p key most longest old new c (Err x)
@@ -55,8 +55,12 @@ module _ (p : Polyhedron) where
   not_overflow d x e = cc
 
   pub walks_ok : (key : List ℕ) (most longest : ℕ) (old new : Option (List ℕ)) (c d : Count) →
-      HasWalked s Shows (bound_of most longest) (IsKeyBelow s key) old new c d → WalksUnder p key most longest old new c (Ok d)
-  walks_ok key most longest old new c d w = record { whole = w; torn = tt; cut = λ o e. absurd (not_overflow d (WorkStop.Overflow o) e) }
+      HasWalked p key most longest (key ∷ []) old new c d → WalksUnder p key most longest old new c (Ok d)
+  walks_ok key most longest old new c d w = record {
+    whole = w;
+    torn = tt;
+    cut = λ o e. absurd (not_overflow d (WorkStop.Overflow o) e);
+  }
 
   -- no overflow
   abbrev IsFault : WorkStop → Type 0
@@ -80,75 +84,94 @@ module _ (p : Polyhedron) where
     cut = λ u e. (subst (PassesInCone p) (one_overflow o u e) h, r);
   }
 
+  under_key : (key : List ℕ) → IsSubsetKey p key → IsKeyBelow s key key
+  under_key key is = (is, under_itself s (has_shares p) key)
+
   -- ---- a key that is given back
   pub given_back : (key : List ℕ) (at : Progress) (old new : Option (List ℕ)) (result : Result Count WorkStop) →
-      IsSubsetKey p key → (len : ℕ) → MayCome at len → length key ≡ len → (at.most ≤ at.count.bases) ⊎ (at.longest ≤ len) →
+      IsSubsetKey p key → (len : ℕ) → length key ≡ len → (at.most ≤ at.count.bases) ⊎ (at.longest ≤ len) →
       (IsKey key → GivesBack key at.count old new result) → ((o : Overflow) → IsErrOf result (WorkStop.Overflow o) → ⊥) →
       WalksUnder p key at.most at.longest old new at.count result
-  given_back key at old new (Ok d) is len may same stops given none =
-      let near = may.near in
+  given_back key at old new (Ok d) is len same stops given none =
       let g = given is.ascending in
       walks_ok key at.most at.longest old new at.count d
-      (walked_give s Shows (bound_of at.most at.longest) key old new at.count d is (writes_given old new key g.whole is.ascending)
+      (walked_give p key at.most at.longest old new at.count d is (writes_given old new key g.whole is.ascending)
       g.rows g.jobs g.bases
-      (⊎_elim (λ (m : at.most ≤ at.count.bases). let within = may.within in inl (omega (arith, m, within, g.bases)))
-      (λ (m : at.longest ≤ len). inr (omega (arith, m, same, near))) stops) (omega (arith, same, near)))
-  given_back key at old new (Err x) is len may same stops given none =
+      (⊎_elim (λ (m : at.most ≤ at.count.bases). inl m) (λ (m : at.longest ≤ len). inr (omega (arith, m, same))) stops))
+  given_back key at old new (Err x) is len same stops given none =
       walks_fault key at.most at.longest old new at.count x none
       (torn_job s key is (under_itself (by_subsets p) (has_shares p) key) old new
       (part_given old new key (given is.ascending).part is.ascending))
 
+  -- ---- a list that is visited
+  module _ (key : List ℕ) (most longest : ℕ) (old : Option (List ℕ)) (c : Count) (few : c.bases < most)
+      (near : length key < longest) where
+    -- it has no children, and shows nothing
+    pub visited_alone : HasRoom p key 0 → ListsAll (Shows key) [] → (d : Count) → IsOneBase c d →
+        WalksUnder p key most longest old old c (Ok d)
+    visited_alone room none d h =
+        walks_ok key most longest old old c d
+        (walked_visit p key most longest old old c d d [] h few near (no_children p key room) none
+        (walked_none p key most longest old d))
+
+    -- all its children were met
+    pub ended : (new : Option (List ℕ)) (i : ℕ) (d : Count) → ListsAll (Shows key) [] → length (cone_of p).rows < i →
+        HasWalkedTo p key i most longest old new c d → WalksUnder p key most longest old new c (Ok d)
+    ended new i d none behind w =
+        walks_ok key most longest old new c d
+        (walked_visit p key most longest old new c w.base d w.children w.visits few near
+        (children_all p key i w.children w.are behind) none w.walked)
+
   -- ---- a list that is full
   module _ (sys : System) (free : List ℕ) (d : Dictionary) (i : ℕ) (key : List ℕ) (live : IsLive sys free d i 0 p key)
       (room : HasRoom p key 0) (most longest : ℕ) where
-    pub leaf_none : (old : Option (List ℕ)) (c e : Count) → IsOneBase c e → Lists (IsCornerUnder live.cone live.marks) [] →
-        WalksUnder p key most longest old old c (Ok e)
-    leaf_none old c e h l =
-        walks_ok key most longest old old c e
-        (walked_of s Shows (bound_of most longest) (λ one. one ≡ key) (IsKeyBelow s key) old old c e (key_alone p key room)
-        (walked_visit s Shows (bound_of most longest) key old c e (shown_none sys free d i 0 p key live refl l) h.rows h.jobs
-        h.bases))
+    pub leaf_none : (old : Option (List ℕ)) (c e : Count) → c.bases < most → length key < longest → IsOneBase c e →
+        Lists (IsCornerUnder live.cone live.marks) [] → WalksUnder p key most longest old old c (Ok e)
+    leaf_none old c e few near h l =
+        visited_alone key most longest old c few near room (shown_none sys free d i 0 p key live refl l) e h
 
-    pub leaf_one : (v : Vector) (old new : Option (List ℕ)) (c e : Count) → e.rows ≡ c.rows + 1 → e.jobs ≡ c.jobs → e.bases ≡ c.bases + 1 →
-        Lists (IsCornerUnder live.cone live.marks) (v ∷ []) → WritesLines old new (row_line v ∷ []) → WalksUnder p key most longest old new c (Ok e)
-    leaf_one v old new c e r j b l a =
-        walks_ok key most longest old new c e
-        (walked_of s Shows (bound_of most longest) (λ one. one ≡ key) (IsKeyBelow s key) old new c e (key_alone p key room)
-        (walked_show s Shows (bound_of most longest) key v old new c e (shown_one sys free d i 0 p key live refl v l) a r j b))
+    module _ (v : Vector) (l : Lists (IsCornerUnder live.cone live.marks) (v ∷ [])) where
+      shown_here : ListsAll (Shows key) (v ∷ [])
+      shown_here = shown_one sys free d i 0 p key live refl v l
 
-    pub leaf_part : (v : Vector) (old new : Option (List ℕ)) (c : Count) → Lists (IsCornerUnder live.cone live.marks) (v ∷ []) →
-        WritesPartOfLines old new (row_line v ∷ []) → WalksUnder p key most longest old new c (Err WorkStop.WriteFault)
-    leaf_part v old new c l a =
-        walks_fault key most longest old new c WorkStop.WriteFault is_fault
-        (torn_row s key v (((shows_at p room.narrow).share key v room.is_key).1
-        (key, (room.is_key, under_itself (by_subsets p) (has_shares p) key), (shown_one sys free d i 0 p key live refl v l).only v (Contains-first v []))) old new a)
+      row_in : InSubset p key v
+      row_in =
+          ((shows_at p room.narrow).share key v room.is_key).1
+          (key, under_key key room.is_key, shown_here.only v (Contains-first v []))
+
+      pub leaf_one : (old new : Option (List ℕ)) (c e : Count) → c.bases < most → length key < longest →
+          e.rows ≡ c.rows + 1 → e.jobs ≡ c.jobs → e.bases ≡ c.bases + 1 → WritesLines old new (row_line v ∷ []) →
+          WalksUnder p key most longest old new c (Ok e)
+      leaf_one old new c e few near r j b a =
+          walks_ok key most longest old new c e
+          (walked_show p key most longest v old new c e few near (no_children p key room) shown_here a row_in r j b)
+
+      pub leaf_part : (old new : Option (List ℕ)) (c : Count) → WritesPartOfLines old new (row_line v ∷ []) →
+          WalksUnder p key most longest old new c (Err WorkStop.WriteFault)
+      leaf_part old new c a =
+          walks_fault key most longest old new c WorkStop.WriteFault is_fault (torn_row s key v row_in old new a)
 
   -- ---- the loop
   module _ (key : List ℕ) (left from : ℕ) (room : HasRoom p key left) (next : IsNext key from) (most longest : ℕ) where
-    abbrev Before : ℕ → Option (List ℕ) → Option (List ℕ) → Count → Count → Type 0
-    Before i old now c d = HasWalked s Shows (bound_of most longest) (IsBefore p key from i) old now c d
+    pub begin_at : (old : Option (List ℕ)) (c d : Count) → IsOneBase c d → HasWalkedTo p key from most longest old old c d
+    begin_at old c d h = record {
+      base = d;
+      visits = h;
+      children = [];
+      are = children_none p key from next;
+      walked = walked_none p key most longest old d;
+    }
 
-    pub begin_at : (old : Option (List ℕ)) (c d : Count) → ListsAll (Shows key) [] → IsOneBase c d → Before from old old c d
-    begin_at old c d l h =
-        walked_of s Shows (bound_of most longest) (λ one. one ≡ key) (IsBefore p key from from) old old c d (before_none p key from)
-        (walked_visit s Shows (bound_of most longest) key old c d l h.rows h.jobs h.bases)
-
-    module _ (i : ℕ) (old now : Option (List ℕ)) (c d : Count) (w : Before i old now c d) where
-      pub passed : (row_of (cone_of p).rows i).linear ≡ true → Before (i + 1) old now c d
-      passed e =
-          walked_of s Shows (bound_of most longest) (IsBefore p key from i) (IsBefore p key from (i + 1)) old now c d
-          (before_skip p key from i (λ m. let h = (plain_label p i m).2 in absurd (let bad : true ≡ false = sym e ∙ h in cc))) w
-
-      pub ended : length (cone_of p).rows < i → WalksUnder p key most longest old now c (Ok d)
-      ended behind =
-          walks_ok key most longest old now c d
-          (walked_of s Shows (bound_of most longest) (IsBefore p key from i) (IsKeyBelow s key) old now c d (before_all p key from room.is_key next i behind) w)
-
-      pub overflowed : (o : Overflow) → PassesInCone p o → WalksUnder p key most longest old now c (Err (WorkStop.Overflow o))
-      overflowed o h =
-          walks_past key most longest old now c o h
-          (cut_here s Shows (bound_of most longest) (has_shares p) (shows_at p room.narrow) key room.is_key (IsBefore p key from i)
-          (before_under p key from room.is_key i) old now c d w)
+    module _ (i : ℕ) (old now : Option (List ℕ)) (c d : Count) (w : HasWalkedTo p key i most longest old now c d) where
+      pub passed : (row_of (cone_of p).rows i).linear ≡ true → HasWalkedTo p key (i + 1) most longest old now c d
+      passed e = record {
+        base = w.base;
+        visits = w.visits;
+        children = w.children;
+        are = children_past p key i w.children w.are
+            (λ m. let h = (plain_label p i m).2 in absurd (let bad : true ≡ false = sym e ∙ h in cc));
+        walked = w.walked;
+      }
 
       -- ---- the list with row i
       module _ (few : length key + left ≤ most_labels) (more : 0 < left) (at : from ≤ i) (within : i ≤ length (cone_of p).rows)
@@ -162,42 +185,39 @@ module _ (p : Polyhedron) where
         room_there : HasRoom p child (left - 1)
         room_there = child_room p key left i from few more room next at (is_plain p i some_label within plain)
 
-        may_take : MayTake p key i (left - 1)
-        may_take = record {
-          room = room_there;
-          next = child_next p key i from next at;
+        -- what is under it is added
+        joined : (new : Option (List ℕ)) (e : Count) → HasWalked p child most longest (child ∷ []) now new d e →
+            HasWalkedTo p key (i + 1) most longest old new c e
+        joined new e v = record {
+          base = w.base;
+          visits = w.visits;
+          children = w.children ++ child ∷ [];
+          are = children_with p key i w.children w.are room_there.is_key;
+          walked = walked_then p key most longest w.children (child ∷ []) old now new w.base d e w.walked
+              (walked_above p child key room_there.is_key (child_under p key i) most longest (child ∷ []) now new
+              d e v);
         }
 
-        -- what is under it is added
-        joined : (new : Option (List ℕ)) (e : Count) → e.bases ≤ most →
-            HasWalked s Shows (bound_of most longest) (IsKeyBelow s child) now new d e → Before (i + 1) old new c e
-        joined new e l v =
-            walked_of s Shows (bound_of most longest) (λ one. IsBefore p key from i one ⊎ IsKeyBelow s child one)
-            (IsBefore p key from (i + 1)) old new c e (before_child p key from i at)
-            (walked_then s Shows (bound_of most longest) (under_itself s (has_shares p)) (shows_at p room.narrow).one_key
-            (IsBefore p key from i) (IsKeyBelow s child) (before_apart p key from i)
-            (λ one h. ⊎_elim (λ b. (before_under p key from room.is_key i one b).0) (λ u. u.0) h)
-            old now new c d e l w v)
+        here : IsCutRun s key old now
+        here = walked_cut p key most longest w.children old now w.base d w.walked
 
         breaks : (new : Option (List ℕ)) (x : WorkStop) → WalksUnder p child most longest now new d (Err x) →
             WalksUnder p key most longest old new c (Err x)
         breaks new x v = record {
           whole = tt;
-          torn = torn_under s Shows (bound_of most longest) (has_shares p) (shows_at p room.narrow) key room.is_key
-              (IsBefore p key from i) (before_under p key from room.is_key i) old now c d w child room_there.is_key
-              (child_under p key i) new v.torn;
+          torn = torn_then s key old now new here
+              (torn_above s (has_shares p) child key room_there.is_key (child_under p key i) now new v.torn);
           cut = λ o e. let r = v.cut o e in (
             r.0,
-            cut_under s Shows (bound_of most longest) (has_shares p) (shows_at p room.narrow) key room.is_key
-                (IsBefore p key from i) (before_under p key from room.is_key i) old now c d w child room_there.is_key
-                (child_under p key i) new r.1,
+            cut_then s key old now new here
+                (cut_above s (has_shares p) child key room_there.is_key (child_under p key i) now new r.1),
           );
         }
 
-        pub next_step : NextStep p key left from most longest i old now c d
+        pub next_step : NextStep p key left most longest i old now c d
         next_step = record {
-          may = may_take;
-          goes_on = λ new e l v. joined new e l v.whole;
+          may = record { room = room_there; next = child_next p key i from next at };
+          goes_on = λ new e v. joined new e v.whole;
           breaks = breaks;
         }
 
@@ -210,7 +230,13 @@ walks_to_child p key below i left most longest old new c result there may h =
     subst (λ ks. WalksUnder p ks most longest old new c result) there
     (h (subst (λ ks. HasRoom p ks left) (sym there) may.room) (subst (λ ks. IsNext ks (i + 1)) (sym there) may.next))
 
--- ---- a list under a dead one is dead
+-- ---- nothing is shown at a dead list
+pub dead_none : (p : Polyhedron) (key : List ℕ) (left : ℕ) → HasRoom p key left → IsDead p key →
+    ListsAll (IsShownAtList p key) []
+dead_none p key left room dead =
+    dead_shows_none p key left room dead (room.is_key, under_itself (by_subsets p) (has_shares p) key)
+
+-- a list under a dead one is dead
 pub dead_under : (p : Polyhedron) (key : List ℕ) (i : ℕ) → IsDead p key → IsDead p (key ++ i ∷ [])
 dead_under p key i dead one u y h =
     dead one (u.0, (has_shares p).through one (key ++ i ∷ []) key u.0 u.1 (child_under p key i)) y h
@@ -238,30 +264,28 @@ rows_here p sys e = ap (λ (t : System). length t.rows) (sym e)
 
 pub step_here : (p : Polyhedron) (sys : System) → sys ≡ cone_of p → (key : List ℕ) (left from : ℕ) → HasRoom p key left →
     IsNext key from → (most longest i : ℕ) (old now : Option (List ℕ)) (c d : Count) →
-    HasWalkedTo p key from i most longest old now c d → length key + left ≤ most_labels → 0 < left → from ≤ i →
+    HasWalkedTo p key i most longest old now c d → length key + left ≤ most_labels → 0 < left → from ≤ i →
     i ≤ length sys.rows → (b : Bool) → b ≡ (row_of sys.rows i).linear → b ≡ false →
-    NextStep p key left from most longest i old now c d
+    NextStep p key left most longest i old now c d
 step_here p sys file key left from room next most longest i old now c d w few more at within b e plain =
     next_step p key left from room next most longest i old now c d w few more at
     (omega (arith, within, rows_here p sys file)) (plain_here p sys i b file e plain)
 
 -- the same walk, where the sink and the count are told anew
-pub walked_at : {O : Type 0} (written : O → Option (List ℕ)) (p : Polyhedron) (key : List ℕ) (from i most longest : ℕ)
+pub walked_at : {O : Type 0} (written : O → Option (List ℕ)) (p : Polyhedron) (key : List ℕ) (i most longest : ℕ)
     (old : Option (List ℕ)) (c : Count) {o out : O} {d count : Count} → out ≡ o → count ≡ d →
-    HasWalkedTo p key from i most longest old (written o) c d → HasWalkedTo p key from i most longest old (written out) c count
-walked_at written p key from i most longest old c {o} {out} {d} {count} f g w =
-    subst (λ (n : Count). HasWalkedTo p key from i most longest old (written out) c n) (sym g)
-    (subst (λ t. HasWalkedTo p key from i most longest old (written t) c d) (sym f) w)
+    HasWalkedTo p key i most longest old (written o) c d → HasWalkedTo p key i most longest old (written out) c count
+walked_at written p key i most longest old c {o} {out} {d} {count} f g w =
+    subst (λ (n : Count). HasWalkedTo p key i most longest old (written out) c n) (sym g)
+    (subst (λ t. HasWalkedTo p key i most longest old (written t) c d) (sym f) w)
 
 -- a dead list that is full
-pub dead_alone : (p : Polyhedron) (key : List ℕ) (left : ℕ) → HasRoom p key left → left ≡ 0 → IsDead p key → (most longest : ℕ) (old : Option (List ℕ)) (c d : Count) →
-    IsOneBase c d → WalksUnder p key most longest old old c (Ok d)
-dead_alone p key left room none dead most longest old c d h =
-    walks_ok p key most longest old old c d
-    (walked_of (by_subsets p) (IsShownAtList p) (bound_of most longest) (λ one. one ≡ key) (IsKeyBelow (by_subsets p) key) old old c d
-    (key_alone p key (subst (λ n. HasRoom p key n) none room))
-    (walked_visit (by_subsets p) (IsShownAtList p) (bound_of most longest) key old c d
-    (dead_shows_none p key left room dead (room.is_key, under_itself (by_subsets p) (has_shares p) key)) h.rows h.jobs h.bases))
+pub dead_alone : (p : Polyhedron) (key : List ℕ) (left : ℕ) → HasRoom p key left → left ≡ 0 → IsDead p key → (most longest : ℕ)
+    (old : Option (List ℕ)) (c d : Count) → c.bases < most → length key < longest → IsOneBase c d →
+    WalksUnder p key most longest old old c (Ok d)
+dead_alone p key left room none dead most longest old c d few near h =
+    visited_alone p key most longest old c few near (subst (λ n. HasRoom p key n) none room)
+    (dead_none p key left room dead) d h
 
 -- the room for a walk, where its parts are told anew
 pub room_is : (sys : System) (d : Dictionary) {deeper ds : List Dictionary} {vector v : Vector} → ds ≡ deeper → v ≡ vector →

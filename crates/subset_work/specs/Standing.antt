@@ -1,5 +1,5 @@
 -- Where a walk by subsets stands: at a list that a dictionary knows, or at one under which nothing is shown.
-use Rattle.std.specs.Prelude.{◌≡◌, ◌⊎◌, ℕ, ◌+◌, ◌-◌, ◌≤◌, ◌<◌, Bool, false, List, [], ◌∷◌, ◌++◌, length}
+use Rattle.std.specs.Prelude.{◌≡◌, ℕ, ◌+◌, ◌-◌, ◌≤◌, ◌<◌, Bool, false, List, [], ◌∷◌, ◌++◌, length}
 use Rattle.std.specs.List.{Contains}
 use Rattle.poly_num.specs.Vectors.{Vector}
 use Rattle.poly_model.specs.Limits.{most_labels}
@@ -51,8 +51,3 @@ pub record IsLive (sys : System) (free : List ℕ) (d : Dictionary) (i depth : �
 -- nothing is shown under the key
 abbrev pub IsDead : Polyhedron → List ℕ → Type 0
 IsDead p key = (one : List ℕ) → IsKeyBelow (by_subsets p) key one → (y : Vector) → IsShownAtList p one y → ⊥
-
--- the key, and those under it whose next label is from `from` on and before i
-abbrev pub IsBefore : Polyhedron → List ℕ → ℕ → ℕ → List ℕ → Type 0
-IsBefore p key from i one =
-    (one ≡ key) ⊎ ((j : ℕ) × (from ≤ j) × (j < i) × IsKeyBelow (by_subsets p) (key ++ j ∷ []) one)

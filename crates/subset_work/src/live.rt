@@ -45,6 +45,7 @@ pub fn show_left<S: Sink>(
     requires rows { before.rows ≤ before.bases }
     ensures walked { (p : Polyhedron) (key : List ℕ) (most longest : ℕ) →
         IsLive prefix.now.sys.now prefix.now.free.now prefix.now.dict.now prefix.now.from 0 p key → HasRoom p key 0 →
+        before.bases < most → length key < longest →
         WalksUnder p key most longest (S.written out.old) (S.written out.new) before (ok_or result stop.new) }
     ensures on { IfSome result (CountsOn (before.bases + 1) before) }
     ensures overflow { (o : Passed) → IsErrOf (ok_or result stop.new) (WorkStop.Overflow o) → ⊥ }

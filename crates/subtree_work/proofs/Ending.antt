@@ -1,24 +1,31 @@
 -- Where a run under a key ends: all lines written, or at an overflow, or within a line.
-use Rattle.std.proofs.Common.{◌≡◌, inl, inr, ⊎_elim, ℕ, suc, ◌+◌, ◌<◌, List, [], ◌∷◌, ◌++◌, length, Option, refl, sym, ap, subst, ◌∙◌, arith}
+use Rattle.std.proofs.Common.{◌≡◌, inl, inr, ⊎_elim, ℕ, suc, ◌+◌, List, [], ◌∷◌, ◌++◌, length, Option, refl, sym, ap, subst, ◌∙◌}
 use Rattle.std.specs.List.{All, Contains}
 use Rattle.std.proofs.lemmas.List.Elements.{All-from_recursion, Contains-append_right}
+use Rattle.std.proofs.lemmas.List.Sorted.{IsPermutation-sym, Contains-permutation, length_permutation}
 use Rattle.poly_num.specs.Vectors.{Vector}
+use Rattle.poly_model.specs.declared.kind.WorkKind.TheVariants.{Subtrees}
 use Rattle.poly_model.specs.declared.overflow.Overflow.{Overflow as Passed}
 use Rattle.poly_model.specs.Due.{IsDue, IsAskedInMain}
-use Rattle.poly_model.specs.Spaces.{main_space}
+use Rattle.poly_model.specs.Spaces.{Space, main_space}
 use Rattle.poly_model.specs.Subtrees.{IsSubtreeRoot, IsSubtreeKey, IsSubtreeDepth, InSubtree}
 use Rattle.poly_model.specs.Systems.{System, Polyhedron}
 use Rattle.linear_laws.proofs.Members.{Contains-nil, Contains-cons_cases}
 use Rattle.listing_laws.proofs.ListLemmas.{all_members}
+use Rattle.linear_laws.specs.Distinct.{AreDistinct}
+use Rattle.search_laws.specs.Shares.{ListsAll, IsChildAt, IsFeasibleKey}
 use Rattle.search_laws.specs.Splits.{IsSplit}
-use Rattle.search_laws.specs.SharesOfListings.{IsSubtreeTotal, IsShownAtSome, IsRun}
-use Rattle.search_laws.proofs.SubtreeRuns.{runs_part}
+use Rattle.search_laws.specs.SharesOfListings.{IsShownAtSome, IsRun}
+use Rattle.search_laws.proofs.Depths.{above_feasible}
+use Rattle.search_laws.proofs.OnceLists.{same_lists}
+use Rattle.search_laws.proofs.SubtreeRuns.{apart_once, runs_part}
 use Rattle.search_laws.proofs.SubtreeShares as words
 use Rattle.dictionary.specs.Views.{table_of}
 use Rattle.reverse_step.specs.declared.walker.Visit.TheVariants.{New, End}
 use Rattle.reverse_step.specs.Walks.{Walk, IsAtStart}
 use Rattle.reverse_step.specs.Moves.{IsVisit}
-use Rattle.reverse_step.specs.Again.{StopsElsewhere}
+use Rattle.reverse_step.specs.Children.{StopsWalk}
+use Rattle.reverse_step.proofs.DepthLemmas.{stands_at_depth}
 use Rattle.reverse_step.proofs.DueLemmas.{due_in_main}
 use Rattle.reverse_step.proofs.RunLemmas.{run_over}
 use Rattle.convert_core.specs.declared.rays.Rays.{Rays}
@@ -26,23 +33,22 @@ use Rattle.convert_core.specs.Rows.{column_rows}
 use Rattle.convert_core.specs.Searches.{IsSearch}
 use Rattle.convert_core.proofs.Searching.{subtree_root, some_rows_here, search_moves}
 use Rattle.work_core.specs.declared.budget.Budget.{Budget}
-use Rattle.work_core.specs.Meanings.{Meaning, IsKeyBelow, WeighTogether}
+use Rattle.work_core.specs.Meanings.{Meaning, IsKeyBelow}
+use Rattle.work_core.specs.Orders.{keys_visited}
+use Rattle.work_core.specs.Outcomes.{IsOutcome, IsShownAtOne, IsRun as IsRunOf}
 use Rattle.work_core.specs.ReplyLines.{job_line, rows_in_lines, keys_in_lines, IsWholeRun, IsCutRun, IsTornRun}
-use Rattle.work_core.specs.Searches.{by_subtrees}
-use Rattle.work_core.specs.Splits.{Splits, IsWithinBudget, AreWithin}
+use Rattle.work_core.specs.Searches.{Search, by_subtrees}
+use Rattle.work_core.specs.Splits.{Splits, IsBudget, IsWithinBudget, AreWithin}
 use Rattle.work_core.proofs.WalkedLemmas.{part_then, within-append}
+use Rattle.job_laws.proofs.LeadLemmas.{leads_to_end}
+use Rattle.job_laws.proofs.RunsInSpaces.{runs_in_space_are_runs}
+use Rattle.job_laws.proofs.SplitOutcomes.{outcomes_split}
 use Rattle.subtree_work.specs.declared.progress.Progress.{Progress}
 use Rattle.subtree_work.specs.Rows.{lines_of_rows}
-use Rattle.subtree_work.specs.Steps.{IsCovered, FailsAt}
+use Rattle.subtree_work.specs.Steps.{FailsAt}
 use Rattle.subtree_work.proofs.RowLines.{rows_of_rows, keys_of_rows}
-use Rattle.subtree_work.proofs.Running.{Running, IsNear, going_root, new_deep}
-use Rattle.subtree_work.proofs.Sure.{AtLeast, none_at_least}
-
--- the weights of keys, in the words of a work
-together : (p : Polyhedron) (root : List ℕ) (keys : List (List ℕ)) (w : ℕ) → IsSubtreeTotal p root keys w →
-    WeighTogether (by_subtrees p root) keys w
-together p root [] w t = t
-together p root (key ∷ keys) w (u, v, a, b, e) = (u, v, a, together p root keys v b, e)
+use Rattle.subtree_work.proofs.Running.{Running, Deep, going_root}
+use Rattle.subtree_work.proofs.Going.{new_deep}
 
 -- each has it
 all_of : {X : Type 0} (P : X → Type 0) (xs : List X) → ((x : X) → Contains xs x → P x) → All P xs
@@ -119,12 +125,12 @@ module _ (p : Polyhedron) (sys : System) (rays : Rays) (budget : Budget) (first 
     root : IsSubtreeRoot p first.root
     root = going_root p sys rays budget first walk vector left s old now g
 
-    run_now : IsRun p first.root first.job g.visited (g.run.waiting ++ g.given)
+    run_now : IsRun p first.root first.job g.ones (g.run.waiting ++ g.given)
     run_now = record {
       free = g.search.free;
       columns = g.search.columns;
-      split = subst (λ r. IsSplit (main_space p g.search.free) r first.job g.visited (g.run.waiting ++ g.given)) g.run.root
-          (subst (λ j. IsSplit (main_space p g.search.free) walk.root j g.visited (g.run.waiting ++ g.given)) g.run.job
+      split = subst (λ r. IsSplit (main_space p g.search.free) r first.job g.ones (g.run.waiting ++ g.given)) g.run.root
+          (subst (λ j. IsSplit (main_space p g.search.free) walk.root j g.ones (g.run.waiting ++ g.given)) g.run.job
           g.run.split);
     }
 
@@ -132,11 +138,11 @@ module _ (p : Polyhedron) (sys : System) (rays : Rays) (budget : Budget) (first 
     within_now = record {
       rows_within = subst (All (InSubtree p first.root first.job)) (sym g.vectors_in)
           (all_of (InSubtree p first.root first.job) g.vectors (λ y c.
-          ((runs_part p first.root root).share first.job g.visited (g.run.waiting ++ g.given) run_now y).1
+          ((runs_part p first.root root).share first.job g.ones (g.run.waiting ++ g.given) run_now y).1
           (inl (g.shown.only y c))));
       keys_within = subst (All (IsKeyBelow work first.job)) (sym g.keys_in)
           (all_of (IsKeyBelow work first.job) g.given (λ k c.
-          (runs_part p first.root root).waiting_under first.job k g.visited (g.run.waiting ++ g.given) run_now
+          (runs_part p first.root root).waiting_under first.job k g.ones (g.run.waiting ++ g.given) run_now
           (Contains-append_right g.run.waiting g.given k c)));
     }
 
@@ -144,12 +150,12 @@ module _ (p : Polyhedron) (sys : System) (rays : Rays) (budget : Budget) (first 
     pub cut_now : IsCutRun work first.job old now
     cut_now = record { lines = g.lines; written = g.written; within = within_now }
 
-    -- a pivot cannot be carried out, there or where it looks ahead
-    pub due_now : (new : Walk) (o : Passed) → StopsElsewhere walk new o → IsDue p o (IsAskedInMain p first.root o)
-    due_now new o h =
-        subst (λ r. IsDue p o (IsAskedInMain p r o)) (h.root ∙ g.run.root)
-        (due_in_main p g.search.free g.search.columns new.root g.search.home new.dict (h.phase ∙ g.search.phase)
-        (h.walk (main_space p g.search.free) g.search.home g.search.walk_in).stands o h.stops)
+    -- a pivot cannot be carried out
+    pub due_now : (o : Passed) → StopsWalk walk.dict walk.root o → IsDue p o (IsAskedInMain p first.root o)
+    due_now o h =
+        subst (λ r. IsDue p o (IsAskedInMain p r o)) g.run.root
+        (due_in_main p g.search.free g.search.columns walk.root g.search.home walk.dict g.search.phase
+        g.search.walk_in.stands o h)
 
   module _ (walk : Walk) (vector : Vector) (left : ℕ) (s : Progress) (old now : Option (List ℕ))
       (g : Running p sys rays budget first walk vector (left + 1) s old now) where
@@ -168,57 +174,74 @@ module _ (p : Polyhedron) (sys : System) (rays : Rays) (budget : Budget) (first 
         }
 
     -- ---- the end
-    module _ (new : Walk) (step : IsVisit walk End new) where
+    module _ (range : IsBudget budget) (new : Walk) (step : IsVisit walk End new) where
+      abbrev main : Space
+      main = main_space p g.search.free
+
       all_root : IsSubtreeRoot p first.root
       all_root = going_root p sys rays budget first walk vector (left + 1) s old now g
 
-      over : IsRun p first.root first.job g.visited g.given
-      over = record {
-        free = g.search.free;
-        columns = g.search.columns;
-        split = run_over (main_space p g.search.free) g.search.home first walk new g.visited g.given left g.taken g.run step;
+      over : IsSplit main first.root first.job g.ones g.given
+      over = run_over main g.search.home first walk new g.ones g.given left g.taken g.run step
+
+      none_waits : g.run.waiting ≡ []
+      none_waits = (step.moves main g.search.home g.run.walk_in g.run.depth g.run.waiting g.run.waits).0
+
+      is_run : IsRunOf work first.job budget g.met
+      is_run = (runs_in_space_are_runs p first.root g.search.free g.search.columns first.job budget g.met).0
+          (leads_to_end (IsChildAt main first.root) (Deep p sys rays budget first main) budget.bases (first.job ∷ []) g.met
+          (length g.ones) g.run.waiting g.leads none_waits)
+
+      rows_are : ListsAll (IsShownAtOne work (keys_visited g.met)) g.vectors
+      rows_are = same_lists (IsShownAtSome p first.root g.ones) (IsShownAtOne work (keys_visited g.met))
+          (λ y x. (x.0, Contains-permutation g.ones (keys_visited g.met) x.0
+          (IsPermutation-sym (keys_visited g.met) g.ones g.ones_are) x.1, (x.2, x.3)))
+          (λ y x. (x.0, Contains-permutation (keys_visited g.met) g.ones x.0 g.ones_are x.1, x.2.0, x.2.1)) g.vectors g.shown
+
+      job_key : IsSubtreeKey p first.root first.job
+      job_key = subst (λ j. IsSubtreeKey p first.root j) g.run.job (subst (λ r. IsSubtreeKey p r walk.job) g.run.root
+          (record { free = g.search.free; columns = g.search.columns; table = above.0; feasible = above.1 }))
+        where
+          above : IsFeasibleKey main walk.root walk.job
+          above = above_feasible main walk.root g.search.home g.search.walk_in.stands.feasible_root g.run.depth walk.dict.key
+              walk.job (table_of walk.dict, g.search.walk_in.stands.feasible)
+              (stands_at_depth main g.search.home first walk g.ones g.given (left + 1) g.taken g.run)
+
+      given_once : AreDistinct g.given
+      given_once = apart_once main first.root g.given over.apart
+
+      outcome : IsOutcome work first.job budget g.vectors g.given s.count.bases
+      outcome = record {
+        met = g.met;
+        is_run = is_run;
+        rows_are = rows_are;
+        keys_are = subst (λ ks. ListsAll (Contains ks) g.given) (sym g.given_are)
+            (record { once = given_once; only = λ k c. c; each = λ k c. c });
+        bases_are = g.bases ∙ length_permutation (keys_visited g.met) g.ones g.ones_are;
       }
 
-      splits : Splits work first.job g.vectors g.given
-      splits = (runs_part p first.root all_root).parts first.job first.job g.visited g.given g.vectors over g.begun g.shown
+      abbrev search : Search
+      search = record { work = Subtrees; polyhedron = p; root = first.root }
 
-      total : (w : ℕ) × IsSubtreeTotal p first.root g.given w
-      total = (words.has_shares p first.root all_root).total g.given
-          (λ k c. ((runs_part p first.root all_root).waiting_under first.job k g.visited g.given over c).0)
+      parted : Splits work first.job g.vectors g.given × IsWithinBudget work first.job budget g.given s.count.bases
+      parted = outcomes_split search all_root g.search.narrow first.job budget g.vectors g.given s.count.bases job_key range outcome
 
-      some : (visited : List (List ℕ)) → Contains visited first.job → 0 < length visited
-      some [] c = absurd (Contains-nil first.job c)
-      some (k ∷ ks) c = omega arith
+      abbrev EndsSo : List Vector → List (List ℕ) → Type 0
+      EndsSo ys ks =
+          Splits work first.job ys ks × IsWithinBudget work first.job budget ks s.count.bases
+          × IsOutcome work first.job budget ys ks s.count.bases
 
-      -- none waits
-      none_sure : s.sure ≡ 0
-      none_sure = none_at_least (IsNear p sys rays budget first) s.sure
-          (subst (λ ks. AtLeast (IsNear p sys rays budget first) s.sure ks)
-          (step.moves (main_space p g.search.free) g.search.home g.search.walk_in g.run.depth g.run.waiting g.run.waits).0 g.sure)
-
-      budgeted : IsWithinBudget work first.job budget g.given s.count.bases
-      budgeted = record {
-        whole = length g.visited + total.0;
-        left = total.0;
-        weighs = (runs_part p first.root all_root).weight first.job g.visited g.given total.0 over total.1;
-        weigh = together p first.root g.given total.0 total.1;
-        visited = ap (λ n. n + total.0) g.bases;
-        some = let a = some g.visited g.begun in let b = g.bases in omega (arith, a, b);
-        most = let m = g.fits in omega (arith, m);
-        given = λ k c. ⊎_elim
-            (λ (l : IsCovered budget s). let n = none_sure in let m = g.fits in inl (omega (arith, l, n, m)))
-            (λ (b : (0 < budget.depth) × IsSubtreeDepth p first.root k first.job budget.depth). inr b)
-            (g.back k c);
-        no_deeper = λ l one depth c d. g.no_deeper one c l depth d;
-      }
+      ends_so : EndsSo (rows_in_lines g.lines) (keys_in_lines g.lines)
+      ends_so = subst (λ ys. EndsSo ys (keys_in_lines g.lines)) (sym g.vectors_in)
+          (subst (EndsSo g.vectors) (sym g.keys_in) (parted.0, parted.1, outcome))
 
       pub whole_run : IsWholeRun work first.job budget old now s.count
       whole_run = record {
         lines = g.lines;
         written = g.written;
-        splits = subst (λ ys. Splits work first.job ys (keys_in_lines g.lines)) (sym g.vectors_in)
-            (subst (λ ks. Splits work first.job g.vectors ks) (sym g.keys_in) splits);
-        budgeted = subst (λ ks. IsWithinBudget work first.job budget ks s.count.bases) (sym g.keys_in) budgeted;
+        splits = ends_so.0;
+        budgeted = ends_so.1;
+        outcome = ends_so.2;
         rows = g.rows ∙ ap length (sym g.vectors_in);
         jobs = g.jobs ∙ ap length (sym g.keys_in);
       }

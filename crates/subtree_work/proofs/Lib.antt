@@ -1,9 +1,9 @@
 pub mod RowLines
 pub mod Visits
 pub mod Beginnings
-pub mod Sure
+pub mod InOrder
 pub mod Running
+pub mod Going
 pub mod Ending
 pub mod Stepping
-pub mod Meeting
 pub mod Searched

@@ -1,5 +1,5 @@
 -- What a step makes of a run on its way: it goes on, it ends, or it stops.
-use Rattle.std.proofs.Common.{◌≡◌, ℕ, ◌+◌, List, length, Option, Result, Err, refl, sym, subst, ◌∙◌, arith}
+use Rattle.std.proofs.Common.{◌≡◌, inl, inr, ℕ, ◌+◌, List, length, Option, Result, Err, refl, sym, subst, ◌∙◌, arith}
 use Rattle.std.specs.Prelude.{IsErrOf}
 use Rattle.poly_io.specs.Causes.{Rose, RisesAt}
 use Rattle.poly_num.specs.Vectors.{Vector}
@@ -9,13 +9,11 @@ use Rattle.poly_model.specs.Due.{IsDue, IsAskedInMain}
 use Rattle.poly_model.specs.Systems.{System, Polyhedron, cone_of}
 use Rattle.reverse_step.specs.declared.walker.Visit.{Visit}
 use Rattle.reverse_step.specs.declared.walker.Visit.TheVariants.{New, Back, End}
-use Rattle.poly_model.specs.Spaces.{main_space}
-use Rattle.reverse_step.specs.Walks.{Walk, IsWalkIn}
+use Rattle.reverse_step.specs.Walks.{Walk}
 use Rattle.reverse_step.specs.Moves.{IsVisit}
-use Rattle.reverse_step.proofs.AgainLemmas.{visit_again, stops_behind}
 use Rattle.convert_core.specs.declared.rays.Rays.{Rays}
 use Rattle.convert_core.specs.Searches.{IsSearch}
-use Rattle.convert_core.proofs.Searching.{another_vector, elsewhere, search_moves}
+use Rattle.convert_core.proofs.Searching.{another_vector, search_moves}
 use Rattle.work_core.specs.declared.budget.Budget.{Budget}
 use Rattle.work_core.specs.declared.stops.WorkStop.{WorkStop}
 use Rattle.work_core.specs.declared.stops.WorkStop.TheVariants.{Overflow, WriteFault}
@@ -26,17 +24,17 @@ use Rattle.work_core.proofs.WalkedLemmas.{cut_is_torn}
 use Rattle.subtree_work.specs.declared.progress.Progress.{Progress}
 use Rattle.subtree_work.specs.Counts.{IsInReach}
 use Rattle.subtree_work.specs.Made.{IsSearchOfEach}
-use Rattle.subtree_work.specs.declared.choice.Choice.{Choice}
-use Rattle.subtree_work.specs.declared.choice.Choice.TheVariants.{Visited, GivenBack}
-use Rattle.subtree_work.specs.Steps.{MayChoose, DoesChosen, MeetsHere, MeetsNewBase, MovesOn, StopsMeeting, StopsRun}
-use Rattle.subtree_work.proofs.Running.{Running, goes_new, goes_given, goes_back}
+use Rattle.subtree_work.specs.Steps.{MeetsNewBase, VisitsOrGivesBack, FailsAt, MovesOn, StopsRun}
+use Rattle.subtree_work.proofs.Running.{Running}
+use Rattle.subtree_work.proofs.Going.{goes_new, goes_given, goes_back}
 use Rattle.subtree_work.proofs.Ending.{cut_now, due_now, torn_now, whole_run}
 
--- a step to a new cobasis, where the run stops
-pub stops_there : (sys : System) (before there after : Walk) (old new : Option (List ℕ)) (stop : WorkStop) →
-    IsVisit before New there → StopsMeeting sys there after old new stop → StopsRun sys before after old new stop
-stops_there sys before there after old new (Overflow o) step (e, b) = (stops_behind before there after o step e, b)
-stops_there sys before there after old new WriteFault step (h, f) = (visit_again before there after step h, f)
+-- a write failed at a new cobasis
+pub fails_there : (sys : System) (before after : Walk) (old new : Option (List ℕ)) (stop : WorkStop) →
+    ((o : Passed) → IsErrOf {T = Count} {E = WorkStop} (Err stop) (WorkStop.Overflow o) → ⊥) → IsVisit before New after →
+    FailsAt sys after old new → StopsRun sys before after old new stop
+fails_there sys before after old new (Overflow o) n v f = absurd (n o refl)
+fails_there sys before after old new WriteFault n v f = (v, f)
 
 -- where a step stops the run, the count of the sink's faults has stood still until then
 pub rises_at_stop : {T : Type 0} (before mid now : ℕ) (r : Result Count WorkStop) (stop : WorkStop) → mid ≡ before → r ≡ Err stop →
@@ -62,7 +60,7 @@ module _ (p : Polyhedron) (sys : System) (rays : Rays) (budget : Budget) (first 
       jobs = let r = g.jobs in let f = g.many in let n = g.bases in omega (arith, r, f, n);
     };
     deep = let l = g.low in let n = g.bases in omega (arith, l, n);
-    few = let m = g.fits in let n = b.bases in omega (arith, m, n);
+    few = let m = g.most in let n = b.bases in omega (arith, m, n);
   }
 
   -- a counter is lowered, and a step taken over the same cone
@@ -78,36 +76,21 @@ module _ (p : Polyhedron) (sys : System) (rays : Rays) (budget : Budget) (first 
     stopped : (stop : WorkStop) → StopsRun seen walk new now then stop → StopsRun sys walk new now then stop
     stopped stop x = subst (λ (y : System). StopsRun y walk new now then stop) same_sys x
 
-    met : MeetsNewBase budget sys walk new s now t then → Runs new more left t old then
-    met x = by m.choice m.chosen m.does
-      where
-        m : MeetsHere budget sys x.there new x.met now then t
-        m = x.meets
-
-        step : IsVisit walk New m.again
-        step = visit_again walk x.there m.again x.visit m.is_again
-
-        in_main : IsWalkIn (main_space p g.search.free) g.search.home x.there
-        in_main = x.visit.walk (main_space p g.search.free) g.search.home g.search.walk_in
-
-        by : (choice : Choice) → MayChoose budget x.there x.met choice →
-            DoesChosen budget sys m.again new x.met choice now then t → Runs new more left t old then
-        by (Visited small_left) may v =
-            subst (λ (w : Walk). Runs w more left t old then) (sym v.stays)
-            (goes_new p sys rays budget first walk vector left s old now g m.again step x.there new x.met x.is_met small_left may
-            (sym m.is_again.root) (sym (m.is_again.key (main_space p g.search.free) g.search.home in_main)) in_main t then v
-            more width)
-        by GivenBack may v =
-            subst (λ (w : Walk). Runs w more left t old then) (sym v.passed)
-            (goes_given p sys rays budget first walk vector left s old now g m.again step new x.met x.is_met may.0 may.1 t then v
-            more width)
+    met : (x : MeetsNewBase budget sys walk new s now t then) →
+        VisitsOrGivesBack budget sys x.there new t.depth now then s.count t.count → Runs new more left t old then
+    met x (inl (may, same, v)) =
+        subst (λ (w : Walk). Runs w more left t old then) (sym same)
+        (goes_new p sys rays budget first walk vector left s old now g x.there x.visit t then x.depth may v more width)
+    met x (inr (must, same, v)) =
+        subst (λ (w : Walk). Runs w more left t old then) (sym same)
+        (goes_given p sys rays budget first walk vector left s old now g x.there x.visit t then x.depth must v more width)
 
     -- ---- it goes on
     on_by : (visit : Visit) → (visit ≡ End → ⊥) → MovesOn budget sys walk visit new s now t then →
         Runs new more left t old then
-    on_by New n x = met x
-    on_by Back n (v, d, c, u, m, e) =
-        goes_back p sys rays budget first walk vector left s old now g new v t then d c u m e more width
+    on_by New n x = met x x.meets
+    on_by Back n (v, d, c, e) =
+        goes_back p sys rays budget first walk vector left s old now g new v t then d c e more width
     on_by End n x = absurd (n refl)
 
     pub takes_on : (visit : Visit) → (visit ≡ End → ⊥) → MovesOn budget seen walk visit new s now t then →
@@ -119,13 +102,13 @@ module _ (p : Polyhedron) (sys : System) (rays : Rays) (budget : Budget) (first 
     at_end visit e x = subst (λ (v : Visit). MovesOn budget sys walk v new s now t then) e (moved visit x)
 
     -- ---- it ends
-    pub takes_last : (visit : Visit) → visit ≡ End → MovesOn budget seen walk visit new s now t then →
+    pub takes_last : IsBudget budget → (visit : Visit) → visit ≡ End → MovesOn budget seen walk visit new s now t then →
         IsWholeRun (by_subtrees p first.root) first.job budget old then t.count
-    takes_last visit e x =
-        let (v, c, b) = at_end visit e x in
+    takes_last b visit e x =
+        let (v, c, same) = at_end visit e x in
         subst (λ (u : Progress). IsWholeRun (by_subtrees p first.root) first.job budget old then u.count) (sym c)
-        (subst (λ o. IsWholeRun (by_subtrees p first.root) first.job budget old o s.count) (sym b)
-        (whole_run p sys rays budget first walk vector left s old now g new v))
+        (subst (λ o. IsWholeRun (by_subtrees p first.root) first.job budget old o s.count) (sym same)
+        (whole_run p sys rays budget first walk vector left s old now g b new v))
 
     pub search_at_end : (visit : Visit) → visit ≡ End → MovesOn budget seen walk visit new s now t then →
         IsSearch p sys rays new more
@@ -134,7 +117,7 @@ module _ (p : Polyhedron) (sys : System) (rays : Rays) (budget : Budget) (first 
     -- ---- it stops
     torn_by : (stop : WorkStop) → StopsRun sys walk new now then stop →
         IsTornRun (by_subtrees p first.root) first.job old then
-    torn_by (Overflow o) (a, b) =
+    torn_by (Overflow o) (a, e, b) =
         subst (λ x. IsTornRun (by_subtrees p first.root) first.job old x) (sym b)
         (cut_is_torn (by_subtrees p first.root) first.job old now
         (cut_now p sys rays budget first walk vector (left + 1) s old now g))
@@ -151,9 +134,9 @@ module _ (p : Polyhedron) (sys : System) (rays : Rays) (budget : Budget) (first 
     cut_by : (stop : WorkStop) → StopsRun sys walk new now then stop → (o : Passed) →
         IsErrOf {T = Count} {E = WorkStop} (Err stop) (WorkStop.Overflow o) →
         IsDue p o (IsAskedInMain p first.root o) × IsCutRun (by_subtrees p first.root) first.job old then
-    cut_by (Overflow a) (d, b) o i = (
+    cut_by (Overflow a) (d, e, b) o i = (
       subst (λ (x : Passed). IsDue p x (IsAskedInMain p first.root x)) (same_overflow a o i)
-          (due_now p sys rays budget first walk vector (left + 1) s old now g new a d),
+          (due_now p sys rays budget first walk vector (left + 1) s old now g a d),
       subst (λ x. IsCutRun (by_subtrees p first.root) first.job old x) (sym b)
           (cut_now p sys rays budget first walk vector (left + 1) s old now g),
     )
@@ -165,9 +148,8 @@ module _ (p : Polyhedron) (sys : System) (rays : Rays) (budget : Budget) (first 
     cut_at stop x o i = cut_by stop (stopped stop x) o i
 
     search_by : (stop : WorkStop) → StopsRun sys walk new now then stop → IsSearch p sys rays new more
-    search_by (Overflow a) (d, b) =
-        elsewhere p sys rays walk vector g.search new more
-        (d.walk (main_space p g.search.free) g.search.home g.search.walk_in) (d.phase ∙ g.search.phase) width
+    search_by (Overflow a) (d, e, b) =
+        subst (λ (w : Walk). IsSearch p sys rays w more) (sym e) (another_vector p sys rays walk vector g.search more width)
     search_by WriteFault (v, f) = search_moves p sys rays walk vector g.search New new more v width
 
     pub search_at_stop : (stop : WorkStop) → StopsRun seen walk new now then stop → IsSearch p sys rays new more

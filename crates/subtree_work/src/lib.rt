@@ -4,8 +4,6 @@
 #![tactic(auto)]
 
 mod begin;
-mod choice;
-mod leaves;
 mod progress;
 mod rows;
 mod search;

@@ -122,15 +122,15 @@ const JOBS: [Job; 9] = [
         }),
         ..PYRAMID_JOB
     },
-    // at the depth budget a subtree of one base is small then, and is visited, and one of two is given back
+    // a child at the depth budget is given back, however many bases are left
     Job {
         bases: 300,
         depth: 1,
-        text: "row 1 1 1 0\njob 3 2 4 5\nrow 1 -1 1 0\njob 3 1 2 5\n",
+        text: "row 1 1 1 0\njob 3 2 4 5\njob 3 1 3 4\njob 3 1 2 5\n",
         count: Some(Count {
-            rows: 2,
-            jobs: 2,
-            bases: 2,
+            rows: 1,
+            jobs: 3,
+            bases: 1,
         }),
         ..PYRAMID_JOB
     },
@@ -203,10 +203,10 @@ const JOBS: [Job; 9] = [
         bases: 6,
         depth: 0,
         writes: &[],
-        text: "row 6 6 -1 -3\nrow 3 3 -1 -3\nrow 9 3 -1 -9\nrow 3 -3 -1 3\nrow 15 -3 5 -3\njob 3 1 3 5\nrow 3 0 1 0\n",
+        text: "row 6 6 -1 -3\nrow 3 3 -1 -3\nrow 9 3 -1 -9\nrow 3 -3 -1 3\nrow 15 -3 5 -3\nrow 3 3 -2 0\njob 3 1 4 5\njob 3 1 2 4\n",
         count: Some(Count {
             rows: 6,
-            jobs: 1,
+            jobs: 2,
             bases: 6,
         }),
     },

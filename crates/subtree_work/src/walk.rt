@@ -1,5 +1,5 @@
 //! A run under a key: the walk, and the lines that are written on it.
-ghost use Rattle.std.specs.Prelude.{◌≡◌, ◌≤◌, ◌<◌, ◌+◌, length, IfOk, IfErr, OnErr, IsErrOf};
+ghost use Rattle.std.specs.Prelude.{◌≡◌, ◌≤◌, ◌<◌, length, IfOk, IfErr, OnErr, IsErrOf};
 ghost use Rattle.poly_io.specs.Causes.{RisesAt};
 ghost use Rattle.poly_model.specs.declared.overflow.Overflow.{Overflow as Passed};
 ghost use Rattle.poly_model.specs.Due.{IsDue, IsAskedInMain};
@@ -10,11 +10,9 @@ ghost use Rattle.work_core.specs.Searches.{by_subtrees};
 ghost use Rattle.work_core.specs.Splits.{most_bases, IsBudget};
 ghost use Rattle.subtree_work.specs.Counts.{HasFewLines, IsInReach};
 ghost use Rattle.subtree_work.specs.Made.{IsSearchOfEach};
-ghost use Rattle.subtree_work.specs.Steps.{IsAhead, VisitsBase, VisitsMet, GivesMetBack, MeetsHere, StopsMeeting, FailsAt, MovesOn, StopsRun};
+ghost use Rattle.subtree_work.specs.Steps.{VisitsBase, VisitsOrGivesBack, FailsAt, MovesOn, StopsRun};
 
-use crate::choice::{Choice, choose};
-use crate::leaves::Leaves;
-use crate::progress::{Progress, counts_children};
+use crate::progress::{Progress, stops};
 use crate::rows::show_columns;
 use crate::search::Search;
 use convert_core::Basis;
@@ -57,17 +55,7 @@ pub(crate) fn run_on<S: Sink, L: Ledger>(
         bases: 0,
     };
     let count = visit(search, none, out)?;
-    let start = Progress {
-        depth: 0,
-        count,
-        sure: 0,
-        small_left: 0,
-        leaves: Leaves::none(),
-    };
-    let mut so_far = Progress {
-        sure: children_ahead(search, budget, start),
-        ..start
-    };
+    let mut so_far = Progress { depth: 0, count };
     let mut left = Countdown::full();
     'steps: loop {
         left.lower();
@@ -90,7 +78,6 @@ fn step<S: Sink, L: Ledger>(
     requires search { IsSearchOfEach search.old.sys.now search.old.rays search.old.walker search.old.vector.items }
     requires budget { IsBudget budget }
     requires reach { IsInReach so_far }
-    requires fits { so_far.count.bases + so_far.small_left ≤ budget.bases }
     ensures takes { IfOk result (λ r. MovesOn budget search.old.sys.now search.old.walker r.0 search.new.walker so_far
         (S.written out.old) r.1 (S.written out.new)) }
     ensures stops { IfErr result (StopsRun search.old.sys.now search.old.walker search.new.walker (S.written out.old)
@@ -101,58 +88,37 @@ fn step<S: Sink, L: Ledger>(
     ensures cause { RisesAt WorkStop.WriteFault (S.faults out.old) (S.faults out.new) result }
 {
     match search.walker.next(steps) {
-        Ok(Visit::New) => match meet(search, budget, so_far.met(), out, steps) {
-            Ok(next) => Ok((Visit::New, next)),
-            Err(stop) => Err(stop),
-        },
-        Ok(Visit::Back) => Ok((Visit::Back, so_far.back())),
+        Ok(Visit::New) => {
+            let depth = so_far.depth + 1;
+            match meet(search, budget, depth, so_far.count, out) {
+                Ok(count) => Ok((Visit::New, Progress { depth, count })),
+                Err(stop) => Err(stop),
+            }
+        }
+        Ok(Visit::Back) => {
+            let depth = so_far.depth.saturating_sub(1);
+            Ok((Visit::Back, Progress { depth, ..so_far }))
+        }
         Ok(Visit::End) => Ok((Visit::End, so_far)),
         Err(products) => Err(WorkStop::Overflow(search.walker.dict().overflow(products))),
     }
 }
 
-// At a new cobasis: it is visited, or its key is given back.
-fn meet<S: Sink, L: Ledger>(
+// At a new cobasis of this depth: it is visited where the budget allows it. Else its key is given back, and its columns
+// are passed over.
+fn meet<S: Sink>(
     search: &mut Search,
     budget: Budget,
-    met: Progress,
+    depth: u64,
+    count: Count,
     out: &mut S,
-    steps: &mut Steps<L>,
-) -> Result<Progress, WorkStop>
+) -> Result<Count, WorkStop>
     requires search { IsSearchOfEach search.old.sys.now search.old.rays search.old.walker search.old.vector.items }
     requires budget { IsBudget budget }
-    requires sum { HasFewLines met.count }
-    requires few { met.count.bases ≤ most_bases }
-    requires fits { met.count.bases + met.small_left ≤ budget.bases }
-    ensures meets { IfOk result (MeetsHere budget search.old.sys.now search.old.walker search.new.walker met
-        (S.written out.old) (S.written out.new)) }
-    ensures stops { IfErr result (StopsMeeting search.old.sys.now search.old.walker search.new.walker (S.written out.old)
-        (S.written out.new)) }
-    ensures sys { search.new.sys.now ≡ search.old.sys.now }
-    ensures rays { search.new.rays ≡ search.old.rays }
-    ensures width { length search.new.vector.items ≡ length search.old.vector.items }
-    ensures cause { RisesAt WorkStop.WriteFault (S.faults out.old) (S.faults out.new) result }
-{
-    match choose(search, budget, met, steps) {
-        Ok(Choice::Visited { small_left }) => visit_met(search, budget, met, small_left, out),
-        Ok(Choice::GivenBack) => give_met_back(search, met, out),
-        Err(products) => Err(WorkStop::Overflow(search.walker.dict().overflow(products))),
-    }
-}
-
-// It is visited; then so many bases are left of a small subtree.
-fn visit_met<S: Sink>(
-    search: &mut Search,
-    budget: Budget,
-    met: Progress,
-    small_left: u64,
-    out: &mut S,
-) -> Result<Progress, WorkStop>
-    requires search { IsSearchOfEach search.old.sys.now search.old.rays search.old.walker search.old.vector.items }
-    requires sum { HasFewLines met.count }
-    requires few { met.count.bases < most_bases }
-    ensures visits { IfOk result (VisitsMet budget search.old.sys.now search.old.walker search.new.walker met small_left
-        (S.written out.old) (S.written out.new)) }
+    requires sum { HasFewLines count }
+    requires few { count.bases ≤ most_bases }
+    ensures meets { IfOk result (VisitsOrGivesBack budget search.old.sys.now search.old.walker search.new.walker depth
+        (S.written out.old) (S.written out.new) count) }
     ensures fails { OnErr result (FailsAt search.old.sys.now search.old.walker (S.written out.old) (S.written out.new)) }
     ensures unmoved { OnErr result (search.new.walker ≡ search.old.walker) }
     ensures no_overflow { (o : Passed) → IsErrOf result (WorkStop.Overflow o) → ⊥ }
@@ -161,53 +127,16 @@ fn visit_met<S: Sink>(
     ensures width { length search.new.vector.items ≡ length search.old.vector.items }
     ensures cause { RisesAt WorkStop.WriteFault (S.faults out.old) (S.faults out.new) result }
 {
-    match visit(search, met.count, out) {
-        Ok(count) => Ok(Progress {
-            count,
-            sure: met.sure.saturating_add(children_ahead(search, budget, met)),
-            small_left,
-            ..met
-        }),
-        Err(stop) => Err(stop),
+    if !stops(budget, depth, count.bases) {
+        return visit(search, count, out);
     }
-}
-
-// Its key is given back, and its columns are passed over.
-fn give_met_back<S: Sink>(
-    search: &mut Search,
-    met: Progress,
-    out: &mut S,
-) -> Result<Progress, WorkStop>
-    requires search { IsSearchOfEach search.old.sys.now search.old.rays search.old.walker search.old.vector.items }
-    requires sum { HasFewLines met.count }
-    requires few { met.count.bases ≤ most_bases }
-    ensures gives { IfOk result (GivesMetBack search.old.walker search.new.walker met (S.written out.old) (S.written out.new)) }
-    ensures fails { OnErr result (FailsAt search.old.sys.now search.old.walker (S.written out.old) (S.written out.new)) }
-    ensures unmoved { OnErr result (search.new.walker ≡ search.old.walker) }
-    ensures no_overflow { (o : Passed) → IsErrOf result (WorkStop.Overflow o) → ⊥ }
-    ensures sys { search.new.sys.now ≡ search.old.sys.now }
-    ensures rays { search.new.rays ≡ search.old.rays }
-    ensures width { length search.new.vector.items ≡ length search.old.vector.items }
-    ensures cause { RisesAt WorkStop.WriteFault (S.faults out.old) (S.faults out.new) result }
-{
     let key = search.walker.dict().key();
-    match give_back(&key, met.count, out) {
+    match give_back(&key, count, out) {
         Ok(count) => {
             search.walker.pass();
-            Ok(Progress { count, ..met })
+            Ok(count)
         }
         Err(stop) => Err(stop),
-    }
-}
-
-// How many keys more are sure to be met once the cobasis where the walk stands is visited.
-fn children_ahead(search: &Search, budget: Budget, at: Progress) -> u64
-    ensures { IsAhead budget search.now.walker at.depth result }
-{
-    if counts_children(budget, at) {
-        search.walker.child_count() as u64
-    } else {
-        0
     }
 }
 

@@ -11,6 +11,7 @@ use Rattle.poly_model.specs.ListingText.{vector_text}
 use Rattle.poly_io.specs.Written.{AppendsPart}
 use Rattle.work_core.specs.declared.budget.Budget.{Budget}
 use Rattle.work_core.specs.Meanings.{Meaning}
+use Rattle.work_core.specs.Outcomes.{IsOutcome}
 use Rattle.work_core.specs.Splits.{Splits, IsWithinBudget, AreWithin}
 
 pub data ReplyLine : Type 0 where
@@ -57,7 +58,8 @@ keys_in_lines (row_line v ∷ lines) = keys_in_lines lines
 keys_in_lines (job_line key ∷ lines) = key ∷ keys_in_lines lines
 
 module _ (work : Meaning) (key : List ℕ) where
-  -- a run that ended: its lines were written, they split the share, and their numbers are told
+  -- a run that ended: its lines were written, they tell the outcome of the job and so split the share, and their numbers are
+  -- told
   pub record IsWholeRun (budget : Budget) (old new : Option (List ℕ)) (count : Count) : Type 0 where
     pub lines : List ReplyLine
     pub written : WritesLines old new lines
@@ -65,6 +67,7 @@ module _ (work : Meaning) (key : List ℕ) where
     pub budgeted : IsWithinBudget work key budget (keys_in_lines lines) count.bases
     pub rows : count.rows ≡ length (rows_in_lines lines)
     pub jobs : count.jobs ≡ length (keys_in_lines lines)
+    pub outcome : IsOutcome work key budget (rows_in_lines lines) (keys_in_lines lines) count.bases
 
   -- a run that stopped between two lines
   pub record IsCutRun (old new : Option (List ℕ)) : Type 0 where

@@ -79,6 +79,7 @@ starves job head a b w = record {
   text = reply_text job [] Memory;
   obeys = reply_of job head [] Memory (starved job);
   ends = refl;
+  outcome = tt;
   written = w;
 }
 
@@ -104,7 +105,7 @@ module _ (job : Job) (file : IsOfAFile job) (o : Passed) (is_key : IsKey o.key) 
   pub passes_alone : (a b : Option (List ℕ)) → Appends a b (reply_head job.head.key ++ tail_text (Overflow o)) →
       RepliesWith job a b (Overflow o)
   passes_alone a b w =
-      record { may_end = due; text = reply_text job [] (Overflow o); obeys = alone; ends = refl; written = w }
+      record { may_end = due; text = reply_text job [] (Overflow o); obeys = alone; ends = refl; outcome = tt; written = w }
 
   pub passes_in_part : (a b : Option (List ℕ)) → AppendsPart a b (reply_head job.head.key ++ tail_text (Overflow o)) →
       BeginsReply job a b
@@ -207,6 +208,7 @@ module _ (job : Job) (file : IsOfAFile job) (begins : MayBegin (search_of job)) 
       text = reply_text job run.lines (End count);
       obeys = ended;
       ends = refl;
+      outcome = run.outcome;
       written = three a b c d run.lines (End count) h run.written.bytes t;
     }
 
@@ -231,6 +233,7 @@ module _ (job : Job) (file : IsOfAFile job) (begins : MayBegin (search_of job)) 
       text = reply_text job run.lines (Overflow o);
       obeys = stopped;
       ends = refl;
+      outcome = tt;
       written = three a b c d run.lines (Overflow o) h run.written.bytes t;
     }
 

@@ -10,8 +10,10 @@ use Rattle.poly_model.specs.Systems.{System, cone_of}
 use Rattle.work_core.specs.declared.stops.JobStop.{JobStop}
 use Rattle.work_core.specs.declared.stops.JobStop.TheVariants.{BadJob, Overflow as Overflowed, ReadFault, WriteFault, Memory as Starved}
 use Rattle.work_core.specs.Meanings.{Meaning}
+use Rattle.work_core.specs.Outcomes.{IsOutcome}
 use Rattle.work_core.specs.Searches.{meaning_of, MayBegin}
 use Rattle.job_text.specs.declared.job.Job.{Job}
+use Rattle.job_text.specs.declared.reply.Reply.{Reply}
 use Rattle.job_text.specs.declared.reply.Tail.{Tail}
 use Rattle.job_text.specs.declared.reply.Tail.TheVariants.{End, Overflow, Memory}
 use Rattle.job_text.specs.Jobs.{HasHeadText}
@@ -34,12 +36,20 @@ MayEnd (End count) job = MayBegin (search_of job) × HasItsKey job
 MayEnd (Overflow o) job = IsDueInJob job o
 MayEnd Memory job = ⊤
 
+-- a reply that ends in `end` tells the outcome of the job: what its run visits, shows and gives back
+abbrev pub TellsOutcome : Job → Reply → Tail → Type 0
+TellsOutcome job reply (End count) =
+    IsOutcome (meaning_of (search_of job)) job.head.key job.head.budget reply.rows reply.keys count.bases
+TellsOutcome job reply (Overflow o) = ⊤
+TellsOutcome job reply Memory = ⊤
+
 -- a whole reply of the job was written, which ends so
 pub record RepliesWith (job : Job) (old new : Option (List ℕ)) (tail : Tail) : Type 0 where
   pub may_end : MayEnd tail job
   pub text : List ℕ
   pub obeys : IsReply job text
   pub ends : obeys.reply.tail ≡ tail
+  pub outcome : TellsOutcome job obeys.reply tail
   pub written : Appends old new text
 
 -- the beginning of one was written

@@ -8,7 +8,7 @@ use Rattle.subset_work.proofs.dead.+visit_dead.Given as goal
 abbrev pub decreases-visit_dead : goal.decreases-visit_dead
 decreases-visit_dead g l = l.left
 
--- the list and those under it whose next row comes before row i were visited or given back
+-- the list was visited, and its children whose last row comes before row i were met with all under them
 abbrev pub invariant-rows : goal.invariant-rows
 invariant-rows g l =
     record {
@@ -17,6 +17,6 @@ invariant-rows g l =
       kept : take l.list.len l.trail.labels ≡ take l.list.len l.fn.trail.labels;
       walked : (p : Polyhedron) → l.list.sys.now ≡ cone_of p → HasRoom p (take l.list.len l.fn.trail.labels) l.left →
           IsNext (take l.list.len l.fn.trail.labels) l.list.from → IsDead p (take l.list.len l.fn.trail.labels) →
-          HasWalkedTo p (take l.list.len l.fn.trail.labels) l.list.from l.i l.so_far.most l.so_far.longest
+          HasWalkedTo p (take l.list.len l.fn.trail.labels) l.i l.so_far.most l.so_far.longest
           (g.S.Sink.written l.fn.out) (g.S.Sink.written l.out) l.fn.so_far.count l.count;
     }

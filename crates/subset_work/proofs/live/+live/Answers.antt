@@ -25,7 +25,7 @@ pub visit_under-returns-then-stops-clause-walked : goal.visit_under-returns-then
 visit_under-returns-then-stops-clause-walked g t c p front live next eq room nextk =
     let len = c.args.way.now.list.len in
     given_back p (take len c.args.trail.now.labels) c.args.way.now.so_far.now (g.S.Sink.written c.args.out.now)
-    (g.S.Sink.written c.give_list.new.out) _ room.is_key len c.requires.may c.give_list.ensures.len
+    (g.S.Sink.written c.give_list.new.out) _ room.is_key len c.give_list.ensures.len
     (c.if-stops.ensures.back refl) c.give_list.ensures.given c.give_list.ensures.overflow
 
 -- ---- at the key
@@ -167,7 +167,8 @@ visit_live-returns-then-is_empty-clause-walked g t c p live room next =
     let none : length c.args.deeper.now ≡ 0 = search rules in
     c.show_left.ensures.walked p key c.args.live.now.so_far.now.most c.args.live.now.so_far.now.longest
     (subst (λ n. IsLive prefix.sys.now prefix.free.now prefix.dict.now prefix.from n p key) none live)
-    (subst (λ n. HasRoom p key n) none room)
+    (subst (λ n. HasRoom p key n) none room) c.requires.may.some
+    (omega (arith, length-take {A = ℕ}, c.requires.may.near, c.requires.few))
 
 pub visit_live-rows-init : goal.visit_live-rows-init
 visit_live-rows-init g t c =
@@ -176,7 +177,6 @@ visit_live-rows-init g t c =
     let so_far = c.args.live.now.so_far.now in
     let base = visited_is_one so_far.count c.one_base-count.result c.one_base-count.ensures.rows
     c.one_base-count.ensures.jobs c.one_base-count.ensures.bases in
-    let more : 0 < length c.args.deeper.now = search rules in
     record {
       room = c.requires.room;
       depth = refl {a = length c.args.deeper.now};
@@ -185,8 +185,7 @@ visit_live-rows-init g t c =
       kept = refl {a = key};
       walked = λ p live room next.
           begin_at p key (length c.args.deeper.now) prefix.from room next so_far.most so_far.longest
-          (g.S.Sink.written c.args.out.now) so_far.count c.one_base-count.result
-          (none_shown p key (length c.args.deeper.now) room more) base;
+          (g.S.Sink.written c.args.out.now) so_far.count c.one_base-count.result base;
     }
 
 pub visit_live-visit_under-requires : goal.visit_live-visit_under-requires
@@ -261,9 +260,9 @@ visit_live-rows-preserved g t c =
             c.is_linear.result c.is_linear.ensures w.if-not-is_linear.true in
             let child = child_is len c.rows.i w.row-row.result labels c.rows.trail.labels w.put.new.self.labels
             c.rows.invariant.kept w.put.ensures.value w.row-row.ensures in
-            walked_at g.S.Sink.written p key prefix.from (c.rows.i + 1) so_far.most so_far.longest old so_far.count
+            walked_at g.S.Sink.written p key (c.rows.i + 1) so_far.most so_far.longest old so_far.count
             w.out-is w.count-is
-            (step.goes_on (g.S.Sink.written w.visit_under.new.out) w.in-Some.on w.in-Some.ensures.on.within
+            (step.goes_on (g.S.Sink.written w.visit_under.new.out) w.in-Some.on
             (walks_to_child p key (take (len + 1) w.put.new.self.labels) c.rows.i (depth - 1) so_far.most so_far.longest
             (g.S.Sink.written c.rows.out) (g.S.Sink.written w.visit_under.new.out) c.rows.count _ child step.may
             (λ there after. w.in-Some.ensures.walked p key
@@ -282,7 +281,7 @@ visit_live-rows-preserved g t c =
         same = ap g.S.Sink.faults w.out-is ∙ c.rows.invariant.same;
         kept = ap (λ (x : Trail). take len x.labels) w.trail-is ∙ c.rows.invariant.kept;
         walked = λ p live room next.
-            walked_at g.S.Sink.written p key prefix.from (c.rows.i + 1) so_far.most so_far.longest old so_far.count
+            walked_at g.S.Sink.written p key (c.rows.i + 1) so_far.most so_far.longest old so_far.count
             w.out-is w.count-is
             (passed p key depth prefix.from room next so_far.most so_far.longest c.rows.i old
             (g.S.Sink.written c.rows.out) so_far.count c.rows.count (c.rows.invariant.walked p live room next)
@@ -295,7 +294,10 @@ pub visit_live-returns-clause-walked : goal.visit_live-returns-clause-walked
 visit_live-returns-clause-walked g t c p live room next =
     let prefix = c.args.live.now.prefix in
     let so_far = c.args.live.now.so_far.now in
-    ended p (take c.args.live.now.len c.args.trail.now.labels) (length c.args.deeper.now) prefix.from room next so_far.most so_far.longest c.rows.i
-    (g.S.Sink.written c.args.out.now) (g.S.Sink.written c.rows.out) so_far.count c.rows.count
-    (c.rows.invariant.walked p live room next)
+    let key = take c.args.live.now.len c.args.trail.now.labels in
+    let more : 0 < length c.args.deeper.now = search rules in
+    ended p key so_far.most so_far.longest (g.S.Sink.written c.args.out.now) so_far.count c.requires.may.some
+    (omega (arith, length-take {A = ℕ}, c.requires.may.near, c.requires.few)) (g.S.Sink.written c.rows.out) c.rows.i
+    c.rows.count (none_shown p key (length c.args.deeper.now) room more)
     (omega (arith, c.rows-test.false, c.rows-i-end.ensures.value, rows_here p prefix.sys.now live.at.file))
+    (c.rows.invariant.walked p live room next)

@@ -13,7 +13,7 @@ decreases-visit_live g l = 3 * length l.deeper.now + 1
 abbrev pub decreases-visit_under : goal.decreases-visit_under
 decreases-visit_under g l = 3 * (length l.deeper.now - length l.way.now.rest.now) + length l.way.now.rest.now + 2
 
--- the list and those under it whose next row comes before row i were visited or given back
+-- the list was visited, and its children whose last row comes before row i were met with all under them
 abbrev pub invariant-visit_live-rows : goal.invariant-visit_live-rows
 invariant-visit_live-rows g l =
     record {
@@ -26,6 +26,6 @@ invariant-visit_live-rows g l =
           l.live.prefix.from (length l.fn.deeper) p (take l.live.len l.fn.trail.labels) →
           HasRoom p (take l.live.len l.fn.trail.labels) (length l.fn.deeper) →
           IsNext (take l.live.len l.fn.trail.labels) l.live.prefix.from →
-          HasWalkedTo p (take l.live.len l.fn.trail.labels) l.live.prefix.from l.i l.live.so_far.now.most
-          l.live.so_far.now.longest (g.S.Sink.written l.fn.out) (g.S.Sink.written l.out) l.live.so_far.now.count l.count;
+          HasWalkedTo p (take l.live.len l.fn.trail.labels) l.i l.live.so_far.now.most l.live.so_far.now.longest
+          (g.S.Sink.written l.fn.out) (g.S.Sink.written l.out) l.live.so_far.now.count l.count;
     }

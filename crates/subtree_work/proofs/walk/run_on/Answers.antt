@@ -7,7 +7,6 @@ use Rattle.work_core.specs.declared.stops.WorkStop.TheVariants.{Overflow}
 use Rattle.work_core.specs.ReplyLines.{IsTornRun}
 use Rattle.work_core.specs.Searches.{by_subtrees}
 use Rattle.subtree_work.specs.declared.progress.Progress.{Progress}
-use Rattle.subtree_work.specs.Steps.{IsAhead}
 use Rattle.subtree_work.proofs.Running.{Running, begins}
 use Rattle.subtree_work.proofs.Ending.{torn_first}
 use Rattle.subtree_work.proofs.Stepping.{rises_at_stop, takes_on, takes_last, torn_at, cut_at, search_at_stop, search_at_end, search_from, search_again}
@@ -34,22 +33,14 @@ pub steps-init : goal.steps-init
 steps-init g c =
     let s = c.args.search.now in
     let none : Count = record { rows = 0; jobs = 0; bases = 0 } in
-    let so_far : Progress = record {
-      depth = 0;
-      count = c.in_ok-count.count;
-      sure = c.children_ahead.result;
-      small_left = 0;
-      leaves = c.none.result;
-    } in
+    let so_far : Progress = record { depth = 0; count = c.in_ok-count.count } in
     record {
       going = λ p file. subst (λ (w : Walk). Running p s.sys.now s.rays c.args.budget s.walker w
           c.visit.new.search.vector.items c.full-left.result so_far (g.S.Sink.written c.args.out.now)
           (g.S.Sink.written c.visit.new.out)) (sym c.in_ok-count.ensures.walker)
           (begins p s.sys.now s.rays c.args.budget s.walker s.vector.items (c.requires.search.each p file) c.requires.start
           c.full-left.result c.full-left.ensures (g.S.Sink.written c.args.out.now) (g.S.Sink.written c.visit.new.out) none
-          so_far refl refl refl refl c.in_ok-count.ensures.visited
-          (subst (λ (w : Walk). IsAhead c.args.budget w 0 c.children_ahead.result) c.in_ok-count.ensures.walker
-          c.children_ahead.ensures) refl c.requires.budget.some c.visit.new.search.vector.items
+          so_far refl refl refl refl c.in_ok-count.ensures.visited c.requires.budget.some c.visit.new.search.vector.items
           c.in_ok-count.ensures.width);
       sys = c.in_ok-count.ensures.sys;
       rays = c.in_ok-count.ensures.rays;
@@ -119,7 +110,7 @@ returns-then-is_end-clause-whole g c p file =
     c.lower.ensures c.steps.so_far (g.S.Sink.written c.args.out.now) (g.S.Sink.written c.steps.out)
     (c.steps.invariant.going p file) c.steps.search.sys.now c.steps.invariant.sys
     c.step.new.search.walker c.step.new.search.vector.items c.in_ok-visit.ensures.width c.in_ok-visit.next
-    (g.S.Sink.written c.step.new.out) c.in_ok-visit.visit (c.is_end.ensures.0 c.if-is_end.true) c.in_ok-visit.ensures.takes
+    (g.S.Sink.written c.step.new.out) c.requires.budget c.in_ok-visit.visit (c.is_end.ensures.0 c.if-is_end.true) c.in_ok-visit.ensures.takes
 
 pub returns-then-is_end-clause-search : goal.returns-then-is_end-clause-search
 returns-then-is_end-clause-search g c =

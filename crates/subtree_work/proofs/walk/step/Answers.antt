@@ -1,10 +1,11 @@
-use Rattle.std.proofs.Common.{refl, subst}
+use Rattle.std.proofs.Common.{refl, sym, subst}
 use Rattle.reverse_step.specs.declared.walker.Visit.{Visit}
 use Rattle.reverse_step.specs.declared.walker.Visit.TheVariants.{New}
+use Rattle.reverse_step.specs.Walks.{Walk}
 use Rattle.reverse_step.specs.Moves.{IsVisit}
 use Rattle.convert_core.proofs.Searching.{search_moves}
-use Rattle.subtree_work.proofs.Stepping.{stops_there}
-use Rattle.subtree_work.proofs.Meeting.{rises_too}
+use Rattle.subtree_work.specs.Steps.{StopsRun}
+use Rattle.subtree_work.proofs.Stepping.{fails_there}
 use Rattle.subtree_work.proofs.walk.step.Goals as goal
 
 pub meet-requires-clause-search : goal.meet-requires-clause-search
@@ -20,11 +21,9 @@ meet-requires-clause-search g c =
 pub returns-in-Err-meet-clause-stops : goal.returns-in-Err-meet-clause-stops
 returns-in-Err-meet-clause-stops g c =
     let s = c.args.search.now in
-    stops_there s.sys.now s.walker c.next.new.self c.meet.new.search.walker (g.S.Sink.written c.args.out.now)
-    (g.S.Sink.written c.meet.new.out) c.in-Err-meet.stop
+    subst (λ (w : Walk). StopsRun s.sys.now s.walker w (g.S.Sink.written c.args.out.now) (g.S.Sink.written c.meet.new.out)
+    c.in-Err-meet.stop) (sym c.in-Err-meet.ensures.unmoved)
+    (fails_there s.sys.now s.walker c.next.new.self (g.S.Sink.written c.args.out.now) (g.S.Sink.written c.meet.new.out)
+    c.in-Err-meet.stop c.in-Err-meet.ensures.no_overflow
     (subst (λ (v : Visit). IsVisit s.walker v c.next.new.self) c.in-Ok-New.field-0-is c.in-Ok-New.ensures.visit)
-    c.in-Err-meet.ensures.stops
-
-pub returns-in-Err-meet-clause-cause : goal.returns-in-Err-meet-clause-cause
-returns-in-Err-meet-clause-cause g c =
-    rises_too (g.S.Sink.faults c.args.out.now) (g.S.Sink.faults c.meet.new.out) c.in-Err-meet.stop c.in-Err-meet.ensures.cause
+    c.in-Err-meet.ensures.fails)
