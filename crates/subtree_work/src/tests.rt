@@ -195,7 +195,7 @@ const JOBS: [Job; 9] = [
             bases: 1,
         }),
     },
-    // the last base is kept for a leaf, the child of the root that comes last: else two keys would be given back
+    // the base budget ends below the first child of the root: two children on the way there are given back
     Job {
         file: SIX_FACETS,
         root: &[1, 2, 3],
