@@ -56,6 +56,7 @@ module _ (old told new : Option (List ℕ)) (parts : (text : List ℕ) → Appen
       text = h.reply.text;
       obeys = h.reply.obeys;
       ends = h.reply.ends;
+      outcome = h.reply.outcome;
       written = Appends-kept old told new h.reply.text h.reply.written keeps;
     };
   }
