@@ -194,8 +194,12 @@ module _ (p : Polyhedron) (sys : System) (rays : Rays) (budget : Budget) (first 
 
       rows_are : ListsAll (IsShownAtOne work (keys_visited g.met)) g.vectors
       rows_are = same_lists (IsShownAtSome p first.root g.ones) (IsShownAtOne work (keys_visited g.met))
-          (λ y x. (x.0, Contains-permutation g.ones (keys_visited g.met) x.0
-          (IsPermutation-sym (keys_visited g.met) g.ones g.ones_are) x.1, (x.2, x.3)))
+          (λ y x. (
+            x.0,
+            Contains-permutation g.ones (keys_visited g.met) x.0
+                (IsPermutation-sym (keys_visited g.met) g.ones g.ones_are) x.1,
+            (x.2, x.3),
+          ))
           (λ y x. (x.0, Contains-permutation (keys_visited g.met) g.ones x.0 g.ones_are x.1, x.2.0, x.2.1)) g.vectors g.shown
 
       job_key : IsSubtreeKey p first.root first.job
