@@ -1,4 +1,4 @@
-//! What a call may use: memory, its options, and so many bytes of a ledger.
+//! What a call may use.
 use coordinator_core::Options;
 use std::alloc::Global;
 

@@ -1,4 +1,4 @@
-//! What came for an attempt.
+//! What came.
 use job_text::Reply;
 
 /// What came for an attempt. The rows of a reply stay in the bytes that came.

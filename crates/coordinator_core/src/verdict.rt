@@ -1,4 +1,4 @@
-//! What becomes of what came for an attempt.
+//! What becomes of an event.
 use poly_model::Overflow;
 
 /// What becomes of an event.

@@ -1,4 +1,4 @@
-//! The table that says what each call of a disk in memory does.
+//! What the calls of a disk in memory do, one after the other.
 
 /// What one call does.
 #[derive(Clone, Copy, Debug, PartialEq, Eq)]

@@ -1,4 +1,4 @@
-//! The law that each file has one layout.
+//! The law of the layout.
 ghost use Rattle.std.specs.Prelude.{List, ℕ};
 ghost use Rattle.job_ledger.specs.Records.{HasOneLayout};
 

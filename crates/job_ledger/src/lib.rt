@@ -1,4 +1,4 @@
-//! Records in one file, which outlive a crash.
+//! Records that are kept across a crash.
 #![tactic(auto)]
 
 mod entry;

@@ -1,4 +1,4 @@
-//! Why a call of a ledger stopped.
+//! How a ledger refuses.
 ghost use Rattle.std.specs.Prelude.{◌≡◌};
 
 use poly_io::Failed;

@@ -1,4 +1,4 @@
-//! Goes through the records of a file, from gate to gate.
+//! The records of a file, gate after gate.
 ghost use Rattle.std.specs.Prelude.{◌≡◌, ◌<◌, List, ℕ, Some, length, IfOk, IsErrOf};
 ghost use Rattle.disk_core.specs.Contents.{Told};
 ghost use Rattle.disk_core.specs.Moments.{IsQuiet};

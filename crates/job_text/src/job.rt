@@ -1,4 +1,4 @@
-//! What a job is.
+//! Jobs.
 use poly_model::{Key, Poly, Root, WorkKind};
 use work_core::Budget;
 

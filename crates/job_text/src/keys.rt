@@ -1,4 +1,4 @@
-//! Reads keys from their texts.
+//! Keys, read from their texts.
 ghost use Rattle.std.specs.Prelude.{◌≡◌, ◌≤◌, ◌++◌, length, take, IfSome, IsNone, List, ℕ};
 ghost use Rattle.std.specs.List.{AllByRecursion};
 ghost use Rattle.plain_text.specs.Cuts.{GoesOnWith};

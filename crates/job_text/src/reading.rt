@@ -1,4 +1,4 @@
-//! Reads job texts.
+//! Job texts that are read.
 ghost use Rattle.std.specs.Prelude.{◌≡◌, ℕ, IfOk, IsErrOf};
 ghost use Rattle.job_text.specs.Jobs.{IsBadText, IsJobText};
 

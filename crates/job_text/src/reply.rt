@@ -1,4 +1,4 @@
-//! What a reply is.
+//! Replies.
 use crate::ReplyRows;
 use poly_model::{Count, Key, Keys, Overflow};
 

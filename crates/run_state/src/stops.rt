@@ -1,4 +1,4 @@
-//! Why records or a reply are refused.
+//! Why records are not taken.
 use poly_model::Key;
 
 /// Why payloads are not replayed.

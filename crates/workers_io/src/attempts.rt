@@ -1,4 +1,4 @@
-//! How a collect takes an attempt off those that are out.
+//! The attempts that are out, at a collect.
 ghost use Rattle.std.specs.Prelude.{◌≡◌};
 ghost use Rattle.workers_io.specs.Collects.{collected_attempt, out_after};
 
