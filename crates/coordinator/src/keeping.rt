@@ -1,4 +1,4 @@
-//! How an accepted reply comes into the ledger.
+//! How an accepted reply is written to the ledger.
 ghost use Rattle.std.specs.Prelude.{◌≡◌, ◌⊎◌, ◌≤◌, ◌∷◌, [], ℕ, List, length, OnOk, IfSome, IsNone, IsErrOf};
 ghost use Rattle.poly_io.specs.Causes.{RisesAt};
 ghost use Rattle.poly_model.specs.declared.overflow.Overflow.{Overflow as Passed};

@@ -1,4 +1,4 @@
-//! The lines of a polyhedron.
+//! The lines of a polyhedron, which a call prepares first.
 ghost use Rattle.std.specs.Prelude.{◌≡◌, ◌≤◌, length, IfOk, IsErrOf};
 ghost use Rattle.poly_model.specs.declared.overflow.Overflow.{Overflow as Passed};
 ghost use Rattle.poly_model.specs.Due.{IsDue, IsAskedBefore};
@@ -13,7 +13,7 @@ use poly_model::{Lines, Poly};
 use std::alloc::Global;
 
 // The lines, by ascending free column. `Inconsistent` comes exactly where the equations have no common point, if no
-// overflow or want of memory came before.
+// overflow or lack of memory came before.
 pub(crate) fn lines_of(alloc: Global, poly: &Poly) -> Result<Lines, PrepareStop>
     ensures lines { IfOk result (AreLines (cone_of poly.now)) }
     ensures few { IfOk result (λ lines. length lines ≤ most_columns) }

@@ -1,4 +1,4 @@
-//! What comes before the first action of a run that goes on.
+//! What comes before the first action of a run that goes on from its ledger.
 ghost use Rattle.std.specs.Prelude.{◌≡◌, ◌≤◌, ℕ, Some, length, IfOk, IsErrOf};
 ghost use Rattle.poly_model.specs.declared.overflow.Overflow.{Overflow as Passed};
 ghost use Rattle.poly_model.specs.Due.{IsDue, IsAskedBefore};

@@ -1,4 +1,4 @@
-//! A run that goes on.
+//! A call that goes on with a run from its ledger.
 ghost use Rattle.std.specs.Prelude.{◌≡◌, ◌⊎◌, ◌++◌, [], ℕ, List, Some, IfOk, OnErr, IsErrOf};
 ghost use Rattle.poly_model.specs.declared.overflow.Overflow.{Overflow as Passed};
 ghost use Rattle.poly_model.specs.Due.{IsDue, IsAskedBefore};
@@ -50,10 +50,10 @@ fn resume_stop(stop: GoStop) -> ResumeStop
 /// Goes on from the records of a ledger, and prints the listing of what they search.
 ///
 /// First the records are read, where `NoRun` and `BadLedger` come; then the lines of their polyhedron are prepared, where
-/// `Infeasible` and an overflow of their own come; and only then a worker is started. Where the call ends by want of memory, a
+/// `Infeasible` and an overflow of their own come; and only then a worker is started. Where the call ends by lack of memory, a
 /// fault, `Lost`, `LedgerLimit` or an overflow that a reply tells, the records of what was accepted are kept, and `resume`
 /// goes on from them. Where all is recorded, nothing is started. Rows are printed at the end alone, from the ledger; a fault
-/// of the sink, or of the disk, or want of memory then leaves the beginning of the listing.
+/// of the sink, or of the disk, or lack of memory then leaves the beginning of the listing.
 pub fn resume<D: Disk, W: Workers, O: Sink>(
     terms: &Terms,
     disk: &mut D,

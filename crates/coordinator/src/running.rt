@@ -1,4 +1,4 @@
-//! A new run.
+//! A call that begins a new run.
 ghost use Rattle.std.specs.Prelude.{◌≡◌, ◌⊎◌, ◌∷◌, [], ℕ, List, Some, IfOk, OnErr, IsErrOf};
 ghost use Rattle.poly_model.specs.declared.overflow.Overflow.{Overflow as Passed};
 ghost use Rattle.poly_model.specs.Due.{IsDue, IsAskedBefore};
@@ -50,7 +50,7 @@ fn run_stop(stop: GoStop) -> RunStop
 /// Runs a work from its root, recorded in a new ledger, and prints the listing.
 ///
 /// The lines are prepared before the disk is touched: an overflow of their own leaves disk and workers as they were. Then come
-/// `HasRun`, `LedgerLimit` and the first record, and only then a worker is started. Where want of memory, a fault, `Lost`,
+/// `HasRun`, `LedgerLimit` and the first record, and only then a worker is started. Where lack of memory, a fault, `Lost`,
 /// `LedgerLimit` or an overflow that a reply tells ends the call, the records of what was accepted are kept, and `resume`
 /// goes on from them. Rows are printed at the end alone, from the ledger; a fault of the sink, or of the disk, or want of
 /// memory then leaves the beginning of the listing.

@@ -1,4 +1,4 @@
-//! How a job that was handed out comes to a worker.
+//! How a job that was handed out is given to a worker.
 ghost use Rattle.std.specs.Prelude.{◌≡◌, ◌⊎◌, [], ◌∷◌, ℕ, OnOk, OnErr, IfErr, IfOk};
 ghost use Rattle.workers_io.specs.History.{Tells, refused};
 ghost use Rattle.coordinator.specs.Starting.{IsStarted};

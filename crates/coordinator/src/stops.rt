@@ -1,4 +1,4 @@
-//! Why a call was refused.
+//! Why a call stopped.
 ghost use Rattle.std.specs.Prelude.{◌≡◌};
 
 use poly_model::Overflow;
@@ -36,7 +36,7 @@ pub(crate) enum GoStop {
     BadLedger { place: u64 },
     LedgerLimit { need: u64, limit: u64 },
     Overflow(Overflow),
-    /// More losses and strays came than are borne: so many of each.
+    /// So many losses and strays came: more together than the call allows.
     Lost { lost: u64, strays: u64 },
     DiskFault,
     WriteFault,
@@ -54,7 +54,7 @@ pub enum RunStop {
     LedgerLimit { need: u64, limit: u64 },
     /// A product that a pivot needs passes.
     Overflow(Overflow),
-    /// More losses and strays came than are borne: so many of each.
+    /// So many losses and strays came: more together than the call allows.
     Lost { lost: u64, strays: u64 },
     /// A call of the disk failed.
     DiskFault,
@@ -78,7 +78,7 @@ pub enum ResumeStop {
     LedgerLimit { need: u64, limit: u64 },
     /// A product that a pivot needs passes.
     Overflow(Overflow),
-    /// More losses and strays came than are borne: so many of each.
+    /// So many losses and strays came: more together than the call allows.
     Lost { lost: u64, strays: u64 },
     /// A call of the disk failed.
     DiskFault,

@@ -1,4 +1,4 @@
-//! What a call may use.
+//! What a call may use: memory, its options, and so many bytes of a ledger.
 use coordinator_core::Options;
 use std::alloc::Global;
 

@@ -1,4 +1,4 @@
-//! Runs that come to their end, or are stopped and go on; and files at which these calls stop.
+//! Runs that come to their end, runs that are stopped and go on, and files at which these calls stop.
 ghost use Rattle.coordinator.specs.Calls.{AreTerms};
 
 use crate::lines::lines_of;

@@ -15,7 +15,7 @@ pub enum Action {
     Collect,
     /// Nothing is left to do.
     Finish,
-    /// More losses and strays came than are borne: so many of each.
+    /// So many losses and strays came: more together than the call allows.
     GiveUp {
         lost: u64,
         strays: u64,

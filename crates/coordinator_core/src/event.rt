@@ -1,4 +1,4 @@
-//! What came.
+//! What came for an attempt.
 use job_text::Reply;
 
 /// What came for an attempt. The rows of a reply stay in the bytes that came.

@@ -1,4 +1,4 @@
-//! What is seen of an attempt and of a reply without changing anything.
+//! Questions about an attempt or a reply, which change nothing.
 ghost use Rattle.std.specs.Prelude.{◌≡◌, ◌<◌, ◌&&◌, not, length, slice_get, Some, IfSome, IsNone};
 ghost use Rattle.run_state.specs.KeyLists.{holds};
 ghost use Rattle.run_state.specs.KeyLists.{key_at};

@@ -1,4 +1,4 @@
-//! The core.
+//! The core: the state of the machine, and its calls.
 ghost use Rattle.std.specs.Prelude.{◌≡◌, ℕ, if◌then◌else◌, ◌++◌, IfOk, IfSome, IsNone, OnOk, OnErr};
 ghost use Rattle.row_printer.specs.Rows.{counted};
 ghost use Rattle.run_state.specs.KeyLists.{are_new};

@@ -11,6 +11,6 @@ pub struct Options {
     pub depth: u64,
     /// The queue is short while it has fewer keys than this for each worker: from 1 to 1000.
     pub lmin: u64,
-    /// So many losses and strays are borne: from 0 to 1000000.
+    /// How many losses and strays together the call allows: from 0 to 1000000.
     pub lost: u64,
 }

@@ -1,4 +1,4 @@
-//! An attempt.
+//! An attempt, as the core keeps it.
 use work_core::Budget;
 
 /// An attempt: the place of its key among those that came, its budget, and whether it is out.

@@ -1,4 +1,4 @@
-//! What becomes of an event.
+//! What becomes of what came for an attempt.
 use poly_model::Overflow;
 
 /// What becomes of an event.

@@ -1,4 +1,4 @@
-//! What the calls of a disk in memory do, one after the other.
+//! The table that says what each call of a disk in memory does.
 
 /// What one call does.
 #[derive(Clone, Copy, Debug, PartialEq, Eq)]

@@ -1,4 +1,4 @@
-//! One file that outlives a crash.
+//! The trait of one file that outlives a crash.
 ghost use Rattle.std.specs.Prelude.{◌≡◌, ◌≤◌, ◌<◌, List, ℕ, Option, Some, length, take, drop, IfOk, OnOk};
 ghost use Rattle.std.specs.Io.{ReadsAtMost};
 ghost use Rattle.poly_io.specs.Causes.{HasCause};

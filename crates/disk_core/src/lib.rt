@@ -1,4 +1,4 @@
-//! A disk as a ledger sees it: one file, what a crash may leave of it, and how often it failed.
+//! A disk as a ledger sees it: one file, what a crash may leave of it, and how often a call failed.
 #![tactic(auto)]
 
 mod calls;

@@ -1,4 +1,4 @@
-//! A disk in memory, whose calls a table can make fail, cut short or stop.
+//! A disk in memory; a table says which of its calls fail, are cut short or stop the program.
 ghost use Rattle.std.specs.Prelude.{◌≡◌, ℕ, Some, length, min, ◌-◌, ◌^◌, Result, IfOk, OnOk};
 ghost use Rattle.poly_io.specs.Causes.{HasCause};
 ghost use Rattle.disk_core.specs.Images.{Only};

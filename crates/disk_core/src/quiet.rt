@@ -1,4 +1,4 @@
-//! Calls of a disk that make no new image, with what they leave said of all moments within them.
+//! Calls of a disk that make no new image, with clauses on every moment within them.
 ghost use Rattle.std.specs.Prelude.{◌≡◌, ◌≤◌, ◌<◌, ◌+◌, ◌^◌, List, ℕ, Some, length, take, drop, IfOk, OnOk};
 ghost use Rattle.poly_io.specs.Causes.{HasCause};
 ghost use Rattle.disk_core.specs.Contents.{Told};

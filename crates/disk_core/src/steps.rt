@@ -1,4 +1,4 @@
-//! What was done to a file in memory.
+//! The steps that were done to a file in memory.
 use poly_io::Bytes;
 
 /// A step that changes what a crash may leave.

@@ -1,4 +1,4 @@
-//! One step with the sync behind it: a crash within it leaves the file as it was, changed, or on the way.
+//! One step and the sync after it: a crash within it leaves the file as it was, changed, or on the way.
 ghost use Rattle.std.specs.Prelude.{◌≡◌, ◌≤◌, List, ℕ, Some, length, OnOk};
 ghost use Rattle.poly_io.specs.Causes.{HasCause};
 ghost use Rattle.disk_core.specs.Contents.{Cut, Holds, Told, Torn, resized};

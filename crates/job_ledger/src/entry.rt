@@ -1,4 +1,4 @@
-//! What stands at a gate, read off the bytes there.
+//! What stands at a gate, as its bytes say.
 ghost use Rattle.std.specs.Prelude.{◌≡◌, ◌<◌, ◌+◌, ℕ, List, length, take};
 ghost use Rattle.job_ledger.specs.Entries.{IsBehindGate, IsEntry};
 

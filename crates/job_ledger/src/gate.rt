@@ -1,4 +1,4 @@
-//! The gates of a file: the first one, and the one that is opened once a record stands behind it.
+//! The gates of a file: the first one, and the one that is opened once its record is there.
 ghost use Rattle.std.specs.Prelude.{true, false, ◌≡◌, ◌⊎◌, ◌<◌, ◌+◌, ◌^◌, ◌++◌, ◌∷◌, [], List, ℕ, Some, length, OnOk, IfOk, IsErrOf};
 ghost use Rattle.poly_io.specs.Causes.{HasCause};
 ghost use Rattle.disk_core.specs.Contents.{Told};

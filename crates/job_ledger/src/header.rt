@@ -1,4 +1,4 @@
-//! The length of a payload as it stands before it: 13 decimal digits and LF.
+//! The length in front of a payload: 13 decimal digits and LF.
 ghost use Rattle.std.specs.Prelude.{true, false, ◌≡◌, ◌<◌, ◌^◌, ◌-◌, ◌++◌, ℕ, List, length, IsTrue, ◌↔◌, MatchOption, OnOk, min};
 ghost use Rattle.job_ledger.specs.Records.{digits, header};
 ghost use Rattle.job_ledger.specs.Values.{decimal_value};

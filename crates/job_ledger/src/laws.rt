@@ -1,4 +1,4 @@
-//! The law of the layout.
+//! The law that each file has one layout.
 ghost use Rattle.std.specs.Prelude.{List, ℕ};
 ghost use Rattle.job_ledger.specs.Records.{HasOneLayout};
 

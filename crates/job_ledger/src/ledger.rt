@@ -53,7 +53,7 @@ fn framed(alloc: Global, payload: &[u8]) -> Result<Vec<u8>, AllocError>
 
 impl Ledger {
     /// Begins a ledger of at most `limit` bytes by its first record, where the file has no run. The order: the file is
-    /// synced, `HasRun`, `LedgerLimit`, want of memory, and only then is something written. An image of the call is one
+    /// synced, `HasRun`, `LedgerLimit`, lack of memory, and only then is something written. An image of the call is one
     /// from before, has no run, or has that record.
     pub fn create<D: Disk>(
         alloc: Global,
@@ -189,7 +189,7 @@ impl Ledger {
         self.end
     }
 
-    /// The bytes of the next record, with a closed gate behind it. Refused as `LedgerLimit` or for want of memory.
+    /// The bytes of the next record, with a closed gate behind it. Refused as `LedgerLimit` or for lack of memory.
     fn staged(&self, payload: &[u8]) -> Result<Vec<u8>, LedgerStop>
         ensures bytes { IfOk result (λ v. v.items ≡ frame payload.now ++ 0 ∷ []) }
         ensures fits { OnOk result (need_of self.now (length payload.now) ≤ self.now.limit) }

@@ -1,4 +1,4 @@
-//! Records that are kept across a crash.
+//! Records in one file, which outlive a crash.
 #![tactic(auto)]
 
 mod entry;

@@ -1,4 +1,4 @@
-//! Bytes of a file, read into a vector.
+//! Reads bytes of a file into a vector.
 ghost use Rattle.std.specs.Prelude.{◌≡◌, ◌<◌, ◌+◌, ◌^◌, List, ℕ, take, drop, OnOk};
 ghost use Rattle.disk_core.specs.Contents.{Told};
 ghost use Rattle.disk_core.specs.Moments.{IsQuiet};

@@ -1,4 +1,4 @@
-//! How a ledger refuses.
+//! Why a call of a ledger stopped.
 ghost use Rattle.std.specs.Prelude.{◌≡◌};
 
 use poly_io::Failed;

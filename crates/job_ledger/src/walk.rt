@@ -1,4 +1,4 @@
-//! The records of a file, gate after gate.
+//! Goes through the records of a file, from gate to gate.
 ghost use Rattle.std.specs.Prelude.{◌≡◌, ◌<◌, List, ℕ, Some, length, IfOk, IsErrOf};
 ghost use Rattle.disk_core.specs.Contents.{Told};
 ghost use Rattle.disk_core.specs.Moments.{IsQuiet};

@@ -1,4 +1,4 @@
-//! The entries of a row, read into place.
+//! Reads the entries of a row into their places.
 ghost use Rattle.std.specs.Prelude.{◌≡◌, ℤ, List, length, IfOk, IsTrue, IsFalse};
 ghost use Rattle.std.specs.List.{AllByRecursion};
 ghost use Rattle.poly_num.specs.Numbers.{IsNum};
@@ -11,7 +11,7 @@ use plain_text::{next_digit, next_num};
 use poly_num::{Num, is_primitive};
 use std::alloc::{AllocError, Global};
 
-/// So many zeros: room for a row that is read. Refused for want of memory.
+/// So many zeros: room for a row that is read. Refused for lack of memory.
 pub fn zeros(alloc: Global, n: u32) -> Result<Vec<Num>, AllocError>
     ensures { IfOk result (λ row. length row.items ≡ n) }
 {

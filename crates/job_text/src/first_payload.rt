@@ -1,4 +1,4 @@
-//! The first payload of a ledger.
+//! Reads the first payload of a ledger.
 ghost use Rattle.std.specs.Prelude.{◌≡◌, ◌↔◌, ◌<◌, ◌^◌, ⊤, ℕ, List, length, IfOk, IfSome, IsNone, IsErrOf, IsTrue};
 ghost use Rattle.plain_text.specs.Texts.{IsLineReadOf, IsReadOf};
 ghost use Rattle.work_core.specs.Searches.{Search};

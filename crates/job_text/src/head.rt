@@ -1,4 +1,4 @@
-//! The six lines of a job text.
+//! The first five lines of a job text: its work, root, key and budget.
 ghost use Rattle.std.specs.Prelude.{◌≡◌, ◌++◌, ◌∷◌, ℕ, List, Some, IfOk, IfErr};
 ghost use Rattle.plain_text.specs.Digits.{capped, decimal_of};
 ghost use Rattle.job_text.specs.Jobs.{HasHeadText, IsBadLine, five_lines, input_line};

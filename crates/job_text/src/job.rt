@@ -1,4 +1,4 @@
-//! Jobs.
+//! What a job is.
 use poly_model::{Key, Poly, Root, WorkKind};
 use work_core::Budget;
 

@@ -1,4 +1,4 @@
-//! Keys, read from their texts.
+//! Reads keys from their texts.
 ghost use Rattle.std.specs.Prelude.{◌≡◌, ◌≤◌, ◌++◌, length, take, IfSome, IsNone, List, ℕ};
 ghost use Rattle.std.specs.List.{AllByRecursion};
 ghost use Rattle.plain_text.specs.Cuts.{GoesOnWith};

@@ -1,4 +1,4 @@
-//! Labels, read from their texts.
+//! Reads labels from their texts.
 ghost use Rattle.std.specs.Prelude.{◌≡◌, ◌≤◌, ◌<◌, decimal};
 ghost use Rattle.plain_text.specs.Texts.{IsReadOf};
 ghost use Rattle.poly_model.specs.Labels.{coordinates_from, coordinate_index};
@@ -47,7 +47,7 @@ pub(crate) fn read_label(word: &[u8]) -> Option<Label>
     }
 }
 
-/// The same, and `c` for the constant column.
+/// The label of a word: one that `read_label` reads, or `c` for the constant column.
 pub(crate) fn read_place_label(word: &[u8]) -> Option<Label>
     ensures { IsReadOf IsPlaceLabel label_text word.now result }
 {

@@ -1,4 +1,4 @@
-//! The lines of a job text, each read with what stands behind it.
+//! Reads the lines of a job text, each with what comes after it.
 ghost use Rattle.std.specs.Prelude.{◌≡◌, ◌≤◌, ◌<◌, ◌^◌, ◌++◌, ◌∷◌, ℕ, List, length, Some, IfSome, IsNone, IsTrue, IsFalse, decimal, codes, ⊤};
 ghost use Rattle.plain_text.specs.Digits.{capped, decimal_of};
 ghost use Rattle.plain_text.specs.Cuts.{Lacks};

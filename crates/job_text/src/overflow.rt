@@ -1,4 +1,4 @@
-//! Overflows, read from their texts.
+//! Reads overflows from their texts.
 ghost use Rattle.std.specs.Prelude.{◌≡◌, ◌==◌, ◌++◌, ◌∷◌, position, MatchOption, ⊤};
 ghost use Rattle.plain_text.specs.Cuts.{Lacks};
 ghost use Rattle.plain_text.specs.Texts.{IsReadOf, IsFrontReadOf};

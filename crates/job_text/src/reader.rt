@@ -1,4 +1,4 @@
-//! Replies that are read.
+//! Reads replies.
 ghost use Rattle.std.specs.Prelude.{◌≡◌, ◌<◌, ◌+◌, ◌^◌, ℕ, length, IfOk, IsErrOf};
 ghost use Rattle.job_text.specs.Replies.{IsWholeReply, IsNotWhole};
 ghost use Rattle.job_text.specs.declared.reply.Reply.{Reply as Whole};
@@ -13,7 +13,7 @@ use std::alloc::Global;
 /// Reads replies.
 pub struct ReplyReader;
 
-// The same stop, so many bytes further on.
+// The stop of a text that began so many bytes further on.
 fn further(stop: ReplyStop, start: u64) -> ReplyStop
     requires { (place : ℕ) → stop ≡ ReplyStop.NotWhole place → start + place < 2 ^ 64 }
     ensures { (place : ℕ) → result ≡ ReplyStop.NotWhole place

@@ -1,4 +1,4 @@
-//! Job texts that are read.
+//! Reads job texts.
 ghost use Rattle.std.specs.Prelude.{◌≡◌, ℕ, IfOk, IsErrOf};
 ghost use Rattle.job_text.specs.Jobs.{IsBadText, IsJobText};
 

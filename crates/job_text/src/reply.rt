@@ -1,4 +1,4 @@
-//! Replies.
+//! What a reply is.
 use crate::ReplyRows;
 use poly_model::{Count, Key, Keys, Overflow};
 

@@ -1,4 +1,4 @@
-//! The last line of a reply, written.
+//! Writes the last line of a reply.
 ghost use Rattle.std.specs.Prelude.{◌++◌, ◌∷◌, [], codes};
 ghost use Rattle.poly_io.specs.Written.{Prints};
 ghost use Rattle.row_printer.specs.OverflowText.{overflow_text};

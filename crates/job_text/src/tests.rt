@@ -1,4 +1,4 @@
-//! A job and a reply that were written out by hand, and texts that are none.
+//! A job and a reply that were written out by hand, and texts that are no job or no reply.
 use crate::{
     BadReply, JobHead, JobReadStop, PayloadStop, ReplyReader, ReplyStop, Tail, next_row,
     read_entries, read_first_payload, read_job, read_key, rows_behind, write_first_payload,

@@ -1,4 +1,4 @@
-//! What stands behind one blank in front of a text, each with the rest.
+//! Reads what comes after one blank in front of a text, with the rest.
 ghost use Rattle.std.specs.Prelude.{◌≡◌, ◌<◌, ◌^◌, ◌∷◌, decimal};
 ghost use Rattle.plain_text.specs.Texts.{IsFrontReadOf};
 ghost use Rattle.poly_model.specs.LabelText.{key_text};

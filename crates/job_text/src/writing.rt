@@ -1,4 +1,4 @@
-//! Texts that are written.
+//! Writes job texts, the first line of a reply, and the first payload of a ledger.
 ghost use Rattle.std.specs.Prelude.{◌≡◌, ◌++◌, ◌∷◌, [], codes, IfOk, decimal};
 ghost use Rattle.poly_io.specs.Written.{Prints};
 ghost use Rattle.poly_model.specs.LabelText.{key_text};
@@ -104,7 +104,7 @@ fn write_first_text<S: Sink>(
 }
 
 /// The first payload of a ledger: three lines and the file, as bytes. Where the root may be one of the work and the
-/// polyhedron is that of its own text, it is read back as this search. An error is want of memory.
+/// polyhedron is that of its own text, it is read back as this search. An error is lack of memory.
 pub fn write_first_payload(
     alloc: Global,
     work: WorkKind,

@@ -1,6 +1,6 @@
-//! A call of `resume` goes on from what a call before it has left: laws, functions with an empty body. Each speaks of a disk
-//! before and after the earlier call, and of the disk that the later one finds, each image of which was left since the earlier
-//! call began.
+//! Laws, functions with an empty body: a call of `resume` goes on from what an earlier call has left. Each speaks of the disk
+//! before and after the earlier call, and of the disk that the later call finds; each image of that disk was left since the
+//! earlier call began.
 ghost use Rattle.std.specs.Prelude.{◌⊎◌, ◌∷◌, [], ℕ, List};
 ghost use Rattle.disk_core.specs.Moments.{LeavesOnly};
 ghost use Rattle.job_ledger.specs.Records.{HasNoRun};

@@ -1,4 +1,4 @@
-//! `convert`: a file from the input, its listing to the output.
+//! `convert`: reads a file from the input, and writes its listing to the output.
 ghost use Rattle.std.specs.Prelude.{◌≡◌, ◌⊎◌, ◌+◌, ℕ};
 ghost use Rattle.poly_io.specs.Causes.{Rose};
 ghost use Rattle.poly_io.specs.Taken.{TakesAtMost};

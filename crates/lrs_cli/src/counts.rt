@@ -1,4 +1,4 @@
-//! Lines with numbers.
+//! Lines of words and numbers.
 ghost use Rattle.std.specs.Prelude.{◌++◌, decimal};
 ghost use Rattle.poly_io.specs.Written.{Prints};
 ghost use Rattle.lrs_cli.specs.Counts.{counts_text};

@@ -1,4 +1,4 @@
-//! `demo`: what the listing of an example comes to, to the output.
+//! `demo`: writes the totals of the listing of an example to the output.
 ghost use Rattle.std.specs.Prelude.{◌≡◌, ◌≤◌};
 ghost use Rattle.poly_io.specs.Written.{Prints};
 ghost use Rattle.poly_model.specs.Extreme.{IsFeasible};

@@ -1,4 +1,4 @@
-//! What a call works on beside its output.
+//! What a call works on beside its output: its input, the disk of its ledger, its workers.
 use coordinator::Terms;
 
 /// The input of a call, the disk of its ledger, and its workers.

@@ -1,4 +1,4 @@
-//! `job`: a job text from the input, its reply to the output.
+//! `job`: reads a job text from the input, and writes its reply to the output.
 ghost use Rattle.std.specs.Prelude.{◌≡◌, ◌≤◌, ◌+◌};
 ghost use Rattle.job_text.specs.Limits.{most_job_bytes};
 ghost use Rattle.poly_io.specs.Taken.{TakesAtMost};

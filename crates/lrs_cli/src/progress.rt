@@ -1,4 +1,4 @@
-//! `status`: how far the run of a ledger is, to the output.
+//! `status`: writes to the output how far the run of a ledger is.
 ghost use Rattle.std.specs.Prelude.{◌≡◌};
 ghost use Rattle.lrs_cli.specs.Progress.{AnswersStatus};
 
@@ -25,7 +25,7 @@ pub fn progress<O: Sink, D: Disk>(alloc: Global, ledger: &str, disk: &mut D, out
     }
 }
 
-// The same of a ledger that is attached.
+// Prints how far the run is, of a ledger that is attached.
 fn progress_of<O: Sink, D: Disk>(alloc: Global, disk: &mut D, out: &mut O) -> Status
     ensures { AnswersStatus D.Disk disk.old disk.new (O.written out.old) (O.written out.new) (O.faults out.old)
         (O.faults out.new) (out.new ≡ out.old) result }

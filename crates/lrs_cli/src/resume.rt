@@ -1,4 +1,4 @@
-//! `resume`: on from a ledger, and the listing of what it searches.
+//! `resume`: goes on from a ledger, and writes the listing of the polyhedron that it searches.
 ghost use Rattle.std.specs.Prelude.{◌≡◌};
 ghost use Rattle.coordinator.specs.Calls.{AreTerms};
 ghost use Rattle.lrs_cli.specs.Ledgers.{DiskRose, RoseAt, resources};
@@ -32,7 +32,7 @@ pub fn resume_through<O: Sink, D: Disk, W: Workers>(
     }
 }
 
-// The same of a ledger that is attached. The base is what the sink has written at this call.
+// Goes on with the run, of a ledger that is attached. The base is what the sink has written at this call.
 fn resume_over<B: Base, O: Sink, D: Disk, W: Workers>(
     call: &LedgerCall,
     disk: &mut D,

@@ -1,4 +1,4 @@
-//! `run`: a file from the input, its listing by workers, recorded in a new ledger.
+//! `run`: reads a file from the input, has workers find its listing, and records their replies in a new ledger.
 ghost use Rattle.std.specs.Prelude.{◌≡◌, ◌⊎◌, ◌+◌};
 ghost use Rattle.poly_io.specs.Taken.{TakesAtMost};
 ghost use Rattle.poly_reader.specs.Limits.{most_file_bytes};

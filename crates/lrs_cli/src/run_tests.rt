@@ -1,5 +1,5 @@
-//! Runs of the pyramid over a square by workers in memory that lose, cut, repeat and hold back replies, over files that fail
-//! and stop, and on from what is left.
+//! Runs of the pyramid over a square, by workers in memory that lose, cut, repeat and hold back replies, over files that
+//! fail and stop; and runs that go on from what these leave.
 ghost use Rattle.std.specs.Prelude.{◌<◌};
 
 use crate::devices::Devices;

@@ -32,7 +32,7 @@ pub enum Status {
     WriteFault,
     /// The ledger could not be read or written, or another process holds it.
     DiskFault,
-    /// More replies of workers were lost or led nowhere than are borne: so many of each.
+    /// So many losses and strays came: more together than the call allows.
     Lost { lost: u64, strays: u64 },
     /// The ledger has no run: its file is empty, or its first gate is closed.
     NoRun,

@@ -1,4 +1,4 @@
-//! A run that begins: the first record of its ledger, and its state before any reply.
+//! How a run begins: the first record of its ledger, and its state before any reply.
 ghost use Rattle.std.specs.Prelude.{◌≡◌, ◌⊎◌, ◌≤◌, ◌^◌, ◌∷◌, [], ℕ, Some, length, IfOk, OnOk, OnErr, IsErrOf};
 ghost use Rattle.disk_core.specs.Contents.{Told};
 ghost use Rattle.disk_core.specs.Moments.{LeavesOnly};
@@ -29,7 +29,7 @@ fn staged(alloc: Global, first: FirstPayload) -> Result<(Bytes, RunState), Alloc
 }
 
 /// Begins a run in a file that has none: a ledger of at most `limit` bytes, whose first record says what is searched,
-/// and the state before any reply. `HasRun`, `LedgerLimit` and want of memory come before anything is written. An image
+/// and the state before any reply. `HasRun`, `LedgerLimit` and lack of memory come before anything is written. An image
 /// of the call is one from before, has no run, or has that record.
 pub fn begin_run<D: Disk>(
     alloc: Global,

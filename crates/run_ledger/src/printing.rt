@@ -1,4 +1,4 @@
-//! The recorded rows of a run, printed as a listing.
+//! Prints the recorded rows of a run as a listing.
 ghost use Rattle.std.specs.Prelude.{◌≡◌, ◌<◌, ◌≤◌, ◌+◌, ◌^◌, List, ℕ, Some, length, slice_get, IfOk, IsErrOf};
 ghost use Rattle.poly_io.specs.Causes.{RisesAt};
 ghost use Rattle.disk_core.specs.Moments.{IsQuiet};

@@ -5,6 +5,6 @@
 pub struct Progress {
     pub done: u64,
     pub waiting: u64,
-    /// The number stands still at `2^64 - 1`.
+    /// The number is saturated at `2^64 - 1`.
     pub rows: u64,
 }

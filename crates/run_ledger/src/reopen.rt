@@ -1,4 +1,4 @@
-//! A run that is read again from its ledger.
+//! Reads a run again from its ledger.
 ghost use Rattle.std.specs.Prelude.{◌≡◌, ◌<◌, ◌≤◌, ◌+◌, ◌^◌, ◌∷◌, ◌++◌, [], List, ℕ, Some, length, slice_get, take, IfOk, OnOk, IsErrOf};
 ghost use Rattle.poly_io.specs.Causes.{RisesAt};
 ghost use Rattle.disk_core.specs.Contents.{Told};

@@ -1,4 +1,4 @@
-//! The rows of a reply, printed.
+//! Prints the rows of a reply.
 ghost use Rattle.std.specs.Prelude.{◌≡◌, ℕ, List, IfOk, IsErrOf, IsTrue, length};
 ghost use Rattle.std.specs.List.{AllByRecursion};
 ghost use Rattle.poly_num.specs.Numbers.{IsNum};
@@ -61,7 +61,7 @@ fn write_row<O: Sink>(
     }
 }
 
-// The same, and counts it.
+// Writes the row whose entries this line has, and counts it.
 fn print_row<O: Sink>(
     line: &[u8],
     row: &mut [Num],

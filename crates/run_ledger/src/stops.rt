@@ -1,4 +1,4 @@
-//! Why a call on the records of a run is given up.
+//! Why a call on the records of a run stopped.
 use poly_io::WriteFault;
 use std::alloc::{AllocError, AllocFailed};
 

@@ -1,4 +1,4 @@
-//! How far a run is, printed.
+//! Prints how far a run is.
 ghost use Rattle.std.specs.Prelude.{◌≡◌, ◌≤◌, ◌^◌, ℕ, Some, IfOk, OnErr, IsErrOf};
 ghost use Rattle.std.specs.Io.KnownBytes.{Appends};
 ghost use Rattle.poly_io.specs.Written.{AppendsPart, Prints};

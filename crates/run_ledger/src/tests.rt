@@ -1,4 +1,4 @@
-//! A run that is begun, goes on, is told and printed; and files and devices at which these calls stop.
+//! A run that is begun, goes on, is counted and printed; and files and devices at which these calls stop.
 ghost use Rattle.std.specs.Prelude.{◌≡◌, length, IfOk};
 
 use crate::{

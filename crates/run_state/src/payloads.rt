@@ -1,4 +1,4 @@
-//! The payloads of a ledger behind the first, read.
+//! Reads the payloads of a ledger after the first.
 ghost use Rattle.std.specs.Prelude.{◌≡◌, IfOk, IsErrOf, IsTrue, IsFalse};
 ghost use Rattle.job_text.specs.declared.reply.Reply.{Reply as TheReply};
 ghost use Rattle.job_text.specs.Replies.{IsWholeReply};

@@ -43,7 +43,7 @@ impl Model for RunState {
 }
 
 impl RunState {
-    /// Where a run begins: the first key waits. An error is want of memory.
+    /// Where a run begins: the first key waits. An error is lack of memory.
     pub fn begin(
         alloc: Global,
         work: WorkKind,
@@ -166,7 +166,7 @@ impl RunState {
         &self.poly
     }
 
-    /// How many rows are recorded. It stands still at 2^64 - 1.
+    /// How many rows are recorded. The number is saturated at 2^64 - 1.
     pub fn rows(&self) -> u64
         ensures { result ≡ self.now.rows }
     {
@@ -198,7 +198,7 @@ impl RunState {
     }
 
     /// The places of the keys that wait, in the order in which they came. It costs a step for each key that came. An
-    /// error is want of memory.
+    /// error is lack of memory.
     pub fn waiting_places(&self) -> Result<VecDeque<usize>, AllocError>
         ensures keys { IfOk result (λ places. map (key_at self.now.came) places.items ≡ self.now.keys.waiting) }
         ensures within { IfOk result (λ places. (i : ℕ) → Contains places.items i → i < length self.now.came) }

@@ -1,4 +1,4 @@
-//! Why records are not taken.
+//! Why records or a reply are refused.
 use poly_model::Key;
 
 /// Why payloads are not replayed.

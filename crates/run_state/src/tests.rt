@@ -1,4 +1,4 @@
-//! Replies that are taken one after the other, with what each answers, and payloads that are a ledger text or break it.
+//! Replies that are taken one after the other, with what each call answers, and payloads that are a ledger text or break it.
 use crate::{AcceptStop, ReplayStop, RunState};
 use job_text::{ReplyReader, read_key};
 use poly_io::Bytes;

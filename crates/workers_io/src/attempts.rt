@@ -1,4 +1,4 @@
-//! The attempts that are out, at a collect.
+//! How a collect takes an attempt off those that are out.
 ghost use Rattle.std.specs.Prelude.{◌≡◌};
 ghost use Rattle.workers_io.specs.Collects.{collected_attempt, out_after};
 

@@ -1,4 +1,4 @@
-//! What a worker gave.
+//! What a worker gave for an attempt.
 use poly_io::Bytes;
 
 /// What was collected, for an attempt of this number.

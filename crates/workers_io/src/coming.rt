@@ -1,4 +1,4 @@
-//! What is still to come of an attempt.
+//! What an attempt at workers in memory is still to give.
 use crate::Collected;
 
 /// What is still to come: at its turn, or after the next one that is there.

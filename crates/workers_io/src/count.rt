@@ -6,7 +6,7 @@ ghost use Rattle.workers_io.specs.Collects.{IsBroken};
 use crate::Collected;
 use poly_io::Failed;
 
-/// Counts a fault where this is one. At the end of its type the count stands still.
+/// Counts a fault where this is one. A saturated count stays as it is.
 pub(crate) fn count_fault(done: Result<(), Failed>, faults: &mut u64)
     ensures { HasCause faults.old faults.new done }
 {

@@ -1,4 +1,4 @@
-//! What becomes of a start.
+//! What becomes of a start at workers in memory.
 
 /// What becomes of a start at workers in memory, and of its reply.
 #[derive(Clone, Copy, Debug, PartialEq, Eq)]

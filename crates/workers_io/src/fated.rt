@@ -1,4 +1,4 @@
-//! What becomes of a reply.
+//! What becomes of a reply at workers in memory.
 ghost use Rattle.std.specs.Prelude.{◌≡◌, map, drop, IfOk};
 ghost use Rattle.workers_io.specs.Memory.{changed, fated, first_fate, prompt};
 

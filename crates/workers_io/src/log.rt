@@ -1,4 +1,4 @@
-//! A history in memory.
+//! A history, kept in memory.
 ghost use Rattle.std.specs.Prelude.{◌≡◌, ◌∷◌, [], Some, None, IfOk, OnOk, OnErr, IsTrue, IsFalse, ◌++◌};
 ghost use Rattle.workers_io.specs.History.{Tells, started, refused};
 ghost use Rattle.workers_io.specs.Collects.{happening_of};

@@ -61,7 +61,7 @@ impl ReplyFile {
         read_whole(alloc, &mut source, MOST_REPLY_BYTES).ok()
     }
 
-    /// The same file with nothing in it, for the next child. The last one must have ended: what it printed from now on would
+    /// This file with nothing in it, for the next child. The last one must have ended: what it printed from now on would
     /// come into the next one's reply.
     pub(crate) fn emptied(mut self) -> io::Result<ReplyFile> {
         self.writer.set_len(0)?;

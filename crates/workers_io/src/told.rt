@@ -1,4 +1,4 @@
-//! What happened, as it is kept in memory.
+//! One start or collect of a history that is kept in memory.
 use poly_io::Bytes;
 
 /// A start or a collect, with what it gave.

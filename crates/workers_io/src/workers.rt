@@ -1,4 +1,4 @@
-//! Workers.
+//! The trait of all workers.
 ghost use Rattle.std.specs.Prelude.{◌≡◌, ◌<◌, ◌≤◌, ◌++◌, ◌∷◌, [], List, ℕ, Option, Some, length, IfOk, OnOk, OnErr};
 ghost use Rattle.poly_io.specs.Causes.{HasCause, Rose};
 ghost use Rattle.workers_io.specs.History.{Happening, IsHonest, Tells, refused, started};
