@@ -1,4 +1,3 @@
-pub mod Rays
 pub mod Rows
 pub mod Searches
 pub mod Listed

@@ -23,7 +23,8 @@ use Rattle.convert_core.specs.declared.walk.StepStop.{StepStop}
 use Rattle.convert_core.specs.declared.walk.StepStop.TheVariants.{Passing, WriteFault as Unwritten}
 use Rattle.convert_core.specs.declared.walk.Ended.{Ended}
 use Rattle.convert_core.specs.declared.walk.Ended.TheVariants.{Overflow, WriteFault}
-use Rattle.convert_core.specs.Rows.{WritesShown, FailsShown, columns_of}
+use Rattle.shown_vectors.specs.Shown.{columns_of}
+use Rattle.convert_core.specs.Rows.{WritesShown, FailsShown}
 
 -- ---- one step
 -- what is shown at a new cobasis was written; elsewhere nothing

@@ -4,5 +4,6 @@ pub mod EventLemmas
 pub mod MoreRecords
 pub mod CallEnds
 pub mod CallFaults
+pub mod CarriedCalls
 pub mod CallTexts
 pub mod RunsAgain

@@ -4,3 +4,6 @@ pub mod Starting
 pub mod Ending
 pub mod Stops
 pub mod Calls
+pub mod Going
+pub mod Running
+pub mod Resuming

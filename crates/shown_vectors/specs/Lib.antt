@@ -1,0 +1,3 @@
+pub mod Rays
+pub mod Shown
+pub mod Searches

@@ -1,0 +1,2 @@
+pub mod VisitLemmas
+pub mod RowsVisited
