@@ -8,10 +8,9 @@ use Rattle.search_laws.proofs.SearchRoots.{has_search_root}
 use Rattle.reverse_step.specs.Walks.{Walk}
 use Rattle.row_printer.specs.declared.tally.Tally.{Tally}
 use Rattle.row_printer.specs.Rows.{counted, sum_of_sizes, Counts}
-use Rattle.shown_vectors.specs.declared.rays.Rays.{Rays}
+use Rattle.convert_core.specs.declared.rays.Rays.{Rays}
 use Rattle.convert_core.specs.declared.totals.Totals.{Totals}
-use Rattle.shown_vectors.specs.Searches.{IsSearch}
-use Rattle.convert_core.specs.Searches.{IsAtRoot}
+use Rattle.convert_core.specs.Searches.{IsSearch, IsAtRoot}
 use Rattle.convert_core.specs.Totals.{AreTotals}
 
 -- a file that is searched has a point

@@ -1,5 +1,5 @@
 -- What a search begins with is one at the root.
-use Rattle.std.proofs.Common.{◌≡◌, ℕ, List, [], length, refl, sym, subst, arith}
+use Rattle.std.proofs.Common.{◌≡◌, ℕ, ◌≤◌, List, [], ◌∷◌, length, refl, sym, subst, arith}
 use Rattle.poly_num.specs.Vectors.{Vector}
 use Rattle.poly_model.specs.Spaces.{Space, main_space}
 use Rattle.poly_model.specs.Dictionaries.{IsDictionary}
@@ -16,11 +16,9 @@ use Rattle.dictionary.specs.Views.{Dictionary, table_of}
 use Rattle.linearity.specs.Prepared.{IsPrepared}
 use Rattle.phase_one.specs.Found.{IsFound}
 use Rattle.reverse_step.specs.Walks.{Walk, Stands}
-use Rattle.shown_vectors.specs.declared.rays.Rays.{Rays}
-use Rattle.shown_vectors.specs.Rays.{AreShown}
-use Rattle.shown_vectors.specs.Searches.{IsSearch}
-use Rattle.shown_vectors.proofs.Searches.{walk_at}
-use Rattle.convert_core.specs.Searches.{IsAtRoot, IsRootOf}
+use Rattle.convert_core.specs.declared.rays.Rays.{Rays}
+use Rattle.convert_core.specs.Rays.{AreShown}
+use Rattle.convert_core.specs.Searches.{IsSearch, IsAtRoot, IsRootOf}
 
 pub is_root_of : (p : Polyhedron) (lines : List Vector) (free : List ℕ) (start : Dictionary) →
     IsPrepared p lines free start → (root : List ℕ) (d : Dictionary) → IsFound p free root d → IsRootOf p root d lines
@@ -38,6 +36,10 @@ is_root_of p lines free start x root d found = record {
 }
 
 -- ---- the walk
+-- a walk that begins at this dictionary
+abbrev pub walk_at : Dictionary → List ℕ → Walk
+walk_at d root = record { dict = d; root = root; job = d.key; at = 0; parents = [] }
+
 module _ (p : Polyhedron) (root : List ℕ) (d : Dictionary) (lines : List Vector) (x : IsRootOf p root d lines) where
   abbrev space : Space
   space = main_space p x.free

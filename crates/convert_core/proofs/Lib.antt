@@ -1,3 +1,8 @@
+pub mod ShownRows
+pub mod LinearRows
+pub mod RowLists
+pub mod RowsOf
+pub mod ColumnsBefore
 pub mod RowsWritten
 pub mod Searching
 pub mod Stops

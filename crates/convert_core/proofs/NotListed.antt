@@ -26,9 +26,8 @@ use Rattle.row_printer.specs.declared.stop.ListStop.{ListStop}
 use Rattle.row_printer.specs.declared.stop.ListStop.TheVariants.{Infeasible, Overflow}
 use Rattle.row_printer.specs.Listings.{WritesListing, ListsIfFeasible}
 use Rattle.row_printer.proofs.ListingParts.{stops_at_once}
-use Rattle.shown_vectors.specs.declared.rays.Rays.{Rays}
-use Rattle.shown_vectors.specs.Searches.{IsSearch}
-use Rattle.convert_core.specs.Searches.{IsAtRoot}
+use Rattle.convert_core.specs.declared.rays.Rays.{Rays}
+use Rattle.convert_core.specs.Searches.{IsSearch, IsAtRoot}
 use Rattle.convert_core.specs.Listed.{TakesSteps, IsDueInSearch}
 
 pub not_listed : (p : Polyhedron) (old : Option (List ℕ)) (Unwritten : Type 0) (Passes : Passed → Type 0) → Unwritten →

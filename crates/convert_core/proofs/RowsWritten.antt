@@ -20,9 +20,8 @@ use Rattle.row_printer.specs.declared.shown.Shown.{Shown}
 use Rattle.row_printer.specs.declared.tally.Tally.{Tally}
 use Rattle.row_printer.specs.Rows.{Counts, HasWritten}
 use Rattle.row_printer.proofs.Tallies.{counts_none, counts_more}
-use Rattle.shown_vectors.specs.Shown.{IsColumnShown, column_rows}
-use Rattle.convert_core.specs.Rows.{WritesShown, FailsShown, ShowsColumns}
-use Rattle.shown_vectors.proofs.RowLists.{none_of_one, that_one, once_more, lists_more, only_more}
+use Rattle.convert_core.specs.Rows.{IsColumnShown, WritesShown, FailsShown, ShowsColumns, column_rows}
+use Rattle.convert_core.proofs.RowLists.{none_of_one, that_one, once_more, lists_more, only_more}
 
 -- ---- rows, and more rows
 pub has_more : (kind : Kind) (a b c : Option (List ℕ)) (before mid now : Tally) (xs ys : List Vector) →

@@ -12,15 +12,12 @@ use Rattle.reverse_step.specs.Walks.{Walk}
 use Rattle.row_printer.specs.declared.shown.Shown.{Shown}
 use Rattle.row_printer.specs.declared.tally.Tally.{Tally}
 use Rattle.row_printer.specs.Rows.{HasWritten}
-use Rattle.shown_vectors.specs.declared.rays.Rays.{Rays}
-use Rattle.shown_vectors.specs.Shown.{columns_of, column_rows}
-use Rattle.convert_core.specs.Rows.{WritesShown}
-use Rattle.shown_vectors.specs.Searches.{IsSearch}
-use Rattle.convert_core.specs.Searches.{IsAtRoot}
+use Rattle.convert_core.specs.declared.rays.Rays.{Rays}
+use Rattle.convert_core.specs.Rows.{WritesShown, columns_of, column_rows}
+use Rattle.convert_core.specs.Searches.{IsSearch, IsAtRoot}
 use Rattle.convert_core.specs.Listed.{WritesStep}
 use Rattle.convert_core.proofs.RowsWritten.{has_more}
-use Rattle.shown_vectors.proofs.Searches.{rows_here, another_vector, search_moves}
-use Rattle.convert_core.proofs.Searching.{IsListedSoFar, starts, goes_on, goes_back, lists_all}
+use Rattle.convert_core.proofs.Searching.{IsListedSoFar, starts, rows_here, another_vector, search_moves, goes_on, goes_back, lists_all}
 
 -- the rows of the cobases visited were written since the sink was as `o`, of one kind, and are counted; no write has
 -- failed

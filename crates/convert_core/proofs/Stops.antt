@@ -22,16 +22,14 @@ use Rattle.reverse_step.proofs.DueLemmas.{due_in_main}
 use Rattle.row_printer.specs.declared.shown.Shown.{Shown}
 use Rattle.row_printer.specs.declared.tally.Tally.{Tally}
 use Rattle.row_printer.specs.Rows.{HasWritten}
-use Rattle.shown_vectors.specs.declared.rays.Rays.{Rays}
+use Rattle.convert_core.specs.declared.rays.Rays.{Rays}
 use Rattle.convert_core.specs.declared.walk.Ended.{Ended}
 use Rattle.convert_core.specs.declared.walk.Ended.TheVariants.{Overflow, WriteFault}
-use Rattle.shown_vectors.specs.Shown.{columns_of, column_rows}
-use Rattle.convert_core.specs.Rows.{FailsShown}
-use Rattle.shown_vectors.specs.Searches.{IsSearch}
+use Rattle.convert_core.specs.Rows.{FailsShown, columns_of, column_rows}
+use Rattle.convert_core.specs.Searches.{IsSearch}
 use Rattle.convert_core.specs.Listed.{EndsStep, ListsRows}
 use Rattle.convert_core.proofs.RowsWritten.{part_more, part_all}
-use Rattle.shown_vectors.proofs.Searches.{some_rows_here, extreme_of_some, search_moves}
-use Rattle.convert_core.proofs.Searching.{IsListedSoFar, new_apart, stops_after, stops_here}
+use Rattle.convert_core.proofs.Searching.{IsListedSoFar, some_rows_here, extreme_of_some, search_moves, new_apart, stops_after, stops_here}
 
 part_of : {E : Type 0} (p : Polyhedron) (old new : Option (List ℕ)) (before : Tally) (result : Result Shown E) → IsErr result →
     (shown rest : List Vector) → AreExtreme (cone_of p) (shown ++ rest) →

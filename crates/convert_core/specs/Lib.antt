@@ -1,3 +1,4 @@
+pub mod Rays
 pub mod Rows
 pub mod Searches
 pub mod Listed

@@ -23,8 +23,7 @@ use Rattle.convert_core.specs.declared.walk.StepStop.{StepStop}
 use Rattle.convert_core.specs.declared.walk.StepStop.TheVariants.{Passing, WriteFault as Unwritten}
 use Rattle.convert_core.specs.declared.walk.Ended.{Ended}
 use Rattle.convert_core.specs.declared.walk.Ended.TheVariants.{Overflow, WriteFault}
-use Rattle.shown_vectors.specs.Shown.{columns_of}
-use Rattle.convert_core.specs.Rows.{WritesShown, FailsShown}
+use Rattle.convert_core.specs.Rows.{WritesShown, FailsShown, columns_of}
 
 -- ---- one step
 -- what is shown at a new cobasis was written; elsewhere nothing

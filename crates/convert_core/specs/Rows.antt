@@ -1,17 +1,53 @@
--- What is written of the rows that are shown at a cobasis.
-use Rattle.std.specs.Prelude.{◌≡◌, ℕ, ◌≤◌, List, Option, Result, Ok, Err}
+-- Which rows are shown at a cobasis, and what is written of them.
+use Rattle.std.specs.Prelude.{◌≡◌, ◌≢◌, ◌⊎◌, ℕ, ◌≤◌, List, ◌∷◌, map, Option, Result, Ok, Err}
 use Rattle.std.specs.List.{Contains, flat_map}
+use Rattle.poly_num.specs.Vectors.{Vector}
+use Rattle.poly_model.specs.declared.kind.Kind.TheVariants.{H, V}
+use Rattle.poly_model.specs.Labels.{constant_label}
 use Rattle.poly_model.specs.ListingText.{row_text}
 use Rattle.poly_model.specs.Systems.{System}
+use Rattle.poly_model.specs.Tree.{ShowsPoint, ShowsRay}
 use Rattle.linear_laws.specs.Distinct.{AreDistinct}
 use Rattle.search_laws.specs.Shares.{ListsAll}
-use Rattle.dictionary.specs.Views.{Dictionary}
+use Rattle.dictionary.specs.Views.{Dictionary, table_of}
+use Rattle.hull_lift.specs.Facets.{HasPointRows, IsShownColumn, primitive_column}
 use Rattle.poly_io.specs.Causes.{Rose}
 use Rattle.poly_io.specs.Written.{AppendsPart}
 use Rattle.row_printer.specs.declared.shown.Shown.{Shown}
 use Rattle.row_printer.specs.Rows.{HasWritten}
-use Rattle.shown_vectors.specs.Shown.{IsColumnShown, column_rows}
+use Rattle.convert_core.specs.declared.rays.Rays.{Rays}
+use Rattle.convert_core.specs.Rays.{HasLinearPoint, AreShown}
 
+-- ---- what is shown
+-- the point of the cobasis is. A V file has none
+abbrev pub IsPointShown : System → List ℕ → Dictionary → Type 0
+IsPointShown sys root d = (sys.kind ≡ H) × ShowsPoint d.labels root d.key (table_of d)
+
+-- the ray along the column of s is: by the ray test, and, of a V file, where it touches a point
+abbrev pub IsRayShown : System → List ℕ → Dictionary → ℕ → Type 0
+IsRayShown sys root d s =
+    ShowsRay d.labels root d.key (table_of d) s × (HasLinearPoint sys ⊎ IsShownColumn sys d s)
+
+-- the vector of a column is: that of the constants is the point
+abbrev pub IsColumnShown : System → List ℕ → Dictionary → ℕ → Type 0
+IsColumnShown sys root d col =
+    ((col ≡ constant_label) × IsPointShown sys root d) ⊎ ((col ≢ constant_label) × IsRayShown sys root d col)
+
+-- the columns of a dictionary: that of the constants, and those of the labels of the cobasis
+abbrev pub columns_of : Dictionary → List ℕ
+columns_of d = constant_label ∷ d.key
+
+-- where the tests can be made: no label of the cobasis is that of the constants
+pub record CanTest (sys : System) (d : Dictionary) (rays : Rays) : Type 0 where
+  pub labels : Contains d.key constant_label → ⊥
+  pub shown : AreShown sys rays
+  pub points : sys.kind ≡ V → (HasLinearPoint sys → ⊥) → HasPointRows sys d
+
+-- the rows of these columns
+abbrev pub column_rows : System → Dictionary → List ℕ → List Vector
+column_rows sys d cs = map (λ c. primitive_column d c sys.n) cs
+
+-- ---- what is written
 -- the rows of those of the columns that are shown
 pub record WritesShown {O : Type 0} (written : O → Option (List ℕ)) (faults : O → ℕ) (sys : System) (root : List ℕ)
     (d : Dictionary) (columns : List ℕ) (s : Shown) (old : O) (t : Shown) (new : O) : Type 0 where

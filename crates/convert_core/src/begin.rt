@@ -8,9 +8,9 @@ ghost use Rattle.poly_model.specs.Keys.{IsKey};
 ghost use Rattle.poly_model.specs.Limits.{most_columns};
 ghost use Rattle.poly_model.specs.PhaseOne.{IsSearchRoot};
 ghost use Rattle.poly_model.specs.Systems.{Polyhedron, cone_of};
-ghost use Rattle.shown_vectors.specs.Searches.{IsSearch};
-ghost use Rattle.convert_core.specs.Searches.{IsAtRoot, IsRootOf};
+ghost use Rattle.convert_core.specs.Searches.{IsSearch, IsAtRoot, IsRootOf};
 
+use crate::rays::rays_of;
 use crate::search::Search;
 use hull_lift::system_of;
 use linearity::{PrepareStop, prepare};
@@ -18,7 +18,6 @@ use phase_one::{FirstStop, Found, first};
 use poly_model::{Lines, OutOfMemory, Overflow, Poly, Root, System};
 use poly_num::Num;
 use reverse_step::Walker;
-use shown_vectors::rays_of;
 use std::alloc::Global;
 
 /// Why there is no search, or it was given up: no point satisfies the file, a number of a dictionary would pass 127 bits,

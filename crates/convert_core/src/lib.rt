@@ -7,6 +7,7 @@
 mod begin;
 mod discard;
 mod listing;
+mod rays;
 mod rows;
 mod search;
 #[cfg(test)]
@@ -16,4 +17,6 @@ mod walk;
 
 pub use begin::{SearchStop, search_root};
 pub use listing::{convert, list};
+pub use rays::{Rays, rays_of};
+pub use rows::{Basis, shown_vector};
 pub use totals::{Totals, totals_of};

@@ -7,8 +7,7 @@ ghost use Rattle.poly_model.specs.Limits.{most_columns};
 ghost use Rattle.poly_model.specs.Systems.{cone_of};
 ghost use Rattle.poly_io.specs.Causes.{RisesAt};
 ghost use Rattle.row_printer.specs.Listings.{WritesListing, ListsIfFeasible};
-ghost use Rattle.shown_vectors.specs.Searches.{IsSearch};
-ghost use Rattle.convert_core.specs.Searches.{IsAtRoot};
+ghost use Rattle.convert_core.specs.Searches.{IsSearch, IsAtRoot};
 ghost use Rattle.convert_core.specs.Listed.{IsDueInSearch, TakesSteps};
 ghost use Rattle.dictionary.specs.Blanks.{IsBlankOf};
 

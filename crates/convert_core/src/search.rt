@@ -1,8 +1,8 @@
 //! What a listing by reverse search holds.
+use crate::rays::Rays;
 use poly_model::{Poly, System};
 use poly_num::Num;
 use reverse_step::Walker;
-use shown_vectors::Rays;
 
 /// A file with its cone, which of its rays are shown, a walk through the cobases of its main space, and room for a
 /// vector with a number for each column of the file.

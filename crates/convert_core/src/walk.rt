@@ -3,13 +3,11 @@ ghost use Rattle.std.specs.Prelude.{◌≡◌, ◌+◌, ◌≤◌, length, IfOk,
 ghost use Rattle.poly_io.specs.Causes.{RisesAt};
 ghost use Rattle.poly_model.specs.declared.overflow.Overflow.{Overflow as Passed};
 ghost use Rattle.poly_model.specs.Due.{IsDue, IsAskedInMain};
-ghost use Rattle.shown_vectors.specs.Shown.{columns_of};
-ghost use Rattle.convert_core.specs.Rows.{ShowsColumns};
-ghost use Rattle.shown_vectors.specs.Searches.{IsSearch};
-ghost use Rattle.convert_core.specs.Searches.{IsAtRoot};
+ghost use Rattle.convert_core.specs.Rows.{ShowsColumns, columns_of};
+ghost use Rattle.convert_core.specs.Searches.{IsSearch, IsAtRoot};
 ghost use Rattle.convert_core.specs.Listed.{WritesStep, EndsStep, ListsRows, TakesSteps, ended_by};
 
-use crate::rows::show_columns;
+use crate::rows::{Basis, show_columns};
 use crate::search::Search;
 use countdown::Countdown;
 use dictionary::{PassingProducts, Steps};
@@ -17,7 +15,6 @@ use poly_io::{Sink, WriteFault};
 use poly_model::Overflow;
 use reverse_step::Visit;
 use row_printer::Shown;
-use shown_vectors::Basis;
 use std::sync::ledger::Ledger;
 
 /// Why a walk ended before its end: a number of a dictionary would pass 127 bits, or a row could not be written.

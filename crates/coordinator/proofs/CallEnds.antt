@@ -1,5 +1,5 @@
 -- How a call comes to its end, on the disk and in what is printed.
-use Rattle.std.proofs.Common.{ℕ, List, ◌≡◌, [], ◌++◌, sym, ap, ◌∙◌, subst, append-nil, Option, Ok, Err, Result}
+use Rattle.std.proofs.Common.{ℕ, List, ◌≡◌, [], ◌++◌, sym, ap, ◌∙◌, subst, append-nil, Option, Ok, Err, Result, IfOk, IsErrOf}
 use Rattle.poly_model.specs.declared.listed.Listed.{Listed}
 use Rattle.poly_num.specs.Vectors.{Vector}
 use Rattle.poly_model.specs.FreeColumns.{AreLines}
@@ -19,9 +19,10 @@ use Rattle.run_state.specs.Runs.{Run}
 use Rattle.run_state.proofs.FollowLemmas.{run-search}
 use Rattle.workers_io.specs.History.{Happening}
 use Rattle.coordinator_laws.proofs.FollowLemmas.{runs-follow}
+use Rattle.coordinator.specs.declared.stops.GoStop.TheVariants.{LedgerLimit}
 use Rattle.coordinator.specs.Following.{LeadsTo}
 use Rattle.coordinator.specs.Leaving.{Adds, HasFront, LeavesFronts}
-use Rattle.coordinator.specs.Ending.{BreaksWith, PrintsWith, Rests, RestsWith}
+use Rattle.coordinator.specs.Ending.{PrintsWith, Rests, RestsWith}
 use Rattle.coordinator.proofs.MoreRecords.{front_none, leaves_join}
 
 module _ {D : Type 0} (disk : Disk D) where
@@ -56,10 +57,6 @@ module _ {D : Type 0} (disk : Disk D) where
   prints_join a b k l xs p old new result f g records s replies at text same =
       g (records ++ xs) s replies (f.kept records at) (subst (IsLedgerText s replies) (sym (append-nil (records ++ xs))) text) same
 
-  pub breaks_join : (a b : D) (k l : Known) (xs : List (List ℕ)) (p : Polyhedron) → Adds disk a b k l xs → BreaksWith disk b l [] p → BreaksWith disk a k xs p
-  breaks_join a b k l xs p f g records s replies at text same =
-      g (records ++ xs) s replies (f.kept records at) (subst (IsLedgerText s replies) (sym (append-nil (records ++ xs))) text) same
-
 -- ---- the answer of a printer, with another word for why it stopped
 pub writes_ok : {E F : Type 0} (s : Search) (replies : List Reply) (old new : Option (List ℕ)) (listed : Listed) →
     WritesRun {E = E} s replies old new (Ok listed) → WritesRun {E = F} s replies old new (Ok listed)
@@ -81,3 +78,12 @@ pub prints_from : {D E F : Type 0} (disk : Disk D) (d : D) (k : Known) (p q : Po
 prints_from disk d k p q lines lines' old new r r' listed same these are turned records s replies at text polyhedron =
     turned s replies (listed s replies records at (subst (IsLedgerText s replies) (append-nil records) text) (polyhedron ∙ sym same)
     (subst (λ (z : Polyhedron). AreLines (cone_of z) lines') (sym same) (subst (AreLines (cone_of p)) (sym these) are)))
+
+-- ---- whatever the answer
+pub if_ok : {T E : Type 0} {P : Type 0} (r : Result T E) → P → IfOk r (λ x. P)
+if_ok (Ok x) p = p
+if_ok (Err e) p = tt
+
+-- ---- a limit that is passed names its two numbers
+pub limits_are : {T : Type 0} (a b need most : ℕ) → IsErrOf {T = T} (Err (LedgerLimit a b)) (LedgerLimit need most) → (a ≡ need) × (b ≡ most)
+limits_are a b need most is = (cc, cc)

@@ -1,15 +1,13 @@
--- A count of faults through a call: first nothing was counted.
-use Rattle.std.proofs.Common.{ℕ, ◌≡◌, subst, ap, Err, Result}
-use Rattle.poly_io.specs.Causes.{RisesAt}
+-- A count of faults through a call, and other words for why it stopped.
+use Rattle.std.proofs.Common.{ℕ, ◌≡◌, ◌≤◌, ap, ◌∙◌, subst, Err}
+use Rattle.poly_io.specs.Causes.{Rose, RisesAt}
 use Rattle.run_ledger.proofs.Errors.{one_error}
 
-pub rises_behind : {T E : Type 0} (fault : E) (a b c : ℕ) (result : Result T E) → b ≡ a → RisesAt fault b c result → RisesAt fault a c result
-rises_behind fault a b c result same rises = subst (λ (n : ℕ). RisesAt fault n c result) same rises
-
--- the same stop of another call
-pub rises_there : {T U E : Type 0} (fault stop : E) (a b : ℕ) → RisesAt {T = T} fault a b (Err stop) → RisesAt {T = U} fault a b (Err stop)
-rises_there {T} {U} fault stop a b rises = record {
-  later = rises.later;
-  failed = λ e. rises.failed (ap Err (one_error {T = U} stop fault e));
-  same = λ no. rises.same (λ f. no (ap Err (one_error {T = T} stop fault f)));
+-- first nothing was counted, and then an error is told by another word
+pub rises_as : {T U E F : Type 0} (fault : E) (other : F) (stop : E) (told : F) (a b c : ℕ) → b ≡ a → (told ≡ other → stop ≡ fault) → (stop ≡ fault → told ≡ other) →
+    RisesAt {T = T} fault b c (Err stop) → RisesAt {T = U} other a c (Err told)
+rises_as {T} {U} fault other stop told a b c same back there rises = record {
+  later = subst (λ (n : ℕ). n ≤ c) same rises.later;
+  failed = λ e. subst (λ (n : ℕ). Rose n c) same (rises.failed (ap Err (back (one_error {T = U} told other e))));
+  same = λ no. rises.same (λ f. no (ap Err (there (one_error {T = T} stop fault f)))) ∙ same;
 }

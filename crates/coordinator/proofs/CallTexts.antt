@@ -1,17 +1,15 @@
 -- The records of a call stay a ledger text, and what they record is printed.
-use Rattle.std.proofs.Common.{ℕ, List, ◌≡◌, ◌⊎◌, inl, inr, [], ◌∷◌, ◌++◌, refl, sym, ap, ◌∙◌, subst, length, Option, Result}
+use Rattle.std.proofs.Common.{ℕ, List, ◌≡◌, ◌⊎◌, inl, inr, [], ◌∷◌, ◌++◌, refl, sym, ap, ◌∙◌, subst, Option, Ok, Err, Result}
 use Rattle.poly_model.specs.declared.listed.Listed.{Listed}
-use Rattle.poly_io.specs.declared.sink.Sink.{Ghosts as Sink}
 use Rattle.poly_reader.specs.Reading.{IsOfItsText}
 use Rattle.work_core.specs.Searches.{Search}
 use Rattle.job_text.specs.declared.reply.Reply.{Reply}
-use Rattle.job_text.specs.declared.first_payload.FirstPayload.{FirstPayload}
 use Rattle.job_text.specs.FirstPayloads.{IsRootText, first_payload}
 use Rattle.disk_core.specs.Contents.{Told}
 use Rattle.disk_core.specs.declared.disk.Disk.{Ghosts as Disk}
 use Rattle.disk_core.specs.Moments.{LeavesOnly}
 use Rattle.disk_core.proofs.Moments.{joined}
-use Rattle.job_ledger.specs.Ledgers.{IsLedgerAt, Known, grown, new_ledger}
+use Rattle.job_ledger.specs.Ledgers.{IsLedgerAt, Known}
 use Rattle.job_ledger.specs.Records.{HasNoRun, Records}
 use Rattle.run_state.specs.Payloads.{IsLedgerText}
 use Rattle.run_state.specs.Runs.{first_run}
@@ -19,20 +17,15 @@ use Rattle.run_state.proofs.FollowLemmas.{run-search}
 use Rattle.coordinator_core.specs.declared.options.Options.{Options}
 use Rattle.coordinator_core.specs.Machine.{State}
 use Rattle.coordinator_core.specs.Traces.{accepted}
-use Rattle.run_ledger.specs.Recorded.{search_in}
-use Rattle.workers_io.specs.declared.workers.Workers.{Ghosts as Workers}
 use Rattle.workers_io.specs.History.{Happening}
 use Rattle.coordinator_laws.specs.Courses.{Course, start_in}
 use Rattle.coordinator_laws.proofs.CourseLaws.{events_keep_text}
-use Rattle.coordinator.specs.declared.terms.Terms.{Terms}
-use Rattle.coordinator.specs.Calls.{MayRun, PrintsRecords, state_after}
-use Rattle.coordinator.specs.Following.{Finishes, LeadsTo}
+use Rattle.coordinator.specs.Calls.{PrintsRecords, state_after}
+use Rattle.coordinator.specs.Following.{Finishes, LeadsSomewhere, LeadsTo}
 use Rattle.coordinator.specs.Leaving.{HasFront, LeavesFronts}
-use Rattle.coordinator.specs.Ending.{BreaksWith, PrintsWith}
-use Rattle.coordinator.specs.Going.{call_from, devices}
-use Rattle.coordinator.specs.Running.{first_record, new_call}
-use Rattle.coordinator.proofs.CarriedCalls.{Carries}
-use Rattle.coordinator.proofs.MoreRecords.{front_none, refused_join}
+use Rattle.coordinator.specs.Ending.{PrintsWith}
+use Rattle.coordinator.proofs.MoreRecords.{front_none}
+use Rattle.coordinator.proofs.CallEnds.{writes_err, writes_ok}
 
 -- ---- the records
 pub first_text : (s : Search) → IsRootText s.work s.root → IsOfItsText s.polyhedron → IsLedgerText s [] (first_payload s ∷ [])
@@ -75,6 +68,19 @@ leaves_new {D} disk old mid new k payloads texts first at f =
     wider c (inr (inl b)) = inr (inl b)
     wider c (inr (inr r)) = inr (inr (front_none payloads texts c r))
 
+-- whatever a call answers that begins with these records
+pub goes_new : {D : Type 0} (disk : Disk D) (s : State) (payloads : List (List ℕ)) (old mid new : D) (core : State) (k : Known) (told told' : Option (List Happening)) →
+    Told (disk.seen old) (λ f. LeavesOnly disk.moment disk.since old mid (λ c. disk.images old c ⊎ (HasNoRun c ⊎ Records payloads c))) →
+    core ≡ s → Told (disk.seen old) (λ f. IsLedgerAt k payloads (disk.seen mid) (disk.images mid)) →
+    ((texts : List (List ℕ)) × LeadsSomewhere core told told' texts × LeavesFronts disk mid new k texts) →
+    (texts : List (List ℕ)) × LeadsSomewhere s told told' texts
+    × Told (disk.seen old) (λ f. LeavesOnly disk.moment disk.since old new (λ c. disk.images old c ⊎ (HasNoRun c ⊎ HasFront payloads texts c)))
+goes_new disk s payloads old mid new core k told told' moments is at (texts, leads, leaves) = (
+  texts,
+  subst (λ (z : State). LeadsSomewhere z told told' texts) is leads,
+  λ file there. leaves_new disk old mid new k payloads texts (moments file there) (at file there) leaves,
+)
+
 -- ---- what is printed
 module _ {D : Type 0} (disk : Disk D) (options : Options) (s : Search) (replies : List Reply) (payloads texts : List (List ℕ)) (core : State) (k : Known)
     (mid : D) (o n : Option (List Happening)) (t : IsLedgerText s replies payloads) (is : core ≡ state_after options s replies) (f : Finishes core o n texts)
@@ -94,33 +100,15 @@ module _ {D : Type 0} (disk : Disk D) (options : Options) (s : Search) (replies 
   }
 
   -- over a disk that keeps its model each record is a reply
-  pub never_bad : BreaksWith disk mid k texts core.run.search.polyhedron → ⊥
+  pub never_bad : ((records : List (List ℕ)) (z : Search) (rs : List Reply) → IsLedgerAt k records (disk.seen mid) (disk.images mid) →
+      IsLedgerText z rs (records ++ texts) → z.polyhedron ≡ core.run.search.polyhedron → ⊥) → ⊥
   never_bad bad = bad payloads s (replies ++ all-records.0) at all-records.1 same-polyhedron
 
--- ---- the call from the first record
-module _ {D W O : Type 0} (disk : Disk D) (workers : Workers W) (sink : Sink O) (terms : Terms) (first : FirstPayload) (old mid new : D) (w v : W) (o p : O) (core : State) (k : Known)
-    (may : MayRun first) (moments : Told (disk.seen old) (λ f. LeavesOnly disk.moment disk.since old mid (λ c. disk.images old c ⊎ (HasNoRun c ⊎ Records (first_record first ∷ []) c))))
-    (is : core ≡ state_after terms.options (search_in first) []) (kept : Told (disk.seen old) (λ f. IsLedgerAt k (first_record first ∷ []) (disk.seen mid) (disk.images mid)))
-    (knows : k ≡ grown (new_ledger terms.limit) (length (first_record first))) where
-  abbrev searched : Search
-  searched = search_in first
+-- with another word for why it stopped
+pub printed_ok : {E F : Type 0} (s : Search) (records : List (List ℕ)) (old new : Option (List ℕ)) (listed : Listed) →
+    PrintsRecords {E = E} s records old new (Ok listed) → PrintsRecords {E = F} s records old new (Ok listed)
+printed_ok s records old new listed p = record { replies = p.replies; is_text = p.is_text; writes = writes_ok s p.replies old new listed p.writes }
 
-  abbrev first_records : List (List ℕ)
-  first_records = first_record first ∷ []
-
-  text : IsLedgerText searched [] first_records
-  text = first_text searched may.root may.file
-
-  pub carries_new : Carries (call_from disk workers sink core k (devices mid w o) (devices new v p)) (new_call disk workers sink terms first (devices old w o) (devices new v p))
-  carries_new = record {
-    start = is;
-    before = refl;
-    after = refl;
-    leaves = λ texts l file told. leaves_new disk old mid new k first_records texts (moments file told) (kept file told) l;
-    rests = λ texts r file told. r first_records (kept file told);
-    prints = λ texts result f printed file told.
-        prints_on disk terms.options searched [] first_records texts core k mid _ _ text is f (kept file told) _ _ result printed;
-    breaks = λ texts f broken file told. never_bad disk terms.options searched [] first_records texts core k mid _ _ text is f (kept file told) broken;
-    refuses = λ texts need most r. refused_join (new_ledger terms.limit) k first_records texts need most knows r;
-    unwritten = λ u. u;
-  }
+pub printed_err : {E F : Type 0} (s : Search) (records : List (List ℕ)) (old new : Option (List ℕ)) (e : E) (f : F) →
+    PrintsRecords {E = E} s records old new (Err e) → PrintsRecords {E = F} s records old new (Err f)
+printed_err s records old new e f p = record { replies = p.replies; is_text = p.is_text; writes = writes_err s p.replies old new e f p.writes }

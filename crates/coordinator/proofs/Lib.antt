@@ -4,6 +4,5 @@ pub mod EventLemmas
 pub mod MoreRecords
 pub mod CallEnds
 pub mod CallFaults
-pub mod CarriedCalls
 pub mod CallTexts
 pub mod RunsAgain

@@ -1,27 +1,18 @@
 -- A run that goes on from the records of a file.
-use Rattle.std.proofs.Common.{arith, ℕ, suc, List, ◌≡◌, ◌⊎◌, inl, inr, ◌<◌, ◌^◌, [], ◌∷◌, refl, sym, ap, ◌∙◌, subst, length, Option, Some, Err}
+use Rattle.std.proofs.Common.{arith, ℕ, suc, List, ◌≡◌, ◌⊎◌, inl, inr, ◌<◌, ◌^◌, [], ◌∷◌, refl, sym, ap, ◌∙◌, subst, length, Option, Some, Ok, Err, Result, IfOk}
 use Rattle.std.specs.List.{All}
 use Rattle.std.proofs.lemmas.Bool.{le-ltb}
-use Rattle.std.specs.Result.{IsErrOf}
-use Rattle.poly_model.specs.declared.overflow.Overflow.{Overflow as Passed}
-use Rattle.poly_model.specs.Due.{IsDue, IsAskedBefore}
 use Rattle.poly_model.specs.Equations.{AreConsistent}
-use Rattle.poly_io.specs.declared.sink.Sink.{Ghosts as Sink}
 use Rattle.work_core.specs.Searches.{Search}
 use Rattle.job_text.specs.declared.reply.Reply.{Reply}
 use Rattle.disk_core.specs.Contents.{Told}
 use Rattle.disk_core.specs.declared.disk.Disk.{Ghosts as Disk}
 use Rattle.disk_core.specs.Moments.{LeavesOnly}
 use Rattle.disk_core.proofs.Moments.{joined}
-use Rattle.job_ledger.specs.Ledgers.{IsLedgerAt, Known, new_ledger, payload_sizes}
-use Rattle.job_ledger.specs.Records.{HasNoRun, IsShort, Records}
+use Rattle.job_ledger.specs.Ledgers.{IsLedgerAt, Known}
+use Rattle.job_ledger.specs.Records.{IsShort, Records}
 use Rattle.job_ledger.proofs.LayoutLemmas.{one_layout}
-use Rattle.linearity.specs.declared.preparing.PrepareStop.{PrepareStop}
-use Rattle.linearity.specs.declared.preparing.PrepareStop.TheVariants.{Inconsistent, Overflow, Memory as PrepareMemory}
-use Rattle.run_ledger.specs.declared.stops.ReopenStop.{ReopenStop}
-use Rattle.run_ledger.specs.declared.stops.ReopenStop.TheVariants.{NoRun, BadLedger, DiskFault, Memory}
-use Rattle.run_ledger.specs.Recorded.{IsBadLedger}
-use Rattle.workers_io.specs.declared.workers.Workers.{Ghosts as Workers}
+use Rattle.workers_io.specs.History.{Happening}
 use Rattle.run_state.specs.Payloads.{AreShort, IsLedgerText}
 use Rattle.run_state.specs.Runs.{IsRunOf, Run, first_run}
 use Rattle.run_state.proofs.FollowLemmas.{run-search}
@@ -29,14 +20,9 @@ use Rattle.run_state.proofs.MeaningLemmas.{one_ledger}
 use Rattle.coordinator_core.specs.declared.options.Options.{Options}
 use Rattle.coordinator_core.specs.declared.action.Action.TheVariants.{Finish}
 use Rattle.coordinator_core.specs.Machine.{State, next_action, start_of}
-use Rattle.coordinator.specs.declared.terms.Terms.{Terms}
 use Rattle.coordinator.specs.Calls.{RecordedRun, state_after, state_at}
-use Rattle.coordinator.specs.Going.{call_from, devices}
-use Rattle.coordinator.specs.Resuming.{IsPrepareStop, IsReopenStop, call_at}
+use Rattle.coordinator.specs.Following.{LeadsSomewhere}
 use Rattle.coordinator.specs.Leaving.{HasFront, LeavesFronts}
-use Rattle.coordinator.proofs.CallTexts.{never_bad, prints_on}
-use Rattle.coordinator.proofs.CarriedCalls.{Carries}
-use Rattle.coordinator.proofs.MoreRecords.{refused_join}
 
 -- ---- what the file tells
 abbrev pub recorded : (seen : Option (List ℕ)) (run : Run) (payloads : List (List ℕ)) → IsRunOf run payloads → Told seen (Records payloads) → RecordedRun seen
@@ -88,38 +74,24 @@ leaves_on {D} disk old mid new k payloads texts first at f =
     after : List ℕ → Type 0
     after c = disk.images old c ⊎ HasFront payloads texts c
 
--- ---- the call from these records
-module _ {D W O : Type 0} (disk : Disk D) (workers : Workers W) (sink : Sink O) (terms : Terms) (old mid new : D) (w v : W) (o p : O) (core : State) (k : Known)
-    (r : RecordedRun (disk.seen old)) (quiet : LeavesOnly disk.moment disk.since old mid (disk.images old)) (is : core ≡ state_at terms.options r)
-    (kept : Told (disk.seen old) (λ f. IsLedgerAt k r.payloads (disk.seen mid) (disk.images mid))) (limit : k.limit ≡ terms.limit) where
-  pub carries_again : Carries (call_from disk workers sink core k (devices mid w o) (devices new v p)) (call_at disk workers sink terms (devices old w o) (devices new v p) r)
-  carries_again = record {
-    start = is;
-    before = refl;
-    after = refl;
-    leaves = λ texts l file told. leaves_on disk old mid new k r.payloads texts quiet (kept file told) l;
-    rests = λ texts rests file told. rests r.payloads (kept file told);
-    prints = λ texts result f printed file told.
-        prints_on disk terms.options r.search r.replies r.payloads texts core k mid _ _ r.is_text is f (kept file told) _ _ result printed;
-    breaks = λ texts f broken file told.
-        never_bad disk terms.options r.search r.replies r.payloads texts core k mid _ _ r.is_text is f (kept file told) broken;
-    refuses = λ texts need most refused file told.
-        refused_join (new_ledger terms.limit) k r.payloads texts need most (known_as k terms.limit (payload_sizes r.payloads) limit (kept file told).sizes) refused;
-    unwritten = λ u. u;
-  }
+-- whatever a call answers that goes on from these records
+pub goes_again : {D : Type 0} (disk : Disk D) (options : Options) (old mid new : D) (core : State) (k : Known) (told told' : Option (List Happening)) →
+    LeavesOnly disk.moment disk.since old mid (disk.images old) →
+    ((r : RecordedRun (disk.seen old)) × (core ≡ state_at options r) × AreConsistent r.search.polyhedron
+    × Told (disk.seen old) (λ f. IsLedgerAt k r.payloads (disk.seen mid) (disk.images mid))) →
+    ((texts : List (List ℕ)) × LeadsSomewhere core told told' texts × LeavesFronts disk mid new k texts) →
+    (r : RecordedRun (disk.seen old)) × (texts : List (List ℕ)) × AreConsistent r.search.polyhedron
+    × LeadsSomewhere (state_at options r) told told' texts
+    × Told (disk.seen old) (λ f. LeavesOnly disk.moment disk.since old new (λ c. disk.images old c ⊎ HasFront r.payloads texts c))
+goes_again disk options old mid new core k told told' quiet (r, is, consistent, at) (texts, leads, leaves) = (
+  r,
+  texts,
+  consistent,
+  subst (λ (z : State). LeadsSomewhere z told told' texts) is leads,
+  λ file there. leaves_on disk old mid new k r.payloads texts quiet (at file there) leaves,
+)
 
--- ---- stops before its first action
-module _ {D T : Type 0} (disk : Disk D) (first last : D) where
-  pub reopen_stop : (stop : ReopenStop) → (IsErrOf {T = T} (Err stop) NoRun → Told (disk.seen first) (λ f. HasNoRun f × (disk.seen last ≡ Some f))) →
-      ((place : ℕ) → IsErrOf {T = T} (Err stop) (BadLedger place) → Told (disk.seen first) (λ f. IsBadLedger place f × (disk.seen last ≡ Some f))) → IsReopenStop disk first last stop
-  reopen_stop NoRun none bad = none refl
-  reopen_stop (BadLedger place) none bad = bad place refl
-  reopen_stop DiskFault none bad = tt
-  reopen_stop Memory none bad = tt
-
-  pub prepare_stop : (stop : PrepareStop) (r : RecordedRun (disk.seen first)) → Told (disk.seen first) (λ f. disk.seen last ≡ Some f) →
-      (IsErrOf {T = T} (Err stop) Inconsistent → AreConsistent r.search.polyhedron → ⊥) →
-      ((o : Passed) → IsErrOf {T = T} (Err stop) (Overflow o) → IsDue r.search.polyhedron o (IsAskedBefore r.search.polyhedron o)) → IsPrepareStop disk first last stop
-  prepare_stop Inconsistent r same not overflow = (r, not refl, same)
-  prepare_stop (Overflow o) r same not overflow = (r, overflow o refl, same)
-  prepare_stop PrepareMemory r same not overflow = tt
+-- ---- three facts of a value
+pub ok_three : {T E : Type 0} (r : Result T E) (P Q R S : T → Type 0) → ((x : T) → P x → Q x → R x → S x) → IfOk r P → IfOk r Q → IfOk r R → IfOk r S
+ok_three (Ok x) P Q R S f p q r = f x p q r
+ok_three (Err e) P Q R S f p q r = tt

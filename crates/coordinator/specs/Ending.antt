@@ -29,9 +29,3 @@ abbrev pub PrintsWith : {D E : Type 0} → Disk D → D → Known → List (List
 PrintsWith {D} {E} disk old ledger texts p written written' result =
     (records : List (List ℕ)) (s : Search) (replies : List Reply) → IsLedgerAt ledger records (disk.seen old) (disk.images old) →
     IsLedgerText s replies (records ++ texts) → s.polyhedron ≡ p → WritesRun s replies written written' result
-
--- and these are no ledger text of this polyhedron
-abbrev pub BreaksWith : {D : Type 0} → Disk D → D → Known → List (List ℕ) → Polyhedron → Type 0
-BreaksWith {D} disk old ledger texts p =
-    (records : List (List ℕ)) (s : Search) (replies : List Reply) → IsLedgerAt ledger records (disk.seen old) (disk.images old) →
-    IsLedgerText s replies (records ++ texts) → s.polyhedron ≡ p → ⊥

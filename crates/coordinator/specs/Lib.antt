@@ -4,6 +4,3 @@ pub mod Starting
 pub mod Ending
 pub mod Stops
 pub mod Calls
-pub mod Going
-pub mod Running
-pub mod Resuming

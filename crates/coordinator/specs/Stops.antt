@@ -1,4 +1,4 @@
--- Why a call stops in its turns, and when it prints.
+-- Why a call stops: before its first action, in its turns, and when it prints.
 use Rattle.std.specs.Prelude.{ℕ, List, Option, Result, OnErr, IsErrOf}
 use Rattle.poly_model.specs.declared.overflow.Overflow.{Overflow as Passed}
 use Rattle.disk_core.specs.declared.disk.Disk.{Ghosts as Disk}
@@ -7,6 +7,8 @@ use Rattle.workers_io.specs.History.{Happening}
 use Rattle.coordinator_core.specs.Machine.{State}
 use Rattle.coordinator.specs.declared.stops.GoStop.{GoStop}
 use Rattle.coordinator.specs.declared.stops.GoStop.TheVariants.{LedgerLimit, Overflow, Lost}
+use Rattle.coordinator.specs.declared.stops.ResumeStop.{ResumeStop}
+use Rattle.coordinator.specs.declared.stops.ResumeStop.TheVariants.{NoRun, BadLedger as BadAgain, LedgerLimit as LimitAgain, Lost as LostAgain, DiskFault as DiskAgain, WriteFault as WriteAgain}
 use Rattle.coordinator.specs.declared.stops.TurnStop.{TurnStop}
 use Rattle.coordinator.specs.declared.stops.TurnStop.TheVariants.{LedgerLimit as TurnLimit, Overflow as TurnOverflow}
 use Rattle.coordinator.specs.Following.{EndsBy, LeadsSomewhere}
@@ -17,6 +19,15 @@ pub record IsOfPrinting {T : Type 0} (result : Result T GoStop) : Type 0 where
   pub limit : (need most : ℕ) → IsErrOf result (LedgerLimit need most) → ⊥
   pub passes : (o : Passed) → IsErrOf result (Overflow o) → ⊥
   pub lost : (l t : ℕ) → IsErrOf result (Lost l t) → ⊥
+
+-- nothing of the file, the work and the sink
+pub record IsOfLines {T : Type 0} (result : Result T ResumeStop) : Type 0 where
+  pub none : IsErrOf result NoRun → ⊥
+  pub bad : (place : ℕ) → IsErrOf result (BadAgain place) → ⊥
+  pub limit : (need most : ℕ) → IsErrOf result (LimitAgain need most) → ⊥
+  pub lost : (l t : ℕ) → IsErrOf result (LostAgain l t) → ⊥
+  pub disk : IsErrOf result DiskAgain → ⊥
+  pub sink : IsErrOf result WriteAgain → ⊥
 
 -- whatever stops turns, steps have led somewhere, and each image has some first ones of the replies that they accept; at an
 -- overflow a reply ended the call, and the ledger has those before it; at a limit the last reply would pass it

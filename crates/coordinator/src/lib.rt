@@ -7,6 +7,7 @@ mod following;
 mod going;
 mod keeping;
 mod lines;
+mod reopening;
 mod resuming;
 mod running;
 mod starting;
@@ -19,6 +20,6 @@ mod turns;
 
 pub use resuming::resume;
 pub use running::run;
-pub use stops::{BeginStop, GoStop, ResumeStop, RunStop, TurnStop};
+pub use stops::{ResumeStop, RunStop, TurnStop};
 pub use terms::Terms;
 pub use turns::turn;

@@ -2,13 +2,12 @@
 ghost use Rattle.coordinator.specs.Calls.{AreTerms};
 
 use crate::lines::lines_of;
-use crate::{BeginStop, GoStop, ResumeStop, RunStop, Terms, resume, run};
+use crate::{ResumeStop, RunStop, Terms, resume, run};
 use coordinator_core::Options;
 use disk_core::MemDisk;
 use job_text::read_first_payload;
 use poly_io::{MemSink, Sink, WriteFault, write_all};
 use poly_model::{Count, Listed};
-use run_ledger::ReopenStop;
 use std::alloc::AllocError;
 use std::test::Fail;
 use work_core::{JobCall, JobStop};
@@ -92,7 +91,7 @@ const CASES: [Row; 5] = [
         file: b"",
         limit: 999,
         replies: &[SPLIT],
-        ran: Err(RunStop::Goes(GoStop::Lost { lost: 2, strays: 0 })),
+        ran: Err(RunStop::Lost { lost: 2, strays: 0 }),
         later: &[ROWS, ROWS, NONE],
         resumed: Ok(Listed { rows: 3, lines: 2 }),
         printed: WHOLE,
@@ -102,15 +101,15 @@ const CASES: [Row; 5] = [
         file: b"",
         limit: 150,
         replies: &[SPLIT],
-        ran: Err(RunStop::Goes(GoStop::LedgerLimit {
+        ran: Err(RunStop::LedgerLimit {
             need: 151,
             limit: 150,
-        })),
+        }),
         later: &[SPLIT],
-        resumed: Err(ResumeStop::Goes(GoStop::LedgerLimit {
+        resumed: Err(ResumeStop::LedgerLimit {
             need: 151,
             limit: 150,
-        })),
+        }),
         printed: "",
     },
     Row {
@@ -118,12 +117,12 @@ const CASES: [Row; 5] = [
         file: b"",
         limit: 90,
         replies: &[],
-        ran: Err(RunStop::Begins(BeginStop::LedgerLimit {
+        ran: Err(RunStop::LedgerLimit {
             need: 92,
             limit: 90,
-        })),
+        }),
         later: &[],
-        resumed: Err(ResumeStop::Reopens(ReopenStop::NoRun)),
+        resumed: Err(ResumeStop::NoRun),
         printed: "",
     },
     Row {
@@ -131,9 +130,9 @@ const CASES: [Row; 5] = [
         file: b"\xf5",
         limit: 999,
         replies: &[],
-        ran: Err(RunStop::Begins(BeginStop::HasRun)),
+        ran: Err(RunStop::HasRun),
         later: &[],
-        resumed: Err(ResumeStop::Reopens(ReopenStop::BadLedger { place: 1 })),
+        resumed: Err(ResumeStop::BadLedger { place: 1 }),
         printed: "",
     },
 ];

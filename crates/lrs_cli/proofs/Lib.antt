@@ -11,12 +11,10 @@ pub mod ListingLemmas
 pub mod CarriedEnds
 pub mod SearchLemmas
 pub mod FileLemmas
-pub mod RunStops
 pub mod RunThrough
 pub mod RunComplete
 pub mod RunHeadline
 pub mod RecordedLemmas
-pub mod ResumeStops
 pub mod ResumeThrough
 pub mod ResumeHeadline
 pub mod ProgressLemmas

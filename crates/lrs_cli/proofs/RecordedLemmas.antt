@@ -1,5 +1,5 @@
 -- A run that goes on, where its ledger is attached first; and what its records tell.
-use Rattle.std.proofs.Common.{ℕ, List, ◌≡◌, ◌∙◌, ◌⊎◌, inl, inr, sym, Option}
+use Rattle.std.proofs.Common.{ℕ, List, ◌≡◌, ◌∙◌, ◌⊎◌, inl, inr, ◌++◌, sym, Option, Err}
 use Rattle.disk_core.specs.declared.disk.Disk.{Ghosts as Disk}
 use Rattle.disk_core.specs.Contents.{Told}
 use Rattle.disk_core.specs.Images.{NothingNew}
@@ -7,12 +7,13 @@ use Rattle.disk_core.specs.Moments.{LeavesOnly}
 use Rattle.disk_core.proofs.Moments.{joined}
 use Rattle.workers_io.specs.declared.workers.Workers.{Ghosts as Workers}
 use Rattle.coordinator_core.specs.declared.options.Options.{Options}
-use Rattle.coordinator.specs.Calls.{RecordedRun}
+use Rattle.coordinator.specs.Calls.{PrintsRecords, RecordedRun}
 use Rattle.coordinator.specs.Leaving.{HasFront}
 use Rattle.lrs_cli.specs.declared.status.Status.{Status}
-use Rattle.lrs_cli.specs.Ledgers.{Resources, resources}
+use Rattle.lrs_cli.specs.Ledgers.{Resources, WritesRecordsPart, resources}
 use Rattle.lrs_cli.specs.Resume.{EndsRecorded, GoesOn}
 use Rattle.lrs_cli.proofs.CarriedEnds.{carried}
+use Rattle.lrs_cli.proofs.SearchLemmas.{part_of}
 
 -- what is read stays the same, so the records do
 abbrev pub moved : (mid old : Option (List ℕ)) → mid ≡ old → RecordedRun mid → RecordedRun old
@@ -23,6 +24,14 @@ moved mid old same r = record {
   is_text = r.is_text;
   has = λ f told. r.has f (same ∙ told);
 }
+
+-- where nothing was left to do, first bytes of what the records list were written
+pub parts_of_run : {E : Type 0} (seen old new : Option (List ℕ)) (stop : E) (U : Type 0) (F R : RecordedRun seen → List (List ℕ) → Type 0) →
+    U ⊎ ((r : RecordedRun seen) × (texts : List (List ℕ)) × F r texts × Told seen (λ f. R r texts × PrintsRecords {E = E} r.search (r.payloads ++ texts) old new (Err stop))) →
+    U ⊎ ((r : RecordedRun seen) × (texts : List (List ℕ)) × F r texts × Told seen (λ f. R r texts) × Told seen (λ f. WritesRecordsPart r.search (r.payloads ++ texts) old new))
+parts_of_run seen old new stop U F R (inl u) = inl u
+parts_of_run seen old new stop U F R (inr p) =
+    inr (p.0, p.1, p.2, λ f told. (p.3 f told).0, λ f told. part_of p.0.search (p.0.payloads ++ p.1) old new stop (p.3 f told).1)
 
 module _ {D W : Type 0} (disk : Disk D) (workers : Workers W) (options : Options) (limit : ℕ) (old mid new : D) (w v : W)
     (same : disk.seen mid ≡ disk.seen old) (nothing : NothingNew (disk.images old) (disk.images mid))

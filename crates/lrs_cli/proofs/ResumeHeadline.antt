@@ -21,7 +21,7 @@ use Rattle.run_state.proofs.MeaningLemmas.{not_broken, one_ledger}
 use Rattle.workers_io.specs.declared.workers.Workers.{Ghosts as Workers}
 use Rattle.workers_io.specs.History.{Happening, IsHonest}
 use Rattle.coordinator_core.specs.declared.options.Options.{Options}
-use Rattle.shown_vectors.proofs.LinearRows.{feasible_is_consistent}
+use Rattle.convert_core.proofs.LinearRows.{feasible_is_consistent}
 use Rattle.coordinator_core.specs.Machine.{AreOptions}
 use Rattle.coordinator.specs.Calls.{RecordedRun}
 use Rattle.coordinator.specs.Leaving.{HasFront}

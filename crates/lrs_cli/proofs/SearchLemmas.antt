@@ -12,7 +12,7 @@ use Rattle.poly_model.specs.Spaces.{main_space}
 use Rattle.poly_model.specs.Subtrees.{IsSubtreeRoot}
 use Rattle.listing_laws.proofs.ListLemmas.{all_members}
 use Rattle.dictionary_laws.proofs.Filters.{filter_only}
-use Rattle.shown_vectors.proofs.LinearRows.{feasible_is_consistent}
+use Rattle.convert_core.proofs.LinearRows.{feasible_is_consistent}
 use Rattle.poly_model.specs.PhaseOne.{IsSearchRoot}
 use Rattle.poly_model.specs.Systems.{Polyhedron, cone_of}
 use Rattle.poly_io.proofs.Parts.{part_of_all}
@@ -61,6 +61,14 @@ part_of_whole s records old new rows lines w = record {
   is_listing = w.counted.listing;
   written = part_of_all old new w.text w.written;
 }
+
+-- where nothing was left to do, first bytes of what the records list were written
+pub parts_of : {E : Type 0} (s : Search) (records : List (List ℕ) → List (List ℕ)) (old new : Option (List ℕ)) (stop : E) (U : Type 0) (F R : List (List ℕ) → Type 0)
+    (seen : Option (List ℕ)) → U ⊎ ((texts : List (List ℕ)) × F texts × Told seen (λ f. R texts × PrintsRecords {E = E} s (records texts) old new (Err stop))) →
+    U ⊎ ((texts : List (List ℕ)) × F texts × Told seen (λ f. R texts) × Told seen (λ f. WritesRecordsPart s (records texts) old new))
+parts_of s records old new stop U F R seen (inl u) = inl u
+parts_of s records old new stop U F R seen (inr p) =
+    inr (p.0, p.1, λ f told. (p.2 f told).0, λ f told. part_of s (records p.0) old new stop (p.2 f told).1)
 
 -- ---- the search from the root that phase one gives
 module _ (p : Polyhedron) (root : List ℕ) (file : IsOfItsText p) (is_root : IsSearchRoot p root) (key : IsKey root) where

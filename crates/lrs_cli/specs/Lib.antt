@@ -8,7 +8,6 @@ pub mod Job
 pub mod Ledgers
 pub mod Run
 pub mod Resume
-pub mod Stopped
 pub mod Progress
 pub mod Lrs
 pub mod Endings

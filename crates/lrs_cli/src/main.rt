@@ -14,7 +14,6 @@ mod run;
 #[cfg(test)]
 mod run_tests;
 mod status;
-mod stopped;
 #[cfg(test)]
 mod tests;
 mod through;

@@ -6,10 +6,9 @@ ghost use Rattle.lrs_cli.specs.Resume.{AnswersResume, GoesOn};
 
 use crate::devices::LedgerCall;
 use crate::status::Status;
-use crate::stopped::resume_status;
 use crate::through::ended;
 use buffered_sink::{Base, Buffered};
-use coordinator::resume;
+use coordinator::{ResumeStop, resume};
 use disk_core::Disk;
 use poly_io::{Failed, Sink};
 use std::marker::Brand;
@@ -73,6 +72,14 @@ fn resume_attached<O: Sink, D: Disk, W: Workers>(
             rows: listed.rows,
             lines: listed.lines,
         },
-        Err(stop) => resume_status(stop),
+        Err(ResumeStop::NoRun) => Status::NoRun,
+        Err(ResumeStop::BadLedger { place }) => Status::BadLedger { place },
+        Err(ResumeStop::Infeasible) => Status::Infeasible,
+        Err(ResumeStop::LedgerLimit { need, limit }) => Status::LedgerLimit { need, limit },
+        Err(ResumeStop::Overflow(overflow)) => Status::Overflow(overflow),
+        Err(ResumeStop::Lost { lost, strays }) => Status::Lost { lost, strays },
+        Err(ResumeStop::DiskFault) => Status::DiskFault,
+        Err(ResumeStop::WriteFault) => Status::WriteFault,
+        Err(ResumeStop::Memory) => Status::OutOfMemory,
     }
 }

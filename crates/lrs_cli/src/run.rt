@@ -12,11 +12,10 @@ ghost use Rattle.lrs_cli.specs.Streams.{streams_at};
 
 use crate::devices::{Devices, LedgerCall};
 use crate::status::Status;
-use crate::stopped::run_status;
 use crate::through::ended;
 use buffered_sink::{Base, Buffered};
 use convert_core::{SearchStop, search_root};
-use coordinator::run;
+use coordinator::{RunStop, run};
 use disk_core::Disk;
 use job_text::FirstPayload;
 use poly_io::{Failed, Sink, Source};
@@ -139,6 +138,13 @@ fn run_attached<O: Sink, D: Disk, W: Workers>(
             rows: listed.rows,
             lines: listed.lines,
         },
-        Err(stop) => run_status(stop),
+        Err(RunStop::HasRun) => Status::HasRun,
+        Err(RunStop::BadLedger { place }) => Status::BadLedger { place },
+        Err(RunStop::LedgerLimit { need, limit }) => Status::LedgerLimit { need, limit },
+        Err(RunStop::Overflow(overflow)) => Status::Overflow(overflow),
+        Err(RunStop::Lost { lost, strays }) => Status::Lost { lost, strays },
+        Err(RunStop::DiskFault) => Status::DiskFault,
+        Err(RunStop::WriteFault) => Status::WriteFault,
+        Err(RunStop::Memory) => Status::OutOfMemory,
     }
 }

@@ -10,7 +10,9 @@ pub mod Steps
 pub mod ColumnShown
 pub mod ShowUnder
 pub mod NextRow
+pub mod VisitLemmas
 pub mod LoopUnder
+pub mod RowsShown
 pub mod ListingParts
 pub mod Begun
 pub mod BeginAt

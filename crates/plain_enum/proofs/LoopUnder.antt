@@ -15,13 +15,12 @@ use Rattle.listing_laws.proofs.ConeLemmas.{is_listable}
 use Rattle.listing_laws.proofs.PrefixLemmas.{loop_begins, loop_skips, loop_takes, loop_ends}
 use Rattle.listing_laws.proofs.WholeLists.{loop_stops, loop_stops_within}
 use Rattle.plain_enum.specs.Columns.{HasRows, IsColumnOf, HasNoColumn}
-use Rattle.visitors.specs.declared.visitor.Ended.{Ended}
-use Rattle.visitors.specs.declared.visitor.Ended.TheVariants.{Overflow as EndedOverflow}
+use Rattle.plain_enum.specs.declared.prefix.Ended.{Ended}
+use Rattle.plain_enum.specs.declared.prefix.Ended.TheVariants.{Overflow as EndedOverflow}
 use Rattle.plain_enum.specs.Listed.{IsAt, HasShapeOf, HasRoomFor}
-use Rattle.visitors.specs.Visits.{Visited, VisitsEach}
-use Rattle.plain_enum.specs.Visits.{VisitsUnder}
+use Rattle.plain_enum.specs.Visits.{Visited, VisitsEach, VisitsUnder}
 use Rattle.plain_enum.proofs.NextRow as next_row
-use Rattle.visitors.proofs.VisitLemmas.{visited_then, broke_then}
+use Rattle.plain_enum.proofs.VisitLemmas.{visited_then, broke_then}
 
 -- ---- dictionaries of one shape
 pub shape_first : (d e : Dictionary) (xs : List Dictionary) → All (HasShapeOf d) (e ∷ xs) → HasShapeOf d e

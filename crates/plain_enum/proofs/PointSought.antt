@@ -5,7 +5,7 @@ use Rattle.std.proofs.lemmas.List.Elements.{Contains-append_right}
 use Rattle.poly_num.specs.Vectors.{Vector}
 use Rattle.poly_model.specs.Cones.{at}
 use Rattle.linear_laws.proofs.Members.{Contains-nil, Contains-first, Contains-cons_cases}
-use Rattle.visitors.specs.Visits.{Visited, EndedAtLast}
+use Rattle.plain_enum.specs.Visits.{Visited, EndedAtLast}
 
 module _ {V O : Type 0} where
   -- the search goes on at a vector

@@ -11,12 +11,11 @@ ghost use Rattle.plain_enum.specs.Plain.{PassesInCone};
 
 use crate::answers::FeasibleStop;
 use crate::begin::{Beginning, Room, begin};
-use crate::prefix::Prefix;
-use crate::visit::visit_all;
+use crate::prefix::{Ended, Prefix};
+use crate::visit::{Visit, visit_all};
 use poly_model::{Kind, Overflow, System};
 use poly_num::Num;
 use std::alloc::Global;
-use visitors::{Ended, Visitor};
 
 /// Seeks a vector with a positive first entry.
 #[derive(Drop)]
@@ -26,7 +25,7 @@ struct Seeker;
 #[derive(Drop)]
 struct Found;
 
-impl Visitor<(), Found> for Seeker {
+impl Visit<(), Found> for Seeker {
     ghost visits = { λ _ _ y _ _. ¬ (pos 0 <ℤ at 0 y) };
 
     ghost ends = { λ _ _ y _ _. pos 0 <ℤ at 0 y };

@@ -15,13 +15,12 @@ use crate::answers::FeasibleStop;
 use crate::begin::{Beginning, Room, begin};
 use crate::feasible::has_point_left;
 use crate::plain::print;
-use crate::prefix::Prefix;
+use crate::prefix::{Ended, Prefix};
 use linearity::lines_of;
 use poly_io::{Sink, WriteFault};
 use poly_model::{Kind, Listed, Overflow, System, Vector};
 use row_printer::ListStop;
 use std::alloc::Global;
-use visitors::Ended;
 
 /// Writes the listing of a file that is feasible, as `list_plain` does; `sys` is its cone. One elimination serves for
 /// both, to find out whether the file is feasible and to list it. Nothing is written before it is known to be feasible,

@@ -24,10 +24,10 @@ pub use begin::{Beginning, Room, begin as begin_listing};
 pub use feasible::feasible_plain;
 pub use feasible_listing::list_feasible;
 pub use plain::list_plain;
-pub use prefix::Prefix;
+pub use prefix::{Ended, Prefix};
 pub use shown::{shown_side, write_direction};
 pub use side::{Side, column_of, left_coordinate};
-pub use visit::{take_row, visit_under};
+pub use visit::{Visit, take_row, visit_under};
 
 /// The column of a label of the key is a vector at which each label has its entry there as value.
 pub fn values_at_columns()

@@ -5,15 +5,25 @@ ghost use Rattle.poly_model.specs.Systems.{Polyhedron, cone_of};
 ghost use Rattle.dictionary.specs.Views.{Dictionary};
 ghost use Rattle.listing_laws.specs.Prefixes.{IsCornerUnder};
 ghost use Rattle.plain_enum.specs.Begin.{IsBegun, HasRoomForAll, begun_cone};
-ghost use Rattle.visitors.specs.Rows.{HasStopCause, WritesRows};
+ghost use Rattle.plain_enum.specs.Listed.{WritesRow, FailsAtRow, HasStopCause, WritesRows};
 ghost use Rattle.plain_enum.specs.Plain.{PassesInCone};
 
 use crate::begin::Room;
-use crate::prefix::Prefix;
-use crate::visit::visit_all;
+use crate::prefix::{Ended, Prefix};
+use crate::visit::{Visit, visit_all};
 use poly_io::{Sink, WriteFault};
+use poly_num::Num;
 use row_printer::Shown;
-use visitors::Ended;
+
+impl<S: Sink> Visit<S, WriteFault> for Shown {
+    ghost visits = { WritesRow S.written S.faults };
+
+    ghost ends = { λ s o y _ q. FailsAtRow S.written S.faults s o y q };
+
+    fn visit(self, vector: &[Num], out: &mut S) -> Result<Shown, WriteFault> {
+        self.row(out, vector)
+    }
+}
 
 /// Writes the rows of the extreme vectors, from a dictionary at which the linear rows have been tried.
 pub(crate) fn list_rows<S: Sink>(

@@ -8,20 +8,19 @@ ghost use Rattle.poly_model.specs.Systems.{Polyhedron, cone_of};
 ghost use Rattle.dictionary.specs.Views.{Dictionary};
 ghost use Rattle.linearity.specs.Columns.{coordinate_vectors};
 ghost use Rattle.plain_enum.specs.Begin.{IsBegun, HasRoomForAll};
-ghost use Rattle.visitors.specs.Rows.{HasStopCause};
+ghost use Rattle.plain_enum.specs.Listed.{HasStopCause};
 ghost use Rattle.row_printer.specs.Listings.{WritesListing};
 ghost use Rattle.plain_enum.specs.Plain.{PassesInCone};
 
 use crate::answers::{FeasibleStop, PlainStop};
 use crate::begin::{Beginning, Room, begin};
 use crate::list::list_rows;
-use crate::prefix::Prefix;
+use crate::prefix::{Ended, Prefix};
 use linearity::lines_of;
 use poly_io::{Sink, WriteFault};
 use poly_model::{Listed, System, Vector};
 use row_printer::{Listing, Shown};
 use std::alloc::Global;
-use visitors::Ended;
 
 /// Writes the listing of a system: its head, the lines by ascending free column, the rows of its extreme vectors, its
 /// end. The answer says how many rows and lines it has. Where it stops, what was written is the beginning of a listing;

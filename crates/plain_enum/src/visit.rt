@@ -1,7 +1,7 @@
 //! The search over prefixes of rows, and what is done at each vector that it finds. Where just one coordinate is left
 //! in the cobasis beside those that are free, its column is the direction on which the linear rows and all rows taken
 //! are 0.
-ghost use Rattle.std.specs.Prelude.{◌≡◌, ◌≤◌, ◌<◌, ℕ, Bool, List, length, IfOk, IfErr, IsErrOf, []};
+ghost use Rattle.std.specs.Prelude.{◌≡◌, ◌≤◌, ◌<◌, ℕ, ℤ, Bool, List, length, IfOk, IfErr, IsErrOf, []};
 ghost use Rattle.std.specs.List.{All};
 ghost use Rattle.poly_model.specs.declared.overflow.Overflow.{Overflow as Passed};
 ghost use Rattle.poly_model.specs.Systems.{Polyhedron, cone_of};
@@ -11,12 +11,11 @@ ghost use Rattle.listing_laws.specs.ListedCone.{ListedCone};
 ghost use Rattle.listing_laws.specs.Prefixes.{IsCornerUnder};
 ghost use Rattle.plain_enum.specs.Begin.{IsBegun, HasRoomForAll, begun_cone};
 ghost use Rattle.plain_enum.specs.Listed.{HasShapeOf, IsAt, HasRoomFor};
-ghost use Rattle.visitors.specs.Visits.{VisitsEach, VisitsSome};
-ghost use Rattle.plain_enum.specs.Visits.{VisitsUnder};
+ghost use Rattle.plain_enum.specs.Visits.{VisitsUnder, VisitsEach, VisitsSome};
 ghost use Rattle.plain_enum.specs.Plain.{PassesInCone};
 
 use crate::begin::Room;
-use crate::prefix::Prefix;
+use crate::prefix::{Ended, Prefix};
 use crate::shown::{shown_side, write_direction};
 use crate::side::{column_of, left_coordinate};
 use dictionary::{Dict, Steps};
@@ -24,10 +23,23 @@ use poly_model::{Label, Overflow};
 use poly_num::Num;
 use std::marker::Brand;
 use std::sync::ledger::{Blank, Ledger};
-use visitors::{Ended, Visitor};
+
+/// What is done at each vector that a search finds. It works on an `O`, and may end the search with an `E`.
+pub trait Visit<O, E>: Drop {
+    /// Which visitor is left behind a vector where the search goes on, and what it has made of the `O`.
+    ghost visits: { Self → O → List ℤ → Self → O → Type 0 };
+
+    /// With what it ends the search at a vector, and what it has made of the `O`.
+    ghost ends: { Self → O → List ℤ → E → O → Type 0 };
+
+    fn visit(self, vector: &[Num], out: &mut O) -> Result<Self, E>
+        requires some { 0 < length vector.now }
+        ensures visits { IfOk result (λ next. visits self out.old vector.now next out.new) }
+        ensures ends { IfErr result (λ e. ends self out.old vector.now e out.new) };
+}
 
 // Visits the direction that is left, if its column is shown on some side.
-fn visit_left<O, E, V: Visitor<O, E>>(
+fn visit_left<O, E, V: Visit<O, E>>(
     prefix: &Prefix,
     vector: &mut [Num],
     visitor: V,
@@ -89,7 +101,7 @@ fn take_row_counted<L: Ledger>(
 /// Visits the vectors under a prefix of rows: those whose first list of tight rows has, of the rows before the prefix's
 /// end, exactly the ones that are taken. `deeper` has a dictionary of the same shape for each further row that a list
 /// takes; what they hold is written over, and so is `vector`.
-pub fn visit_under<O, E, V: Visitor<O, E>>(
+pub fn visit_under<O, E, V: Visit<O, E>>(
     prefix: &Prefix,
     deeper: &mut [Dict],
     vector: &mut [Num],
@@ -134,7 +146,7 @@ pub fn visit_under<O, E, V: Visitor<O, E>>(
 
 /// Visits the extreme vectors, from a dictionary at which the linear rows have been tried. Where no coordinate is left
 /// there is none.
-pub(crate) fn visit_all<O, E, V: Visitor<O, E>>(
+pub(crate) fn visit_all<O, E, V: Visit<O, E>>(
     start: &Prefix,
     room: &mut Room,
     visitor: V,

@@ -23,11 +23,12 @@ use Rattle.reverse_step.specs.Starts.{unparented, IsAtKey, Starts}
 use Rattle.reverse_step.proofs.DueLemmas.{due_on_the_way}
 use Rattle.reverse_step.proofs.StartLemmas.{still_a_walk}
 use Rattle.reverse_step.proofs.WayLemmas.{reached_dictionary, reached_feasible}
-use Rattle.shown_vectors.specs.declared.rays.Rays.{Rays}
-use Rattle.shown_vectors.specs.Rays.{AreShown}
-use Rattle.shown_vectors.specs.Searches.{IsSearch}
-use Rattle.shown_vectors.proofs.LinearRows.{points_are_consistent}
-use Rattle.shown_vectors.proofs.Searches.{walk_at, elsewhere}
+use Rattle.convert_core.specs.declared.rays.Rays.{Rays}
+use Rattle.convert_core.specs.Rays.{AreShown}
+use Rattle.convert_core.specs.Searches.{IsSearch}
+use Rattle.convert_core.proofs.Beginnings.{walk_at}
+use Rattle.convert_core.proofs.LinearRows.{points_are_consistent}
+use Rattle.convert_core.proofs.Searching.{elsewhere}
 use Rattle.subtree_work.specs.Made.{IsDueOnWayToRoot}
 
 -- ---- from the start cobasis

@@ -28,10 +28,10 @@ use Rattle.reverse_step.specs.Children.{StopsWalk}
 use Rattle.reverse_step.proofs.DepthLemmas.{stands_at_depth}
 use Rattle.reverse_step.proofs.DueLemmas.{due_in_main}
 use Rattle.reverse_step.proofs.RunLemmas.{run_over}
-use Rattle.shown_vectors.specs.declared.rays.Rays.{Rays}
-use Rattle.shown_vectors.specs.Shown.{column_rows}
-use Rattle.shown_vectors.specs.Searches.{IsSearch}
-use Rattle.shown_vectors.proofs.Searches.{subtree_root, some_rows_here, search_moves}
+use Rattle.convert_core.specs.declared.rays.Rays.{Rays}
+use Rattle.convert_core.specs.Rows.{column_rows}
+use Rattle.convert_core.specs.Searches.{IsSearch}
+use Rattle.convert_core.proofs.Searching.{subtree_root, some_rows_here, search_moves}
 use Rattle.work_core.specs.declared.budget.Budget.{Budget}
 use Rattle.work_core.specs.Meanings.{Meaning, IsKeyBelow}
 use Rattle.work_core.specs.Orders.{keys_visited}

@@ -23,11 +23,11 @@ use Rattle.reverse_step.specs.Moves.{past, IsAtNew, IsVisit}
 use Rattle.reverse_step.specs.Runs.{HasRun}
 use Rattle.reverse_step.proofs.RunLemmas.{at_new, not_visited, run_new, new_waiting, new_depth, run_given, given_waiting, given_depth, run_back, back_waiting, back_depth}
 use Rattle.reverse_step.proofs.DepthLemmas.{stands_at_depth}
-use Rattle.shown_vectors.specs.declared.rays.Rays.{Rays}
-use Rattle.shown_vectors.specs.Shown.{column_rows}
-use Rattle.shown_vectors.specs.Searches.{IsSearch}
-use Rattle.shown_vectors.proofs.RowLists.{turned}
-use Rattle.shown_vectors.proofs.Searches.{rows_here, elsewhere}
+use Rattle.convert_core.specs.declared.rays.Rays.{Rays}
+use Rattle.convert_core.specs.Rows.{column_rows}
+use Rattle.convert_core.specs.Searches.{IsSearch}
+use Rattle.convert_core.proofs.RowLists.{turned}
+use Rattle.convert_core.proofs.Searching.{rows_here, elsewhere}
 use Rattle.work_core.specs.declared.budget.Budget.{Budget}
 use Rattle.work_core.specs.Orders.{Met, visited, given_back, keys_visited, keys_given_back, AreChildren}
 use Rattle.work_core.specs.ReplyLines.{ReplyLine, job_line, WritesLines, rows_in_lines, keys_in_lines}

@@ -7,8 +7,8 @@ use Rattle.poly_model.specs.declared.listed.Count.{Count}
 use Rattle.poly_model.specs.Systems.{System}
 use Rattle.dictionary.specs.Views.{Dictionary}
 use Rattle.hull_lift.specs.Facets.{primitive_column}
-use Rattle.shown_vectors.specs.Shown.{IsColumnShown, column_rows}
-use Rattle.shown_vectors.proofs.RowLists.{none_of_one, that_one, once_more, lists_more, only_more}
+use Rattle.convert_core.specs.Rows.{IsColumnShown, column_rows}
+use Rattle.convert_core.proofs.RowLists.{none_of_one, that_one, once_more, lists_more, only_more}
 use Rattle.work_core.specs.ReplyLines.{ReplyLine, row_line, WritesLines, WritesPartOfLines, rows_in_lines, keys_in_lines}
 use Rattle.work_core.proofs.WalkedLemmas.{writes_none, writes_then, part_then}
 use Rattle.subtree_work.specs.Rows.{lines_of_rows, ShowsRows, TearsRows}

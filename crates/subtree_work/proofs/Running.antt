@@ -23,10 +23,10 @@ use Rattle.reverse_step.specs.Walks.{Walk, IsWalkIn, IsAtStart}
 use Rattle.reverse_step.specs.Runs.{HasRun}
 use Rattle.reverse_step.proofs.RunLemmas.{run_starts, starts_along, starts_waiting, starts_depth, some_left}
 use Rattle.reverse_step.proofs.DepthLemmas.{child_depth, few_labels, few_children}
-use Rattle.shown_vectors.specs.declared.rays.Rays.{Rays}
-use Rattle.shown_vectors.specs.Shown.{columns_of, column_rows}
-use Rattle.shown_vectors.specs.Searches.{IsSearch}
-use Rattle.shown_vectors.proofs.Searches.{subtree_root, rows_here, elsewhere}
+use Rattle.convert_core.specs.declared.rays.Rays.{Rays}
+use Rattle.convert_core.specs.Rows.{columns_of, column_rows}
+use Rattle.convert_core.specs.Searches.{IsSearch}
+use Rattle.convert_core.proofs.Searching.{subtree_root, rows_here, elsewhere}
 use Rattle.work_core.specs.declared.budget.Budget.{Budget}
 use Rattle.work_core.specs.Orders.{Met, visited, keys_visited, keys_given_back, AreChildren}
 use Rattle.work_core.specs.ReplyLines.{ReplyLine, WritesLines, rows_in_lines, keys_in_lines}

@@ -11,9 +11,9 @@ use Rattle.reverse_step.specs.declared.walker.Visit.{Visit}
 use Rattle.reverse_step.specs.declared.walker.Visit.TheVariants.{New, Back, End}
 use Rattle.reverse_step.specs.Walks.{Walk}
 use Rattle.reverse_step.specs.Moves.{IsVisit}
-use Rattle.shown_vectors.specs.declared.rays.Rays.{Rays}
-use Rattle.shown_vectors.specs.Searches.{IsSearch}
-use Rattle.shown_vectors.proofs.Searches.{another_vector, search_moves}
+use Rattle.convert_core.specs.declared.rays.Rays.{Rays}
+use Rattle.convert_core.specs.Searches.{IsSearch}
+use Rattle.convert_core.proofs.Searching.{another_vector, search_moves}
 use Rattle.work_core.specs.declared.budget.Budget.{Budget}
 use Rattle.work_core.specs.declared.stops.WorkStop.{WorkStop}
 use Rattle.work_core.specs.declared.stops.WorkStop.TheVariants.{Overflow, WriteFault}

@@ -4,7 +4,7 @@ use Rattle.poly_model.specs.declared.listed.Count.{Count}
 use Rattle.poly_model.specs.Systems.{System}
 use Rattle.dictionary.specs.Views.{Dictionary}
 use Rattle.reverse_step.specs.Walks.{Walk}
-use Rattle.shown_vectors.specs.Shown.{columns_of}
+use Rattle.convert_core.specs.Rows.{columns_of}
 use Rattle.subtree_work.specs.Rows.{ShowsRows, TearsRows}
 use Rattle.subtree_work.specs.Steps.{VisitsBase}
 

@@ -10,8 +10,8 @@ use Rattle.poly_model.specs.Subtrees.{IsSubtreeRoot, IsSubtreeKey}
 use Rattle.poly_model.specs.Overflows.{Passes}
 use Rattle.poly_model.specs.Due.{IsDue, IsAskedInMain, IsAskedOnTheWay}
 use Rattle.reverse_step.specs.Walks.{Walk}
-use Rattle.shown_vectors.specs.declared.rays.Rays.{Rays}
-use Rattle.shown_vectors.specs.Searches.{IsSearch}
+use Rattle.convert_core.specs.declared.rays.Rays.{Rays}
+use Rattle.convert_core.specs.Searches.{IsSearch}
 use Rattle.work_core.specs.Searches.{Search, MayBegin}
 
 -- the cone, the root, and the key of the cobasis where the walk stands

@@ -10,8 +10,8 @@ use Rattle.linear_laws.specs.Distinct.{AreDistinct}
 use Rattle.dictionary.specs.Views.{Dictionary}
 use Rattle.search_laws.specs.Shares.{ListsAll}
 use Rattle.lex_pivot.specs.Leads.{AreLeads}
-use Rattle.shown_vectors.specs.declared.shown.Basis.{Basis}
-use Rattle.shown_vectors.specs.Shown.{CanTest, IsColumnShown, column_rows}
+use Rattle.convert_core.specs.declared.rows.Basis.{Basis}
+use Rattle.convert_core.specs.Rows.{CanTest, IsColumnShown, column_rows}
 use Rattle.work_core.specs.ReplyLines.{ReplyLine, row_line, WritesLines, WritesPartOfLines}
 
 abbrev pub lines_of_rows : List Vector → List ReplyLine

@@ -8,7 +8,7 @@ use Rattle.reverse_step.specs.declared.walker.Visit.TheVariants.{New, Back, End}
 use Rattle.reverse_step.specs.Walks.{Walk}
 use Rattle.reverse_step.specs.Moves.{past, IsVisit}
 use Rattle.reverse_step.specs.Children.{StopsWalk}
-use Rattle.shown_vectors.specs.Shown.{columns_of, column_rows}
+use Rattle.convert_core.specs.Rows.{columns_of, column_rows}
 use Rattle.work_core.specs.declared.budget.Budget.{Budget}
 use Rattle.work_core.specs.declared.stops.WorkStop.{WorkStop}
 use Rattle.work_core.specs.declared.stops.WorkStop.TheVariants.{Overflow, WriteFault}

@@ -10,12 +10,12 @@ ghost use Rattle.dictionary.specs.Blanks.{IsBlankOf};
 
 use crate::search::Search;
 use crate::stop::SubtreeStop;
+use convert_core::rays_of;
 use dictionary::{Dict, Steps};
 use linearity::{PrepareStop, prepare};
 use poly_model::{Root, System};
 use poly_num::Num;
 use reverse_step::Walker;
-use shown_vectors::rays_of;
 use std::alloc::Global;
 use std::sync::ledger::{Blank, Ledger};
 

@@ -2,14 +2,14 @@
 ghost use Rattle.std.specs.Prelude.{◌≡◌, ◌≤◌, ◌<◌, ◌+◌, ◌∷◌, [], length, IfOk, OnErr};
 ghost use Rattle.poly_io.specs.Causes.{HasCause};
 ghost use Rattle.hull_lift.specs.Facets.{IsColumn};
-ghost use Rattle.shown_vectors.specs.Shown.{columns_of};
+ghost use Rattle.convert_core.specs.Rows.{columns_of};
 ghost use Rattle.work_core.specs.Splits.{most_lines};
 ghost use Rattle.subtree_work.specs.Rows.{CanShow, ShowsRows, TearsRows};
 
+use convert_core::{Basis, shown_vector};
 use poly_io::{Sink, WriteFault};
 use poly_model::{Count, Label};
 use poly_num::Num;
-use shown_vectors::{Basis, shown_vector};
 use work_core::{one_row, write_row};
 
 // Writes the row of a column, if it is shown.

@@ -15,12 +15,12 @@ ghost use Rattle.subtree_work.specs.Steps.{VisitsBase, VisitsOrGivesBack, FailsA
 use crate::progress::{Progress, stops};
 use crate::rows::show_columns;
 use crate::search::Search;
+use convert_core::Basis;
 use countdown::Countdown;
 use dictionary::Steps;
 use poly_io::{Sink, WriteFault};
 use poly_model::Count;
 use reverse_step::Visit;
-use shown_vectors::Basis;
 use std::sync::ledger::Ledger;
 use work_core::{Budget, WorkStop, give_back, one_base};
 

@@ -7,7 +7,7 @@ use Rattle.poly_model.specs.Systems.{System}
 use Rattle.convert_core.specs.declared.begin.SearchStop.{SearchStop}
 use Rattle.convert_core.specs.Searches.{IsRootOf}
 use Rattle.convert_core.proofs.Beginnings.{is_root_of}
-use Rattle.shown_vectors.proofs.LinearRows.{feasible_is_consistent}
+use Rattle.convert_core.proofs.LinearRows.{feasible_is_consistent}
 use Rattle.convert_core.proofs.begin.root_of.Goals as goal
 
 pub returns-in-Err-Inconsistent-clause-infeasible : goal.returns-in-Err-Inconsistent-clause-infeasible

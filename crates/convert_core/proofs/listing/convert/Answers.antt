@@ -3,8 +3,7 @@ use Rattle.poly_model.specs.declared.overflow.Overflow.{Overflow as Passed}
 use Rattle.poly_model.specs.Systems.{Polyhedron}
 use Rattle.row_printer.specs.Listings.{ListsIfFeasible}
 use Rattle.row_printer.specs.declared.stop.ListStop.{ListStop}
-use Rattle.shown_vectors.specs.Searches.{IsSearch}
-use Rattle.convert_core.specs.Searches.{IsAtRoot}
+use Rattle.convert_core.specs.Searches.{IsSearch, IsAtRoot}
 use Rattle.convert_core.specs.Listed.{TakesSteps, IsDueInSearch}
 use Rattle.convert_core.proofs.NotListed.{not_listed, no_steps, is_listed}
 use Rattle.convert_core.proofs.listing.convert.Goals as goal

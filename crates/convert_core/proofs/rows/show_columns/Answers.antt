@@ -2,9 +2,8 @@ use Rattle.std.proofs.Common.{ℕ, [], ◌∷◌, take, sym, subst, ◌∙◌}
 use Rattle.std.specs.List.{Contains}
 use Rattle.std.proofs.lemmas.Result.{err_from_is_err_and}
 use Rattle.poly_model.specs.Labels.{constant_label}
-use Rattle.shown_vectors.specs.Shown.{columns_of}
-use Rattle.convert_core.specs.Rows.{WritesShown, ShowsColumns}
-use Rattle.shown_vectors.proofs.ColumnsBefore.{not_before, one_more, within_all, here_in_all}
+use Rattle.convert_core.specs.Rows.{WritesShown, ShowsColumns, columns_of}
+use Rattle.convert_core.proofs.ColumnsBefore.{not_before, one_more, within_all, here_in_all}
 use Rattle.convert_core.proofs.RowsWritten.{shows_more, fails_more, fails_within}
 use Rattle.convert_core.proofs.rows.show_columns.Goals as goal
 

@@ -1,8 +1,8 @@
 use Rattle.std.proofs.Common.{sym, subst, List, ℕ}
 use Rattle.dictionary.specs.Views.{Dictionary}
 use Rattle.lex_pivot.specs.Leads.{AreLeads}
-use Rattle.shown_vectors.specs.Shown.{CanTest}
-use Rattle.shown_vectors.proofs.Searches.{can_test}
+use Rattle.convert_core.specs.Rows.{CanTest}
+use Rattle.convert_core.proofs.Searching.{can_test}
 use Rattle.convert_core.proofs.walk.show.Goals as goal
 
 pub show_columns-requires-clause-can : goal.show_columns-requires-clause-can

@@ -2,7 +2,7 @@ use Rattle.std.proofs.Common.{refl, subst}
 use Rattle.reverse_step.specs.declared.walker.Visit.{Visit}
 use Rattle.reverse_step.specs.declared.walker.Visit.TheVariants.{New}
 use Rattle.reverse_step.specs.Moves.{IsVisit}
-use Rattle.shown_vectors.proofs.Searches.{search_moves}
+use Rattle.convert_core.proofs.Searching.{search_moves}
 use Rattle.convert_core.proofs.walk.step.Goals as goal
 
 pub show-requires : goal.show-requires

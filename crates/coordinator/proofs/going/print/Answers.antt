@@ -1,5 +1,4 @@
-use Rattle.std.proofs.Common.{◌∙◌, Err, sym, ap, subst, append-nil}
-use Rattle.run_state.specs.Payloads.{IsLedgerText}
+use Rattle.std.proofs.Common.{◌∙◌, Err, sym, ap}
 use Rattle.run_state.specs.Runs.{Run}
 use Rattle.coordinator.proofs.CallEnds.{leaves_quiet, prints_from, writes_err, writes_ok}
 use Rattle.coordinator.proofs.going.print.Goals as goal
@@ -51,5 +50,5 @@ returns-in-Err-Memory-clause-leaves g c = leaves_quiet g.D.Disk c.args.disk.now 
 
 pub returns-in-Err-BadLedger-clause-bad : goal.returns-in-Err-BadLedger-clause-bad
 returns-in-Err-BadLedger-clause-bad g c place is records s replies at text same =
-    c.in-Err-BadLedger.ensures.never_bad c.in-Err-BadLedger.place s replies records (ap Err c.in-Err-BadLedger.field-0-is) at
-    (subst (IsLedgerText s replies) (append-nil records) text) (same ∙ sym (c.poly.ensures ∙ ap (λ (r : Run). r.search.polyhedron) c.state.ensures))
+    c.in-Err-BadLedger.ensures.never_bad c.in-Err-BadLedger.place s replies records (ap Err c.in-Err-BadLedger.field-0-is) at text
+    (same ∙ sym (c.poly.ensures ∙ ap (λ (r : Run). r.search.polyhedron) c.state.ensures))

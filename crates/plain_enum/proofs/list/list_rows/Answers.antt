@@ -1,7 +1,7 @@
 use Rattle.std.proofs.Common.{[]}
 use Rattle.listing_laws.specs.Prefixes.{IsCornerUnder}
 use Rattle.plain_enum.specs.Begin.{begun_cone}
-use Rattle.visitors.proofs.RowsVisited.{writes_rows, has_cause}
+use Rattle.plain_enum.proofs.RowsShown.{writes_rows, has_cause}
 use Rattle.plain_enum.proofs.list.list_rows.Goals as goal
 
 pub returns-clause-written : goal.returns-clause-written

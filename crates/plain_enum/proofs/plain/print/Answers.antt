@@ -9,11 +9,11 @@ use Rattle.poly_model.specs.declared.kind.Kind.{Kind}
 use Rattle.poly_model.specs.ListingText.{head_text, vector_text}
 use Rattle.poly_model.specs.Systems.{System, Polyhedron, cone_of}
 use Rattle.linearity.proofs.Errors.{one_error}
-use Rattle.visitors.specs.declared.visitor.Ended.TheVariants as Ended
+use Rattle.plain_enum.specs.declared.prefix.Ended.TheVariants as Ended
 use Rattle.plain_enum.specs.Begin.{begun_cone}
 use Rattle.plain_enum.proofs.BeginAt.{begun_lines, is_cone_of}
 use Rattle.plain_enum.proofs.ListingParts.{stops_in_head, stops_in_rows, stops_in_end, ends_whole}
-use Rattle.visitors.proofs.RowsVisited.{stopped, not_stopped, cause_after}
+use Rattle.plain_enum.proofs.RowsShown.{stopped, not_stopped, cause_after}
 use Rattle.plain_enum.proofs.plain.print.Goals as goal
 
 -- what is written before the rows, of the kind and the width that the system tells

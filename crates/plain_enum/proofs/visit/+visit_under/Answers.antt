@@ -5,11 +5,11 @@ use Rattle.poly_model.specs.declared.overflow.Overflow.{Overflow}
 use Rattle.dictionary.specs.Views.{Dictionary, CanPivot, IsPivot, IsOverflow}
 use Rattle.listing_laws.specs.Prefixes.{IsCornerUnder}
 use Rattle.linearity.proofs.Errors.{one_error}
-use Rattle.visitors.specs.declared.visitor.Ended.TheVariants as Ended
+use Rattle.plain_enum.specs.declared.prefix.Ended.TheVariants as Ended
 use Rattle.plain_enum.specs.Columns.{IsColumnOf, HasNoColumn}
 use Rattle.plain_enum.specs.Listed.{HasRoomFor, IsAt}
-use Rattle.visitors.specs.Visits.{HasVisited, VisitsEach, VisitsSome}
-use Rattle.visitors.proofs.VisitLemmas.{some_none, some_all, some_stopped, some_then, some_broke}
+use Rattle.plain_enum.specs.Visits.{HasVisited, VisitsEach, VisitsSome}
+use Rattle.plain_enum.proofs.VisitLemmas.{some_none, some_all, some_stopped, some_then, some_broke}
 use Rattle.plain_enum.proofs.LoopUnder.{IsInLoop, loop_start, skipped, goes_on, breaks, stops, ends_loop, overflows, deeper, shape_first, room_with, room_below, room_back}
 use Rattle.plain_enum.proofs.visit.+visit_under.Goals.{in-Some-column_of+in_default-take_row+in_ok-visitor-in-Some, in_default}
 use Rattle.plain_enum.proofs.visit.+visit_under.Goals as goal
@@ -21,9 +21,9 @@ rows-init g t c =
       room = subst (λ (ds : List Dictionary). HasRoomFor prefix.sys.now prefix.dict.now ds c.args.vector.now)
           c.in-Some.ensures.cases.0 c.requires.room;
       depth = c.in-Some.ensures.cases.1;
-      visited = loop_start g.V.Visitor.visits g.V.Visitor.ends prefix.sys.now prefix.free.now prefix.dict.now prefix.from
+      visited = loop_start g.V.Visit.visits g.V.Visit.ends prefix.sys.now prefix.free.now prefix.dict.now prefix.from
           (length c.args.deeper.now) c.args.visitor c.args.out.now;
-      some = some_none g.V.Visitor.visits g.V.Visitor.ends c.args.visitor c.args.out.now;
+      some = some_none g.V.Visit.visits g.V.Visit.ends c.args.visitor c.args.out.now;
     }
 
 pub take_row-requires-clause-shape : goal.take_row-requires-clause-shape
@@ -33,7 +33,7 @@ take_row-requires-clause-shape g t c =
 pub returns-in-Err-clause-visited : goal.returns-in-Err-clause-visited
 returns-in-Err-clause-visited g t c p cone fixed left marks at =
     let prefix = c.args.prefix.now in
-    stops g.V.Visitor.visits g.V.Visitor.ends prefix.sys.now prefix.free.now prefix.dict.now (length c.args.deeper.now)
+    stops g.V.Visit.visits g.V.Visit.ends prefix.sys.now prefix.free.now prefix.dict.now (length c.args.deeper.now)
     c.args.visitor c.args.out.now c.rows.visitor c.rows.out c.rows.i p cone fixed left marks
     (c.rows.invariant.visited p cone fixed left marks at) c.in-Err.overflow
 
@@ -41,7 +41,7 @@ pub returns-in-Err-clause-passes : goal.returns-in-Err-clause-passes
 returns-in-Err-clause-passes g t c o e p cone fixed left marks at =
     let prefix = c.args.prefix.now in
     let same : c.in-Err.overflow ≡ o = cc in
-    overflows g.V.Visitor.visits g.V.Visitor.ends prefix.sys.now prefix.free.now prefix.dict.now (length c.args.deeper.now)
+    overflows g.V.Visit.visits g.V.Visit.ends prefix.sys.now prefix.free.now prefix.dict.now (length c.args.deeper.now)
     c.args.visitor c.args.out.now c.rows.visitor c.rows.out c.rows.i p cone fixed left marks
     (c.rows.invariant.visited p cone fixed left marks at) c.in-Some-column_of.col o
     (subst (λ k. CanPivot prefix.dict.now k c.in-Some-column_of.col) c.row-row.ensures c.in-Some-column_of.ensures.pivots)
@@ -80,9 +80,9 @@ returns-in_err-visitor-in-Some-clause-visited g t c p cone fixed left marks at =
     let prefix = c.args.prefix.now in
     let q = err_from_is_err_and c.from_residual.result c.from_residual.ensures.1 in
     subst
-    (λ r. VisitsEach g.V.Visitor.visits g.V.Visitor.ends c.args.visitor c.args.out.now c.visit_under.new.out r
+    (λ r. VisitsEach g.V.Visit.visits g.V.Visit.ends c.args.visitor c.args.out.now c.visit_under.new.out r
     (IsCornerUnder cone marks)) (sym (q.1 ∙ ap (λ x. Err x) q.2))
-    (breaks g.V.Visitor.visits g.V.Visitor.ends prefix.sys.now prefix.free.now prefix.dict.now (length c.args.deeper.now)
+    (breaks g.V.Visit.visits g.V.Visit.ends prefix.sys.now prefix.free.now prefix.dict.now (length c.args.deeper.now)
     c.args.visitor c.args.out.now c.rows.visitor c.rows.out c.rows.i p cone fixed left marks
     (c.rows.invariant.visited p cone fixed left marks at) (omega (arith, c.rows-test.true, c.rows-i-end.ensures.value))
     c.in-Some-column_of.col (subst (λ k. IsColumnOf prefix.dict.now prefix.free.now k c.in-Some-column_of.col) c.row-row.ensures
@@ -98,7 +98,7 @@ returns-in_err-visitor-in-Some-clause-passes g t c o e p cone fixed left marks a
     let far : c.in_err-visitor-in-Some.field-0.0 ≡ Ended.Overflow o =
     sym q.2 ∙ one_error c.from_residual.result (Ended.Overflow o) q.0 e q.1 in
     c.in_err-visitor-in-Some.ensures.passes o (ap (λ v. Err v) far) p cone fixed _ _
-    (deeper g.V.Visitor.visits g.V.Visitor.ends prefix.sys.now prefix.free.now prefix.dict.now (length c.args.deeper.now)
+    (deeper g.V.Visit.visits g.V.Visit.ends prefix.sys.now prefix.free.now prefix.dict.now (length c.args.deeper.now)
     c.args.visitor c.args.out.now c.rows.visitor c.rows.out c.rows.i p cone fixed left marks
     (c.rows.invariant.visited p cone fixed left marks at) (omega (arith, c.rows-test.true, c.rows-i-end.ensures.value))
     c.in-Some-column_of.col (subst (λ k. IsColumnOf prefix.dict.now prefix.free.now k c.in-Some-column_of.col) c.row-row.ensures
@@ -129,13 +129,13 @@ rows-preserved g t c =
             w.in_ok-visitor-in-Some.ensures.room)));
         depth = omega (arith, ap length w.others-is, w.in_ok-visitor-in-Some.ensures.depth, c.rows.invariant.depth);
         visited = λ p cone fixed left marks at.
-            subst (λ v. IsInLoop g.V.Visitor.visits g.V.Visitor.ends prefix.sys.now prefix.free.now prefix.dict.now
+            subst (λ v. IsInLoop g.V.Visit.visits g.V.Visit.ends prefix.sys.now prefix.free.now prefix.dict.now
             (length c.args.deeper.now) p cone fixed left marks c.args.visitor c.args.out.now v c.match-column_of.out
             (c.rows.i + 1)) (sym w.visitor-is)
-            (subst (λ o. IsInLoop g.V.Visitor.visits g.V.Visitor.ends prefix.sys.now prefix.free.now prefix.dict.now
+            (subst (λ o. IsInLoop g.V.Visit.visits g.V.Visit.ends prefix.sys.now prefix.free.now prefix.dict.now
             (length c.args.deeper.now) p cone fixed left marks c.args.visitor c.args.out.now
             w.in_ok-visitor-in-Some.visitor o (c.rows.i + 1)) (sym w.out-is)
-            (goes_on g.V.Visitor.visits g.V.Visitor.ends prefix.sys.now prefix.free.now prefix.dict.now
+            (goes_on g.V.Visit.visits g.V.Visit.ends prefix.sys.now prefix.free.now prefix.dict.now
             (length c.args.deeper.now) c.args.visitor c.args.out.now c.rows.visitor c.rows.out c.rows.i
             p cone fixed left marks (c.rows.invariant.visited p cone fixed left marks at)
             (omega (arith, c.rows-test.true, c.rows-i-end.ensures.value)) w.in-Some-column_of.col
@@ -144,11 +144,11 @@ rows-preserved g t c =
             w.in_default-take_row.ensures.pivoted)
             (length c.rows.others) (omega (arith, c.rows.invariant.depth)) w.visit_under.new.out
             w.in_ok-visitor-in-Some.visitor w.in_ok-visitor-in-Some.ensures.visited));
-        some = subst (λ v. HasVisited g.V.Visitor.visits c.args.visitor c.args.out.now v c.match-column_of.out)
+        some = subst (λ v. HasVisited g.V.Visit.visits c.args.visitor c.args.out.now v c.match-column_of.out)
             (sym w.visitor-is)
-            (subst (λ o. HasVisited g.V.Visitor.visits c.args.visitor c.args.out.now w.in_ok-visitor-in-Some.visitor o)
+            (subst (λ o. HasVisited g.V.Visit.visits c.args.visitor c.args.out.now w.in_ok-visitor-in-Some.visitor o)
             (sym w.out-is)
-            (some_then g.V.Visitor.visits g.V.Visitor.ends c.args.visitor c.rows.visitor w.in_ok-visitor-in-Some.visitor
+            (some_then g.V.Visit.visits g.V.Visit.ends c.args.visitor c.rows.visitor w.in_ok-visitor-in-Some.visitor
             c.args.out.now c.rows.out w.visit_under.new.out c.rows.invariant.some
             w.in_ok-visitor-in-Some.ensures.some));
       }
@@ -161,20 +161,20 @@ rows-preserved g t c =
             (sym w.vector-is) room));
         depth = omega (arith, ap length w.others-is, c.rows.invariant.depth);
         visited = λ p cone fixed left marks at.
-            subst (λ v. IsInLoop g.V.Visitor.visits g.V.Visitor.ends prefix.sys.now prefix.free.now prefix.dict.now
+            subst (λ v. IsInLoop g.V.Visit.visits g.V.Visit.ends prefix.sys.now prefix.free.now prefix.dict.now
             (length c.args.deeper.now) p cone fixed left marks c.args.visitor c.args.out.now v c.match-column_of.out
             (c.rows.i + 1)) (sym w.visitor-is)
-            (subst (λ o. IsInLoop g.V.Visitor.visits g.V.Visitor.ends prefix.sys.now prefix.free.now prefix.dict.now
+            (subst (λ o. IsInLoop g.V.Visit.visits g.V.Visit.ends prefix.sys.now prefix.free.now prefix.dict.now
             (length c.args.deeper.now) p cone fixed left marks c.args.visitor c.args.out.now c.rows.visitor o
             (c.rows.i + 1)) (sym w.out-is)
-            (skipped g.V.Visitor.visits g.V.Visitor.ends prefix.sys.now prefix.free.now prefix.dict.now
+            (skipped g.V.Visit.visits g.V.Visit.ends prefix.sys.now prefix.free.now prefix.dict.now
             (length c.args.deeper.now) c.args.visitor c.args.out.now c.rows.visitor c.rows.out c.rows.i
             p cone fixed left marks (c.rows.invariant.visited p cone fixed left marks at)
             (omega (arith, c.rows-test.true, c.rows-i-end.ensures.value)) (subst (λ k. HasNoColumn prefix.dict.now prefix.free.now k) c.row-row.ensures
             (w.in_default.ensures.none refl))));
-        some = subst (λ v. HasVisited g.V.Visitor.visits c.args.visitor c.args.out.now v c.match-column_of.out)
+        some = subst (λ v. HasVisited g.V.Visit.visits c.args.visitor c.args.out.now v c.match-column_of.out)
             (sym w.visitor-is)
-            (subst (λ o. HasVisited g.V.Visitor.visits c.args.visitor c.args.out.now c.rows.visitor o) (sym w.out-is)
+            (subst (λ o. HasVisited g.V.Visit.visits c.args.visitor c.args.out.now c.rows.visitor o) (sym w.out-is)
             c.rows.invariant.some);
       }
     ]
@@ -189,26 +189,26 @@ returns-in-None-clause-visited g t c p cone fixed left marks at =
 pub returns-after-rows-clause-visited : goal.returns-after-rows-clause-visited
 returns-after-rows-clause-visited g t c p cone fixed left marks at =
     let prefix = c.args.prefix.now in
-    ends_loop g.V.Visitor.visits g.V.Visitor.ends prefix.sys.now prefix.free.now prefix.dict.now (length c.args.deeper.now)
+    ends_loop g.V.Visit.visits g.V.Visit.ends prefix.sys.now prefix.free.now prefix.dict.now (length c.args.deeper.now)
     c.args.visitor c.args.out.now c.rows.visitor c.rows.out c.rows.i p cone fixed left marks
     (c.rows.invariant.visited p cone fixed left marks at)
     (omega (arith, c.rows-test.false, c.rows-i-end.ensures.value)) (omega (arith, c.rows.invariant.depth))
 
 pub returns-in-Err-clause-some : goal.returns-in-Err-clause-some
 returns-in-Err-clause-some g t c =
-    some_stopped g.V.Visitor.visits g.V.Visitor.ends c.args.visitor c.rows.visitor c.args.out.now c.rows.out
+    some_stopped g.V.Visit.visits g.V.Visit.ends c.args.visitor c.rows.visitor c.args.out.now c.rows.out
     c.in-Err.overflow c.rows.invariant.some
 
 pub returns-in_err-visitor-in-Some-clause-some : goal.returns-in_err-visitor-in-Some-clause-some
 returns-in_err-visitor-in-Some-clause-some g t c =
     let q = err_from_is_err_and c.from_residual.result c.from_residual.ensures.1 in
-    subst (λ r. VisitsSome g.V.Visitor.visits g.V.Visitor.ends c.args.visitor c.args.out.now c.visit_under.new.out r)
+    subst (λ r. VisitsSome g.V.Visit.visits g.V.Visit.ends c.args.visitor c.args.out.now c.visit_under.new.out r)
     (sym (q.1 ∙ ap (λ x. Err x) q.2))
-    (some_broke g.V.Visitor.visits g.V.Visitor.ends c.args.visitor c.rows.visitor c.args.out.now c.rows.out
+    (some_broke g.V.Visit.visits g.V.Visit.ends c.args.visitor c.rows.visitor c.args.out.now c.rows.out
     c.visit_under.new.out c.in_err-visitor-in-Some.field-0.0 c.rows.invariant.some
     c.in_err-visitor-in-Some.ensures.some)
 
 pub returns-after-rows-clause-some : goal.returns-after-rows-clause-some
 returns-after-rows-clause-some g t c =
-    some_all g.V.Visitor.visits g.V.Visitor.ends c.args.visitor c.rows.visitor c.args.out.now c.rows.out
+    some_all g.V.Visit.visits g.V.Visit.ends c.args.visitor c.rows.visitor c.args.out.now c.rows.out
     c.rows.invariant.some

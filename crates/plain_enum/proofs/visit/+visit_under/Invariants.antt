@@ -1,6 +1,6 @@
 use Rattle.std.proofs.Common.{◌≡◌, ◌+◌, ◌∷◌, length}
 use Rattle.plain_enum.specs.Listed.{HasRoomFor}
-use Rattle.visitors.specs.Visits.{HasVisited}
+use Rattle.plain_enum.specs.Visits.{HasVisited}
 use Rattle.plain_enum.proofs.LoopUnder.{InLoop}
 use Rattle.plain_enum.proofs.visit.+visit_under.Given as goal
 
@@ -13,7 +13,7 @@ invariant-rows g l =
     record {
       room : HasRoomFor l.prefix.sys.now l.prefix.dict.now (l.next ∷ l.others) l.vector;
       depth : length l.others + 1 ≡ length l.fn.deeper;
-      visited : InLoop g.V.Visitor.visits g.V.Visitor.ends l.prefix.sys.now l.prefix.free.now l.prefix.dict.now l.prefix.from
+      visited : InLoop g.V.Visit.visits g.V.Visit.ends l.prefix.sys.now l.prefix.free.now l.prefix.dict.now l.prefix.from
           (length l.fn.deeper) l.fn.visitor l.fn.out l.visitor l.out l.i;
-      some : HasVisited g.V.Visitor.visits l.fn.visitor l.fn.out l.visitor l.out;
+      some : HasVisited g.V.Visit.visits l.fn.visitor l.fn.out l.visitor l.out;
     }

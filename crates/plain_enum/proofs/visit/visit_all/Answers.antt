@@ -2,7 +2,7 @@ use Rattle.std.proofs.Common.{[], length, refl, ap, ◌∙◌}
 use Rattle.listing_laws.specs.Prefixes.{IsCornerUnder}
 use Rattle.plain_enum.specs.Begin.{begun_cone}
 use Rattle.plain_enum.proofs.FeasiblePlain.{begins, nothing_under}
-use Rattle.visitors.proofs.VisitLemmas.{visits_where_none}
+use Rattle.plain_enum.proofs.VisitLemmas.{visits_where_none}
 use Rattle.plain_enum.proofs.visit.visit_all.Goals as goal
 
 pub returns-in-Some-clause-visited : goal.returns-in-Some-clause-visited
@@ -22,6 +22,6 @@ returns-in-Some-clause-passes g c o h p last file b =
 pub returns-in-None-clause-visited : goal.returns-in-None-clause-visited
 returns-in-None-clause-visited g c p last file b =
     let start = c.args.start.now in
-    visits_where_none g.V.Visitor.visits g.V.Visitor.ends c.args.visitor c.args.out.now
+    visits_where_none g.V.Visit.visits g.V.Visit.ends c.args.visitor c.args.out.now
     (IsCornerUnder (begun_cone p start.free.now start.dict.now) [])
     (nothing_under p start.dict.now last start.free.now b (c.in-None.ensures.none refl))

@@ -1,7 +1,7 @@
 use Rattle.std.proofs.Common.{refl}
 use Rattle.listing_laws.specs.Prefixes.{IsCornerUnder}
 use Rattle.plain_enum.proofs.ShowUnder.{has_coordinate, nothing_here, one_written}
-use Rattle.visitors.proofs.VisitLemmas.{visits_none, visits_one, ends_at_one, some_one, some_end}
+use Rattle.plain_enum.proofs.VisitLemmas.{visits_none, visits_one, ends_at_one, some_one, some_end}
 use Rattle.plain_enum.proofs.visit.visit_left.Goals as goal
 
 pub returns-in_default-clause-visited : goal.returns-in_default-clause-visited
@@ -14,7 +14,7 @@ pub returns-in_default-shown_side-clause-visited :
     goal.returns-in_default-shown_side-clause-visited
 returns-in_default-shown_side-clause-visited g c p cone fixed left marks at =
     let prefix = c.args.prefix.now in
-    visits_none g.V.Visitor.visits g.V.Visitor.ends c.args.visitor c.args.out.now (IsCornerUnder cone marks)
+    visits_none g.V.Visit.visits g.V.Visit.ends c.args.visitor c.args.out.now (IsCornerUnder cone marks)
     (nothing_here prefix.sys.now prefix.free.now prefix.dict.now prefix.from p cone fixed left marks at
     c.requires.room.narrow c.in-Some.col
     c.in-Some.ensures.some (c.in_default-shown_side.ensures.none refl))
@@ -22,7 +22,7 @@ returns-in_default-shown_side-clause-visited g c p cone fixed left marks at =
 pub returns-in-Ok-clause-visited : goal.returns-in-Ok-clause-visited
 returns-in-Ok-clause-visited g c p cone fixed left marks at =
     let prefix = c.args.prefix.now in
-    visits_one g.V.Visitor.visits g.V.Visitor.ends c.args.visitor c.in-Ok.next c.args.out.now c.visit.new.out
+    visits_one g.V.Visit.visits g.V.Visit.ends c.args.visitor c.in-Ok.next c.args.out.now c.visit.new.out
     c.write_direction.new.vector (IsCornerUnder cone marks)
     (one_written prefix.sys.now prefix.free.now prefix.dict.now prefix.from p cone fixed left marks at
     c.requires.room.narrow c.in-Some.col c.in-Some.ensures.some c.in-Some-shown_side.side
@@ -32,7 +32,7 @@ returns-in-Ok-clause-visited g c p cone fixed left marks at =
 pub returns-in-Err-clause-visited : goal.returns-in-Err-clause-visited
 returns-in-Err-clause-visited g c p cone fixed left marks at =
     let prefix = c.args.prefix.now in
-    ends_at_one g.V.Visitor.visits g.V.Visitor.ends c.args.visitor c.args.out.now c.visit.new.out c.in-Err.end
+    ends_at_one g.V.Visit.visits g.V.Visit.ends c.args.visitor c.args.out.now c.visit.new.out c.in-Err.end
     c.write_direction.new.vector (IsCornerUnder cone marks)
     (one_written prefix.sys.now prefix.free.now prefix.dict.now prefix.from p cone fixed left marks at
     c.requires.room.narrow c.in-Some.col c.in-Some.ensures.some c.in-Some-shown_side.side
@@ -41,10 +41,10 @@ returns-in-Err-clause-visited g c p cone fixed left marks at =
 
 pub returns-in-Ok-clause-some : goal.returns-in-Ok-clause-some
 returns-in-Ok-clause-some g c =
-    some_one g.V.Visitor.visits g.V.Visitor.ends c.args.visitor c.in-Ok.next c.args.out.now c.visit.new.out
+    some_one g.V.Visit.visits g.V.Visit.ends c.args.visitor c.in-Ok.next c.args.out.now c.visit.new.out
     c.write_direction.new.vector c.in-Ok.ensures.visits
 
 pub returns-in-Err-clause-some : goal.returns-in-Err-clause-some
 returns-in-Err-clause-some g c =
-    some_end g.V.Visitor.visits g.V.Visitor.ends c.args.visitor c.args.out.now c.visit.new.out c.in-Err.end
+    some_end g.V.Visit.visits g.V.Visit.ends c.args.visitor c.args.out.now c.visit.new.out c.in-Err.end
     c.write_direction.new.vector c.in-Err.ensures.ends

@@ -3,8 +3,8 @@ use Rattle.std.specs.Prelude.{OnErr}
 use Rattle.std.specs.List.{Contains}
 use Rattle.std.proofs.lemmas.Result.{err_from_is_err_and}
 use Rattle.poly_model.specs.Labels.{constant_label}
-use Rattle.shown_vectors.specs.Shown.{columns_of}
-use Rattle.shown_vectors.proofs.ColumnsBefore.{not_before, one_more, within_all, here_in_all}
+use Rattle.convert_core.specs.Rows.{columns_of}
+use Rattle.convert_core.proofs.ColumnsBefore.{not_before, one_more, within_all, here_in_all}
 use Rattle.subtree_work.specs.Rows.{ShowsRows, TearsRows}
 use Rattle.subtree_work.proofs.RowLines.{shows_more, tears_more, tears_within}
 use Rattle.subtree_work.proofs.rows.show_columns.Goals as goal

@@ -3,7 +3,7 @@ use Rattle.reverse_step.specs.declared.walker.Visit.{Visit}
 use Rattle.reverse_step.specs.declared.walker.Visit.TheVariants.{New}
 use Rattle.reverse_step.specs.Walks.{Walk}
 use Rattle.reverse_step.specs.Moves.{IsVisit}
-use Rattle.shown_vectors.proofs.Searches.{search_moves}
+use Rattle.convert_core.proofs.Searching.{search_moves}
 use Rattle.subtree_work.specs.Steps.{StopsRun}
 use Rattle.subtree_work.proofs.Stepping.{fails_there}
 use Rattle.subtree_work.proofs.walk.step.Goals as goal

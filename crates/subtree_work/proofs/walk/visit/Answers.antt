@@ -5,8 +5,8 @@ use Rattle.poly_model.specs.Spaces.{main_space}
 use Rattle.poly_model.specs.Systems.{System}
 use Rattle.dictionary.specs.Views.{Dictionary, table_of}
 use Rattle.lex_pivot.specs.Leads.{AreLeads}
-use Rattle.shown_vectors.specs.Shown.{CanTest}
-use Rattle.shown_vectors.proofs.Searches.{can_test}
+use Rattle.convert_core.specs.Rows.{CanTest}
+use Rattle.convert_core.proofs.Searching.{can_test}
 use Rattle.reverse_step.proofs.DepthLemmas.{few_labels}
 use Rattle.subtree_work.proofs.walk.visit.Goals as goal
 

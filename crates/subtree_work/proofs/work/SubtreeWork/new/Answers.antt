@@ -1,6 +1,6 @@
 use Rattle.std.proofs.Common.{sym, subst, ◌∙◌}
 use Rattle.poly_model.specs.Subtrees.{IsSubtreeRoot}
-use Rattle.shown_vectors.proofs.Searches.{subtree_root}
+use Rattle.convert_core.proofs.Searching.{subtree_root}
 use Rattle.subtree_work.proofs.Searched.{may_begin}
 use Rattle.subtree_work.proofs.work.SubtreeWork.new.Goals as goal
 

@@ -1,7 +1,7 @@
 use Rattle.std.proofs.Common.{ℕ, ◌<◌, ◌≤◌}
 use Rattle.poly_model.specs.Systems.{row_of}
-use Rattle.shown_vectors.specs.Rays.{IsLinearPoint}
-use Rattle.shown_vectors.proofs.rays.has_linear_point.Given as goal
+use Rattle.convert_core.specs.Rays.{IsLinearPoint}
+use Rattle.convert_core.proofs.rays.has_linear_point.Given as goal
 
 -- no row up to this place is one
 abbrev pub invariant-rows : goal.invariant-rows

@@ -18,13 +18,13 @@ use Rattle.search_laws.specs.Shares.{ListsAll}
 use Rattle.search_laws.specs.SharesOfListings.{IsShownAtSome}
 use Rattle.dictionary.specs.Views.{Dictionary, IsDictionaryIn, table_of}
 use Rattle.hull_lift.specs.Facets.{primitive_column, HasPointRows, IsShownAs, IsShownColumn}
-use Rattle.shown_vectors.specs.declared.rays.Rays.{Rays}
-use Rattle.shown_vectors.specs.declared.rays.Rays.TheVariants.{All, Touching}
-use Rattle.shown_vectors.specs.Rays.{HasLinearPoint, AreShown}
-use Rattle.shown_vectors.specs.Shown.{IsColumnShown, CanTest, columns_of, column_rows}
-use Rattle.shown_vectors.proofs.LinearRows.{shown_by_linear_point}
-use Rattle.shown_vectors.proofs.RowLists.{value_there, value_of, once_values}
-use Rattle.shown_vectors.proofs.ShownRows.{no_constant, ray_along, touched_exactly, shown_ray, ray_back, point_back, shown_point, all_shown}
+use Rattle.convert_core.specs.declared.rays.Rays.{Rays}
+use Rattle.convert_core.specs.declared.rays.Rays.TheVariants.{All, Touching}
+use Rattle.convert_core.specs.Rays.{HasLinearPoint, AreShown}
+use Rattle.convert_core.specs.Rows.{IsColumnShown, CanTest, columns_of, column_rows}
+use Rattle.convert_core.proofs.LinearRows.{shown_by_linear_point}
+use Rattle.convert_core.proofs.RowLists.{value_there, value_of, once_values}
+use Rattle.convert_core.proofs.ShownRows.{no_constant, ray_along, touched_exactly, shown_ray, ray_back, point_back, shown_point, all_shown}
 
 module _ (p : Polyhedron) (free : List ℕ) (columns : AreFreeColumns (cone_of p) free)
     (few : length (cone_of p).rows < coordinates_from) (root : List ℕ) (d : Dictionary)

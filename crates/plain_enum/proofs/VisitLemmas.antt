@@ -4,9 +4,9 @@ use Rattle.poly_num.specs.Vectors.{Vector}
 use Rattle.poly_model.specs.declared.overflow.Overflow.{Overflow as Passed}
 use Rattle.linear_laws.proofs.Members.{Contains-nil}
 use Rattle.listing_laws.specs.Lists.{Lists}
-use Rattle.visitors.specs.declared.visitor.Ended.{Ended}
-use Rattle.visitors.specs.declared.visitor.Ended.TheVariants.{Overflow, Stopped}
-use Rattle.visitors.specs.Visits.{Visited, Broke, HasVisited, VisitsEach, VisitsSome}
+use Rattle.plain_enum.specs.declared.prefix.Ended.{Ended}
+use Rattle.plain_enum.specs.declared.prefix.Ended.TheVariants.{Overflow, Stopped}
+use Rattle.plain_enum.specs.Visits.{Visited, Broke, HasVisited, VisitsEach, VisitsSome}
 
 module _ {V O E : Type 0} (visits : V → O → Vector → V → O → Type 0) (ends : V → O → Vector → E → O → Type 0) where
   -- ---- one after the other

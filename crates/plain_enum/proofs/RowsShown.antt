@@ -15,10 +15,10 @@ use Rattle.poly_io.proofs.Parts.{part_after}
 use Rattle.row_printer.specs.declared.shown.Shown.{Shown}
 use Rattle.row_printer.specs.Rows.{HasWritten}
 use Rattle.row_printer.proofs.Tallies.{counts_none, counts_more}
-use Rattle.visitors.specs.declared.visitor.Ended.{Ended}
-use Rattle.visitors.specs.declared.visitor.Ended.TheVariants.{Overflow, Stopped}
-use Rattle.visitors.specs.Rows.{HasStopCause, WritesRow, FailsAtRow, WritesRows}
-use Rattle.visitors.specs.Visits.{Visited, EndedAtLast, VisitsEach, VisitsSome}
+use Rattle.plain_enum.specs.declared.prefix.Ended.{Ended}
+use Rattle.plain_enum.specs.declared.prefix.Ended.TheVariants.{Overflow, Stopped}
+use Rattle.plain_enum.specs.Listed.{HasStopCause, WritesRow, FailsAtRow, WritesRows}
+use Rattle.plain_enum.specs.Visits.{Visited, EndedAtLast, VisitsEach, VisitsSome}
 
 -- ---- why a listing stopped
 pub not_stopped : {T E : Type 0} (before now : ℕ) (result : Result T (Ended E)) → now ≡ before →

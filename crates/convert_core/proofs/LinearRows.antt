@@ -25,7 +25,7 @@ use Rattle.dictionary_laws.proofs.MainRows.{row_in_cone}
 use Rattle.tree_laws.proofs.ExtremesOfPoints.{behind_vanish}
 use Rattle.tree_laws.proofs.MainLabels.{main_in, same_fixed}
 use Rattle.search_laws.proofs.MainStart.{feasible_root}
-use Rattle.shown_vectors.specs.Rays.{HasLinearPoint}
+use Rattle.convert_core.specs.Rays.{HasLinearPoint}
 
 -- the vector of the cone in one of the main space
 abbrev behind : Kind → Vector → Vector

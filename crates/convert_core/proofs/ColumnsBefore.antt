@@ -8,7 +8,7 @@ use Rattle.poly_model.specs.Labels.{constant_label}
 use Rattle.linear_laws.specs.Distinct.{AreDistinct}
 use Rattle.linear_laws.proofs.Members.{Contains-first, Contains-later, Contains-cons_cases}
 use Rattle.dictionary_laws.proofs.KeyExchange.{ascending_distinct}
-use Rattle.shown_vectors.proofs.RowLists.{apart}
+use Rattle.convert_core.proofs.RowLists.{apart}
 
 -- ---- a label that stands there
 module _ (ks : List ℕ) (i x : ℕ) (lt : i < length ks) (is : x ≡ get_or ks i x) where

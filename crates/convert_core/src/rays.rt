@@ -1,7 +1,7 @@
 //! Which rays of a cone are shown.
 ghost use Rattle.std.specs.Prelude.{◌≡◌, ◌<◌, ◌≤◌, ◌↔◌, true, length, IsTrue};
 ghost use Rattle.poly_model.specs.Systems.{row_of};
-ghost use Rattle.shown_vectors.specs.Rays.{IsLinearPoint, HasLinearPoint, AreShown};
+ghost use Rattle.convert_core.specs.Rays.{IsLinearPoint, HasLinearPoint, AreShown};
 
 use poly_model::{Kind, System};
 
